@@ -1,0 +1,35 @@
+-- What a head's alignment and position come to, one law for each arm of a match on the field.
+use Prim.Native.Nat.{ℕ}
+use mathlib.Core.Path.{_≡_}
+use borrow.Author.Tests.{eq-eqb, ne-eqb}
+use Rattle.text.specs.declared.Alignment.{Alignment}
+use Rattle.text.specs.declared.Alignment.the-variants.{Left, Center, Right}
+use Rattle.text.specs.declared.TitlePosition.{TitlePosition}
+use Rattle.text.specs.declared.TitlePosition.the-variants.{Top, Bottom}
+use Rattle.text.specs.Alignment.{resolved, resolvedPosition}
+
+-- n is the field as it was read
+module _ (n field : ℕ) (e : n ≡ field) (own : Alignment) where
+  pub left : n ≡ 0 → Left ≡ resolved field own
+  left h = rw (← e, h)
+
+  pub center : n ≡ 1 → Center ≡ resolved field own
+  center h = rw (← e, h)
+
+  pub right : n ≡ 2 → Right ≡ resolved field own
+  right h = rw (← e, h)
+
+  pub own-alignment : (n ≡ 0 → ⊥) → (n ≡ 1 → ⊥) → (n ≡ 2 → ⊥) → own ≡ resolved field own
+  own-alignment a b c = rw (← e) (simp (ne-eqb n 0 a, ne-eqb n 1 b, ne-eqb n 2 c))
+
+module _ (n field : ℕ) (e : n ≡ field) (own : TitlePosition) where
+  pub top : n ≡ 0 → Top ≡ resolvedPosition field own
+  top h = rw (← e, h)
+
+  pub bottom : n ≡ 1 → Bottom ≡ resolvedPosition field own
+  bottom h = rw (← e, h)
+
+  pub own-position : (n ≡ 0 → ⊥) → (n ≡ 1 → ⊥) → own ≡ resolvedPosition field own
+  own-position a b = rw (← e) (simp (ne-eqb n 0 a, ne-eqb n 1 b))
+
+pub ruleset resolving = (left, center, right, own-alignment, top, bottom, own-position)

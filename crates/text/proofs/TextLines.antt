@@ -1,0 +1,69 @@
+-- Laws of the lines that heads open: where a line ends, and what is left after it.
+use Prim.Native.Nat.{ℕ, suc, _+_, _-_, _≤_, _<_}
+use mathlib.Core.Path.{_≡_, refl, sym, ap, _∙_}
+use mathlib.Core.Bool.{Bool, true, false, cond}
+use mathlib.Core.List.{List, [], _∷_}
+use native.Mathlib.Numerals.{add-one}
+use native.Mathlib.Omega.{arith}
+use lib.ListN.{length, getD, take, drop}
+use lib.Seq.{drop-cons, drop-length, length-take-le}
+use Rattle.text.specs.Record.{isHead}
+use Rattle.text.specs.Line.{untilHead}
+
+-- records passed without a head: what is left says where the line ends
+pub record Measuring (after : List ℕ) (i : ℕ) : Type 0 where
+  pub within : i ≤ length after
+  pub same : i + length (untilHead (drop i after)) ≡ length (untilHead after)
+
+module _ (after : List ℕ) where
+  pub measuring-starts : Measuring after 0
+  measuring-starts = record { within = omega arith; same = omega arith }
+
+  module _ (i : ℕ) (m : Measuring after i) where
+    at : i < length after → i + length (cond (isHead (getD after i 0)) [] (getD after i 0 ∷ untilHead (drop (i + 1) after))) ≡ length (untilHead after)
+    at h = let d : drop i after ≡ getD after i 0 ∷ drop (i + 1) after = rw (add-one, drop-cons after i 0) in rw d at (m .same)
+
+    pub measuring-goes : (b : Bool) → i < length after → b ≡ isHead (getD after i 0) → b ≡ false → Measuring after (i + 1)
+    measuring-goes b h e f =
+        let g : isHead (getD after i 0) ≡ false = sym e ∙ f in
+        let s : i + length (getD after i 0 ∷ untilHead (drop (i + 1) after)) ≡ length (untilHead after) = rw g at (at h) in
+        record { within = omega arith; same = omega arith }
+
+    pub measuring-stops : (b : Bool) → i < length after → b ≡ isHead (getD after i 0) → b ≡ true → i ≡ length (untilHead after)
+    measuring-stops b h e f =
+        let g : isHead (getD after i 0) ≡ true = sym e ∙ f in
+        let s : i + length {A = ℕ} [] ≡ length (untilHead after) = rw g at (at h) in
+        omega arith
+
+    pub measuring-ends : length after ≤ i → i ≡ length (untilHead after)
+    measuring-ends h =
+        let k : i ≡ length after = omega (arith, m .within) in
+        let d : untilHead (drop i after) ≡ [] = ap (λ (n : ℕ). untilHead (drop n after)) k ∙ ap untilHead (drop-length after) in
+        let s : i + length {A = ℕ} [] ≡ length (untilHead after) = rw d at (m .same) in
+        omega arith
+
+pub ruleset measuring = (measuring-starts, measuring-goes, measuring-stops, measuring-ends)
+
+-- a line's records are a part of those after its head
+pub until-short : (rs : List ℕ) → length (untilHead rs) ≤ length rs
+until-short [] = omega arith
+until-short (r ∷ rs) = go (isHead r) (until-short rs)
+  where
+    go : (b : Bool) → length (untilHead rs) ≤ length rs → length (cond b [] (r ∷ untilHead rs)) ≤ suc (length rs)
+    go true h = omega arith
+    go false h = omega arith
+
+pub until-take : (rs : List ℕ) → take (length (untilHead rs)) rs ≡ untilHead rs
+until-take [] = refl
+until-take (r ∷ rs) = go (isHead r) (until-take rs)
+  where
+    go : (b : Bool) → take (length (untilHead rs)) rs ≡ untilHead rs → take (length (cond b [] (r ∷ untilHead rs))) (r ∷ rs) ≡ cond b [] (r ∷ untilHead rs)
+    go true h = refl
+    go false h = ap {B = List ℕ} (λ (l : List ℕ). r ∷ l) h
+
+module _ (rs : List ℕ) (n : ℕ) (e : n ≡ length (untilHead rs)) where
+  pub part-length : n ≡ length (take n rs)
+  part-length = sym (length-take-le n rs (omega (arith, until-short rs)))
+
+  pub part-is : take n rs ≡ untilHead rs
+  part-is = rw e (until-take rs)

@@ -1,0 +1,39 @@
+-- Document 01, 'Packed fields': "A head opens a line." So in a text, and so in the titles, where each line is a title.
+use Prim.Native.Nat.{ℕ, suc}
+use mathlib.Core.Bool.{Bool, cond}
+use mathlib.Core.List.{List, [], _∷_}
+use Rattle.text.specs.Record.{isHead, symbolOf, widthOf, whitespaceOf, styleOf}
+
+-- a glyph: the number of its record, which counts all records, heads too, and its fields
+pub record Glyph : Type 0 where
+  pub number : ℕ
+  pub symbol : ℕ
+  pub width : ℕ
+  pub whitespace : Bool
+  pub style : ℕ
+
+abbrev pub glyphFrom : ℕ → ℕ → Glyph
+glyphFrom number r = record { number = number; symbol = symbolOf r; width = widthOf r; whitespace = whitespaceOf r; style = styleOf r }
+
+-- glyphs, the first of which has the number given
+abbrev pub numbered : ℕ → List ℕ → List Glyph
+numbered number [] = []
+numbered number (r ∷ rs) = glyphFrom number r ∷ numbered (suc number) rs
+
+-- the records before the next head
+abbrev pub untilHead : List ℕ → List ℕ
+untilHead [] = []
+untilHead (r ∷ rs) = cond (isHead r) [] (r ∷ untilHead rs)
+
+-- a line: its head, and its glyphs up to the next head
+pub record TextLine : Type 0 where
+  pub head : ℕ
+  pub glyphs : List Glyph
+
+-- the lines of records, the first of which has the number given
+abbrev pub linesFrom : ℕ → List ℕ → List TextLine
+linesFrom number [] = []
+linesFrom number (r ∷ rs) =
+    cond (isHead r)
+    (record { head = r; glyphs = numbered (suc number) (untilHead rs) } ∷ linesFrom (suc number) rs)
+    (linesFrom (suc number) rs)

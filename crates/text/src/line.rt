@@ -1,0 +1,27 @@
+// The lines that heads open, as parts of the records.
+use crate::head;
+ghost use mathlib.Core.Path.{_≡_};
+ghost use lib.ListN.{length};
+ghost use Rattle.text.specs.Line.{untilHead};
+
+// How many of the records after a head are its line's: those before the next head.
+pub fn line_length(after: &[u32]) -> usize
+    ensures { λ r. ⌜ r ≡ length (untilHead (now (after .entry))) ⌝ }
+{
+    let mut i = 0;
+    while i < after.len() {
+        if head::is_head(after[i]) {
+            return i;
+        }
+        i += 1;
+    }
+    i
+}
+
+// The line of a head, as a part of the records after it.
+pub fn line_records(after: &[u32]) -> &[u32]
+    ensures { λ r. ⌜ now r ≡ untilHead (now (after .entry)) ⌝ }
+{
+    let end = line_length(after);
+    &after[..end]
+}
