@@ -5,10 +5,10 @@ use mathlib.Core.Bool.{Bool, true, false, cond}
 use mathlib.Core.List.{List, [], _∷_}
 use native.Mathlib.Numerals.{add-one}
 use native.Mathlib.Omega.{arith}
-use lib.ListN.{length, getD, take, drop}
-use lib.Seq.{drop-cons, drop-length, length-take-le}
+use lib.ListN.{length, getD, take, drop, length-drop}
+use lib.Seq.{drop-cons, drop-length, length-take-le, drop-drop, getD-drop}
 use Rattle.text.specs.Record.{isHead}
-use Rattle.text.specs.Line.{untilHead}
+use Rattle.text.specs.Line.{TextLine, numbered, untilHead, linesFrom}
 
 -- records passed without a head: what is left says where the line ends
 pub record Measuring (after : List ℕ) (i : ℕ) : Type 0 where
@@ -67,3 +67,51 @@ module _ (rs : List ℕ) (n : ℕ) (e : n ≡ length (untilHead rs)) where
 
   pub part-is : take n rs ≡ untilHead rs
   part-is = rw e (until-take rs)
+
+-- a head stands there, or the records end
+pub record Opens (rs : List ℕ) (at : ℕ) : Type 0 where
+  pub within : at ≤ length rs
+  pub head : at < length rs → isHead (getD rs at 0) ≡ true
+
+-- what stands after a line is a head, or nothing
+until-head : (rs : List ℕ) → length (untilHead rs) < length rs → isHead (getD rs (length (untilHead rs)) 0) ≡ true
+until-head [] h = absurd (omega arith)
+until-head (r ∷ rs) h = go (isHead r) refl (until-head rs) h
+  where
+    go : (b : Bool) → isHead r ≡ b → (length (untilHead rs) < length rs → isHead (getD rs (length (untilHead rs)) 0) ≡ true)
+        → length (cond b [] (r ∷ untilHead rs)) < suc (length rs) → isHead (getD (r ∷ rs) (length (cond b [] (r ∷ untilHead rs))) 0) ≡ true
+    go true e ih k = e
+    go false e ih k = ih (omega arith)
+
+-- glyphs open no line
+lines-skip : (number : ℕ) (rs : List ℕ) → linesFrom number rs ≡ linesFrom (number + length (untilHead rs)) (drop (length (untilHead rs)) rs)
+lines-skip number [] = refl
+lines-skip number (r ∷ rs) = go (isHead r) refl (lines-skip (suc number) rs)
+  where
+    go : (b : Bool) → isHead r ≡ b → linesFrom (suc number) rs ≡ linesFrom (suc number + length (untilHead rs)) (drop (length (untilHead rs)) rs)
+        → linesFrom number (r ∷ rs) ≡ linesFrom (number + length (cond b [] (r ∷ untilHead rs))) (drop (length (cond b [] (r ∷ untilHead rs))) (r ∷ rs))
+    go true e ih = let z : number + 0 ≡ number = omega arith in rw z
+    go false e ih = let z : number + suc (length (untilHead rs)) ≡ suc number + length (untilHead rs) = omega arith in rw (e, z) ih
+
+pub end-within : (rs : List ℕ) (at : ℕ) → at < length rs → at + 1 + length (untilHead (drop (at + 1) rs)) ≤ length rs
+end-within rs at h = omega (arith, until-short (drop (at + 1) rs), length-drop (at + 1) rs)
+
+-- the line whose head stands at `at`, of n glyphs, and what comes after it
+module _ (rs : List ℕ) (at n : ℕ) (h : at < length rs) (o : Opens rs at) (e : n ≡ length (untilHead (drop (at + 1) rs))) where
+  pub next-opens : Opens rs (at + 1 + n)
+  next-opens = record {
+    within = omega (arith, end-within rs at h);
+    head = λ (q : at + 1 + n < length rs).
+        rw (e, ← getD-drop (at + 1) rs (length (untilHead (drop (at + 1) rs))) 0) (until-head (drop (at + 1) rs) (omega (arith, q, length-drop (at + 1) rs)));
+  }
+
+  pub line-first : linesFrom at (drop at rs) ≡ record { head = getD rs at 0; glyphs = numbered (suc at) (untilHead (drop (at + 1) rs)) } ∷ linesFrom (at + 1 + n) (drop (at + 1 + n) rs)
+  line-first =
+      let d : drop at rs ≡ getD rs at 0 ∷ drop (at + 1) rs = rw (add-one, drop-cons rs at 0) in
+      let s : linesFrom (suc at) (drop (at + 1) rs) ≡ linesFrom (at + 1 + n) (drop (at + 1 + n) rs) =
+      lines-skip (suc at) (drop (at + 1) rs) ∙ rw (← e, drop-drop, ← add-one at) in
+      rw (d, o .head h, s)
+
+pub numbered-length : (number : ℕ) (rs : List ℕ) → length (numbered number rs) ≡ length rs
+numbered-length number [] = refl
+numbered-length number (r ∷ rs) = ap suc (numbered-length (suc number) rs)

@@ -1,0 +1,6 @@
+pub mod Checks
+pub mod Passes
+pub mod TitleScan
+pub mod Calls
+pub mod Lowest
+pub mod Bounds

@@ -1,0 +1,121 @@
+-- Cause 5: the pass over titles, head by head, and that its one test for each title comes to the table's five.
+use Prim.Native.Nat.{ℕ, suc, _+_, _-_, _<_, _≤_}
+use mathlib.Core.Path.{_≡_, refl, sym, ap, _∙_}
+use mathlib.Core.Bool.{Bool, true, false, _||_, or-true}
+use mathlib.Core.List.{List, [], _∷_}
+use native.Mathlib.Omega.{arith}
+use borrow.Author.Tests.{lt-ltb, le-ltb, not-false}
+use lib.Dec.{ltb}
+use lib.ListN.{length, getD, take, drop, length-drop}
+use lib.Seq.{drop-length, take-all}
+use Rattle.text.specs.Record.{isHead}
+use Rattle.text.specs.Line.{TextLine, numbered, untilHead, linesFrom}
+use Rattle.text.proofs.TextLines.{Opens, end-within, next-opens, line-first, numbered-length}
+use Rattle.refuse.specs.declared.Ceilings.{Ceilings}
+use Rattle.refuse.specs.Causes.{some, notOpening, tooManyGlyphs, noPosition, headZerosSet, titlesWrong}
+use Rattle.refuse.specs.Scan.{titleWrong, lineWrong, scanWrong}
+
+-- titles passed, none of them wrong: those left say what all say
+pub record Scanning (most : Ceilings) (rs : List ℕ) (count at : ℕ) : Type 0 where
+  pub opens : Opens rs at
+  pub few : count ≤ most .titles
+  pub counted : count + length (linesFrom at (drop at rs)) ≡ length (linesFrom 0 rs)
+  pub same : some (lineWrong most) (linesFrom at (drop at rs)) ≡ some (lineWrong most) (linesFrom 0 rs)
+
+opens-start : (rs : List ℕ) → notOpening rs ≡ false → Opens rs 0
+opens-start [] e = record { within = omega arith; head = λ (h : 0 < 0). absurd (omega arith) }
+opens-start (r ∷ rs) e = record { within = omega arith; head = λ (h : 0 < suc (length rs)). not-false (isHead r) e }
+
+-- the records lent from a place on
+abbrev rest : List ℕ → ℕ → List ℕ
+rest rs from = take (length rs - from) (drop from rs)
+
+rest-is : (rs : List ℕ) (from : ℕ) → rest rs from ≡ drop from rs
+rest-is rs from = take-all (length rs - from) (drop from rs) (omega (arith, length-drop from rs))
+
+pub rest-within : (rs : List ℕ) (at : ℕ) → at < length rs → at + 1 + length (untilHead (rest rs (at + 1))) ≤ length rs
+rest-within rs at h = rw (rest-is rs (at + 1)) (end-within rs at h)
+
+module _ (most : Ceilings) (rs : List ℕ) where
+  pub scan-starts : notOpening rs ≡ false → Scanning most rs 0 0
+  scan-starts e = record { opens = opens-start rs e; few = omega arith; counted = omega arith; same = refl }
+
+  module _ (count at : ℕ) (s : Scanning most rs count at) where
+    pub scan-many : (limit : ℕ) → limit ≡ most .titles → at < length rs → limit ≤ count → true ≡ scanWrong most rs
+    unfolding scanWrong
+    scan-many limit e h m =
+        let f = line-first rs at _ h (s .opens) refl in
+        simp (lt-ltb (most .titles) (length (linesFrom 0 rs)) (omega (arith, ap length f, s .counted)))
+
+    module _ (n : ℕ) (b : Bool) (h : at < length rs) (lent : n ≡ length (untilHead (rest rs (at + 1)))) (p : b ≡ titleWrong most (getD rs at 0) n) where
+      e : n ≡ length (untilHead (drop (at + 1) rs))
+      e = lent ∙ ap (λ (l : List ℕ). length (untilHead l)) (rest-is rs (at + 1))
+
+      tested : some (lineWrong most) (linesFrom 0 rs) ≡ (b || some (lineWrong most) (linesFrom (at + 1 + n) (drop (at + 1 + n) rs)))
+      tested =
+          sym (s .same) ∙ ap (some (lineWrong most)) (line-first rs at n h (s .opens) e)
+          ∙ rw (numbered-length (suc at) (untilHead (drop (at + 1) rs)), ← e, ← p)
+
+      pub scan-hits : b ≡ true → true ≡ scanWrong most rs
+      unfolding scanWrong
+      scan-hits t = rw (tested, t) (sym (or-true (ltb (most .titles) (length (linesFrom 0 rs)))))
+
+      pub scan-goes : (limit : ℕ) → limit ≡ most .titles → count < limit → b ≡ false → Scanning most rs (count + 1) (at + 1 + n)
+      scan-goes limit q m f =
+          record {
+            opens = next-opens rs at n h (s .opens) e;
+            few = omega arith;
+            counted = omega (arith, s .counted, ap length (line-first rs at n h (s .opens) e));
+            same = sym (tested ∙ rw f);
+          }
+
+    pub scan-ends : length rs ≤ at → false ≡ scanWrong most rs
+    unfolding scanWrong
+    scan-ends h =
+        let e : at ≡ length rs = omega (arith, s .opens .within) in
+        let d : linesFrom at (drop at rs) ≡ [] = ap (linesFrom at) (ap (λ (n : ℕ). drop n rs) e ∙ drop-length rs) in
+        let c : length (linesFrom 0 rs) ≤ most .titles = omega (arith, s .counted, s .few, ap length d) in
+        simp (le-ltb (most .titles) (length (linesFrom 0 rs)) c) (sym (ap (some (lineWrong most)) d) ∙ s .same)
+
+-- the table's five tests, as the pass makes them: those of one title together
+five : (a b c d e : Bool) → (a || b || c || d || e) ≡ (c || (a || (b || (d || e))))
+five true b true d e = refl
+five true b false d e = refl
+five false true true d e = refl
+five false true false d e = refl
+five false false true d e = refl
+five false false false d e = refl
+
+three-or : (a b c x y z : Bool) → ((a || (b || c)) || (x || (y || z))) ≡ ((a || x) || ((b || y) || (c || z)))
+three-or true b c x y z = refl
+three-or false b c true y z = or-true (b || c)
+three-or false true c false y z = refl
+three-or false false c false true z = or-true c
+three-or false false c false false z = refl
+
+title-tests : (most : Ceilings) (ts : List TextLine) → some (lineWrong most) ts ≡ (some (tooManyGlyphs most) ts || (some noPosition ts || some headZerosSet ts))
+unfolding titleWrong
+title-tests most [] = refl
+title-tests most (t ∷ ts) =
+    ap (λ (b : Bool). lineWrong most t || b) (title-tests most ts)
+    ∙ three-or (tooManyGlyphs most t) (noPosition t) (headZerosSet t) (some (tooManyGlyphs most) ts) (some noPosition ts) (some headZerosSet ts)
+
+scan-is : (most : Ceilings) (rs : List ℕ) → titlesWrong most rs ≡ (notOpening rs || scanWrong most rs)
+unfolding titlesWrong scanWrong
+scan-is most rs =
+    five (ltb (most .titles) (length (linesFrom 0 rs))) (some (tooManyGlyphs most) (linesFrom 0 rs)) (notOpening rs) (some noPosition (linesFrom 0 rs)) (some headZerosSet (linesFrom 0 rs))
+    ∙ rw (title-tests most (linesFrom 0 rs))
+
+module _ (most : Ceilings) (rs : List ℕ) (b : Bool) (e : b ≡ notOpening rs) where
+  pub titles-open-wrong : b ≡ true → true ≡ titlesWrong most rs
+  titles-open-wrong t = rw (scan-is most rs, ← e, t)
+
+  pub titles-open : (x : Bool) → b ≡ false → x ≡ scanWrong most rs → x ≡ titlesWrong most rs
+  titles-open x f p = rw (scan-is most rs, ← e, f) p
+
+  pub titles-opened : b ≡ false → notOpening rs ≡ false
+  titles-opened f = sym e ∙ f
+
+pub ruleset scanned = (titles-open-wrong, titles-open, titles-opened)
+
+pub ruleset scanning = (scan-starts, scan-many, scan-hits, scan-goes, scan-ends)
