@@ -1,0 +1,27 @@
+//! Holds document 01's sentences, written out on their own in `rules`, against the Rust's answers.
+//!
+//! Usage: `crosscheck [SEED]`. Short texts are tried exhaustively, long texts and whole notices at
+//! random. Prints what was compared, what was skipped and why, and the smallest input of each kind
+//! of difference; the exit status is 1 where there is one.
+
+mod cases;
+mod notices;
+mod random;
+mod report;
+mod rules;
+mod texts;
+
+use std::process::ExitCode;
+
+use random::Random;
+use report::Report;
+
+fn main() -> ExitCode {
+    let seed = std::env::args().nth(1).and_then(|seed| seed.parse().ok());
+    let mut random = Random::new(seed.unwrap_or(1));
+    let mut report = Report::default();
+    texts::exhaustive(&mut report);
+    texts::at_random(&mut report, &mut random, 50_000);
+    notices::at_random(&mut report, &mut random, 100_000);
+    report.finish()
+}

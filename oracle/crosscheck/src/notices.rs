@@ -1,0 +1,94 @@
+//! Inner areas, blocks, notices, and how much room they need.
+
+use oracle::{Notice, Outcome};
+
+use crate::cases::{self, Case};
+use crate::random::Random;
+use crate::report::Report;
+use crate::rules::screen::Screen;
+use crate::rules::{frame, lines, measure, notice};
+
+pub fn at_random(report: &mut Report, random: &mut Random, count: u32) {
+    for _ in 0..count {
+        let case = cases::case(random);
+        measures(report, &case);
+        inner(report, &case);
+        block(report, &case);
+        whole(report, &case);
+    }
+}
+
+fn screen(case: &Case) -> Screen {
+    Screen {
+        columns: case.columns.into(),
+        rows: case.rows.into(),
+        cells: case.cells.clone(),
+        styles: case.styles.clone(),
+    }
+}
+
+fn measures(report: &mut Report, case: &Case) {
+    let Case { ref text, ref titles, area, notice: Notice { block, wrap, .. }, .. } = *case;
+    let limit = area.width.min(4_096);
+    let document = Outcome::Value(measure::line_count(text, titles, &block, wrap, limit));
+    let rust = oracle::line_count(text, titles, block, wrap, limit);
+    report.same("line_count", case, &document, &rust);
+    let document = Outcome::Value(measure::line_width(text, &block));
+    let rust = oracle::line_width(text, titles, block);
+    report.same("line_width", case, &document, &rust);
+}
+
+fn inner(report: &mut Report, case: &Case) {
+    let area = frame::inner(&case.notice.block, &lines(&case.titles), case.area.into());
+    let document = Outcome::Value([area.x, area.y, area.width, area.height]);
+    let rust = oracle::inner(case.notice.block, &case.titles, case.area)
+        .map(|area| [area.x, area.y, area.width, area.height].map(i64::from));
+    report.same("inner areas", case, &document, &rust);
+}
+
+fn block(report: &mut Report, case: &Case) {
+    let mut screen = screen(case);
+    let met = frame::met(case.area.into(), &screen);
+    frame::draw(&mut screen, &case.notice.block, &lines(&case.titles), met);
+
+    let mut cells = case.cells.clone();
+    let outcome = oracle::draw_block(
+        case.columns,
+        case.rows,
+        &mut cells,
+        &case.styles,
+        &case.titles,
+        case.area,
+        case.notice.block,
+    );
+    report.same("cells of a block", case, &Outcome::Value(screen.cells), &outcome.map(|()| cells));
+}
+
+/// A notice's counts are always compared. Its cells are, unless a glyph is clipped: then the Rust
+/// writes outside the area or panics. A panic without a clipped glyph is a difference.
+fn whole(report: &mut Report, case: &Case) {
+    let Case { columns, rows, ref text, ref titles, area, notice, .. } = *case;
+    let mut screen = screen(case);
+    let document = notice::draw(&mut screen, text, titles, area.into(), &notice);
+    let rust = oracle::notice_counts(columns, rows, text, titles, area, notice);
+    report.same("counts of a notice", case, &Outcome::Value(document), &rust);
+    if document.placed > 0 {
+        report.note("notices that place a glyph");
+    }
+
+    let mut cells = case.cells.clone();
+    let drawn =
+        oracle::draw_notice(columns, rows, &mut cells, &case.styles, text, titles, area, notice);
+    match drawn {
+        Outcome::Value(_) if document.clipped > 0 => {
+            report.note("cells skipped, a clipped glyph is written outside the area");
+        }
+        Outcome::Panicked(_) if document.clipped > 0 => {
+            report.note("cells skipped, a clipped glyph makes the Rust panic");
+        }
+        drawn => {
+            let rust = drawn.map(|_| cells);
+            report.same("cells of a notice", case, &Outcome::Value(screen.cells), &rust);
+        }
+    }
+}

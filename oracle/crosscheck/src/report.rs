@@ -1,0 +1,62 @@
+//! What was compared, what was skipped, what differs.
+
+use std::collections::BTreeMap;
+use std::fmt::Debug;
+use std::process::ExitCode;
+
+#[derive(Default)]
+struct Topic {
+    compared: u64,
+    differences: u64,
+    smallest: Option<String>,
+}
+
+#[derive(Default)]
+pub struct Report {
+    topics: BTreeMap<&'static str, Topic>,
+    notes: BTreeMap<&'static str, u64>,
+}
+
+impl Report {
+    /// Compares document 01's answer with the Rust's. Of the inputs that differ, the one that is
+    /// shortest to write down is kept.
+    pub fn same<T: Debug + PartialEq>(
+        &mut self,
+        topic: &'static str,
+        input: &dyn Debug,
+        document: &T,
+        rust: &T,
+    ) {
+        let topic = self.topics.entry(topic).or_default();
+        topic.compared += 1;
+        if document == rust {
+            return;
+        }
+        topic.differences += 1;
+        let shown = format!("{input:?}\n    document 01: {document:?}\n    the Rust:    {rust:?}");
+        if topic.smallest.as_ref().is_none_or(|smallest| shown.len() < smallest.len()) {
+            topic.smallest = Some(shown);
+        }
+    }
+
+    /// Counts an input of a kind that the reader should know the number of.
+    pub fn note(&mut self, kind: &'static str) {
+        *self.notes.entry(kind).or_default() += 1;
+    }
+
+    pub fn finish(&self) -> ExitCode {
+        for (name, topic) in &self.topics {
+            println!("{name}: {} compared, {} differ", topic.compared, topic.differences);
+            if let Some(smallest) = &topic.smallest {
+                println!("  smallest: {smallest}");
+            }
+        }
+        for (kind, count) in &self.notes {
+            println!("{kind}: {count}");
+        }
+        let compared: u64 = self.topics.values().map(|topic| topic.compared).sum();
+        let differences: u64 = self.topics.values().map(|topic| topic.differences).sum();
+        println!("{compared} compared, {differences} differences");
+        if differences == 0 { ExitCode::SUCCESS } else { ExitCode::FAILURE }
+    }
+}

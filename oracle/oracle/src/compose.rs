@@ -1,0 +1,103 @@
+//! The composed lines of a text, pulled from the crate's own composers.
+
+use ratatui_core::glyph::Glyph;
+use ratatui_core::layout::Alignment;
+use ratatui_core::style::Style;
+use ratatui_core::text::StyledGrapheme;
+use ratatui_widgets::reflow::{LineComposer, LineTruncator, WordWrapper};
+
+use crate::outcome::{Outcome, ask};
+use crate::records::{HeadedLine, Records};
+
+/// A composed line: the record numbers of its glyphs, and what the crate says of it.
+#[derive(Debug, Clone, PartialEq, Eq)]
+pub struct ComposedLine {
+    pub glyphs: Vec<u32>,
+    pub width: u16,
+    pub alignment: Alignment,
+}
+
+impl ComposedLine {
+    /// The record number of the first glyph, 0 where there is none.
+    pub fn first(&self) -> u32 {
+        self.glyphs.first().copied().unwrap_or(0)
+    }
+
+    /// One past the record number of the last glyph, 0 where there is none.
+    pub fn end(&self) -> u32 {
+        self.glyphs.last().map_or(0, |last| last + 1)
+    }
+
+    /// The number of the alignment: 0 left, 1 centre, 2 right.
+    pub fn alignment_number(&self) -> u32 {
+        match self.alignment {
+            Alignment::Left => 0,
+            Alignment::Center => 1,
+            Alignment::Right => 2,
+        }
+    }
+
+    /// "Composed line, 64 bits: first 15 | end 15 | width 16 | alignment 2 (resolved) | 16 zeros."
+    pub fn packed(&self) -> u64 {
+        u64::from(self.first()) << 49
+            | u64::from(self.end()) << 34
+            | u64::from(self.width) << 18
+            | u64::from(self.alignment_number()) << 16
+    }
+}
+
+/// The lines of a text, wrapped: `WordWrapper::next_line` until `None`.
+pub fn wrapped_lines(
+    text: &[u32],
+    own: Alignment,
+    limit: u16,
+    trim: bool,
+) -> Outcome<Vec<ComposedLine>> {
+    ask(|| {
+        let records = Records::new(text);
+        let lines = records.lines(None);
+        pulled(WordWrapper::new(styled(&lines, own), limit, trim))
+    })
+}
+
+/// The lines of a text, truncated and scrolled to the right by `column`: `LineTruncator::next_line`
+/// until `None`. Swallowed glyphs aren't among a line's glyphs.
+pub fn truncated_lines(
+    text: &[u32],
+    own: Alignment,
+    limit: u16,
+    column: u16,
+) -> Outcome<Vec<ComposedLine>> {
+    ask(|| {
+        let records = Records::new(text);
+        let lines = records.lines(None);
+        let mut truncator = LineTruncator::new(styled(&lines, own), limit);
+        truncator.set_horizontal_offset(column);
+        pulled(truncator)
+    })
+}
+
+/// What paragraph.rs hands to a composer: each line's glyphs and its resolved alignment.
+fn styled<'a>(
+    lines: &'a [HeadedLine<'a>],
+    own: Alignment,
+) -> impl Iterator<Item = (impl Iterator<Item = StyledGrapheme<'a>>, Alignment)> {
+    lines.iter().map(move |headed| {
+        let line = &headed.line;
+        let alignment = line.alignment.unwrap_or(own);
+        (line.styled_graphemes(Style::new()), alignment)
+    })
+}
+
+fn pulled<'a>(mut composer: impl LineComposer<'a>) -> Vec<ComposedLine> {
+    let mut lines = Vec::new();
+    while let Some(line) = composer.next_line() {
+        let shown = line.graphemes.iter().map(|grapheme| grapheme.symbol);
+        lines.push(ComposedLine {
+            glyphs: shown.filter_map(Glyph::decode).map(|glyph| glyph.number).collect(),
+            width: line.width,
+            alignment: line.alignment,
+        });
+    }
+    lines
+}

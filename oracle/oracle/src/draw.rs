@@ -1,0 +1,128 @@
+//! Drawing on packed cells.
+
+use ratatui_core::buffer::Buffer;
+use ratatui_core::widgets::Widget;
+
+use crate::compose::{ComposedLine, truncated_lines, wrapped_lines};
+use crate::measure::inner;
+use crate::outcome::{Outcome, ask};
+use crate::records::Records;
+use crate::settings::{Alignment, Block, Notice, Rect, Wrap};
+use crate::tally::glyph_counts;
+use crate::widgets::{block, paragraph};
+
+/// The counts that the drawing of a notice answers.
+#[derive(Debug, Default, Clone, Copy, PartialEq, Eq)]
+pub struct Drawn {
+    pub rows: u32,
+    pub placed: u32,
+    pub clipped: u32,
+}
+
+/// Draws a block. Where the Rust panics the cells are left as they were.
+pub fn draw_block(
+    columns: u32,
+    rows: u32,
+    cells: &mut [u64],
+    styles: &[u64],
+    titles: &[u32],
+    area: Rect,
+    settings: Block,
+) -> Outcome<()> {
+    drawn(columns, rows, cells, |buf| {
+        block(settings, &Records::new(titles), Some(styles)).render(area, buf);
+    })
+}
+
+/// Draws a notice as a `Paragraph`, and counts as document 01 does. Where glyphs are clipped the
+/// Rust writes outside the inner area or panics, so the cells are not to be compared; where it
+/// panics they are left as they were, and [`notice_counts`] still counts.
+#[expect(clippy::too_many_arguments, reason = "the call of document 01 has these")]
+pub fn draw_notice(
+    columns: u32,
+    rows: u32,
+    cells: &mut [u64],
+    styles: &[u64],
+    text: &[u32],
+    titles: &[u32],
+    area: Rect,
+    settings: Notice,
+) -> Outcome<Drawn> {
+    let outcome = drawn(columns, rows, cells, |buf| {
+        let (text, titles) = (Records::new(text), Records::new(titles));
+        let block = block(settings.block, &titles, Some(styles));
+        paragraph(settings, &text, Some(styles)).block(block).render(area, buf);
+    });
+    outcome.and_then(|()| notice_counts(columns, rows, text, titles, area, settings))
+}
+
+/// The counts of a notice's drawing, by document 01's definitions, from the crate's inner area and
+/// composed lines.
+pub fn notice_counts(
+    columns: u32,
+    rows: u32,
+    text: &[u32],
+    titles: &[u32],
+    area: Rect,
+    settings: Notice,
+) -> Outcome<Drawn> {
+    ask(|| area.intersection(screen(columns, rows)))
+        .and_then(|met| inner(settings.block, titles, met))
+        .and_then(|inner| counts_in(inner, text, settings))
+}
+
+fn counts_in(inner: Rect, text: &[u32], settings: Notice) -> Outcome<Drawn> {
+    if inner.is_empty() {
+        return Outcome::Value(Drawn::default());
+    }
+    let lines = match settings.wrap {
+        Wrap::Off { column } => truncated_lines(text, settings.alignment, inner.width, column),
+        Wrap::On { trim } => wrapped_lines(text, settings.alignment, inner.width, trim),
+    };
+    lines.map(|lines| {
+        let mut counts = Drawn::default();
+        let from_scroll = lines.iter().skip(usize::from(settings.scroll));
+        for line in from_scroll.take(usize::from(inner.height)) {
+            let glyphs = glyph_counts(text, line, start_column(line, inner.width), inner.width);
+            counts.rows += 1;
+            counts.placed += glyphs.placed;
+            counts.clipped += glyphs.clipped;
+        }
+        counts
+    })
+}
+
+/// "Start column: `get_line_offset`, centre being half the area less half the line, each half
+/// rounded down."
+fn start_column(line: &ComposedLine, columns: u16) -> u16 {
+    match line.alignment {
+        Alignment::Left => 0,
+        Alignment::Center => (columns / 2).saturating_sub(line.width / 2),
+        Alignment::Right => columns.saturating_sub(line.width),
+    }
+}
+
+/// Lets `draw` draw on a copy of the cells and keeps the copy unless it panics.
+fn drawn(
+    columns: u32,
+    rows: u32,
+    cells: &mut [u64],
+    draw: impl FnOnce(&mut Buffer),
+) -> Outcome<()> {
+    let outcome = ask(|| {
+        let mut buf = Buffer::from_packed(screen(columns, rows), cells);
+        draw(&mut buf);
+        buf
+    });
+    outcome.map(|buf| {
+        for (cell, word) in cells.iter_mut().zip(buf.packed()) {
+            *cell = word;
+        }
+    })
+}
+
+/// The screen as a rectangle.
+fn screen(columns: u32, rows: u32) -> Rect {
+    let side = |size| u16::try_from(size).expect("an accepted screen fits 16 bits");
+    Rect::new(0, 0, side(columns), side(rows))
+}

@@ -1,0 +1,27 @@
+//! What ratatui-widgets 0.3.2 answers to the inputs of document 01.
+//!
+//! Every function takes packed input as document 01 defines it, runs the unchanged Rust files over
+//! the stand-ins and packs what they give. Inputs that document 01 refuses are not for the oracle:
+//! it has no refusals, and what it answers to them means nothing. A panic of the Rust is an answer
+//! as well, [`Outcome::Panicked`].
+
+mod compose;
+mod draw;
+mod measure;
+mod outcome;
+mod records;
+mod settings;
+mod tally;
+mod widgets;
+
+pub use compose::{ComposedLine, truncated_lines, wrapped_lines};
+pub use draw::{Drawn, draw_block, draw_notice, notice_counts};
+pub use measure::{
+    horizontal_space, inner, line_count, line_width, proportional_padding, vertical_space,
+};
+pub use outcome::Outcome;
+pub use settings::{
+    Alignment, Block, BorderSet, Borders, Effect, Notice, Padding, Rect, Shadow, TitlePosition,
+    Wrap,
+};
+pub use tally::{Tally, tally};

@@ -1,0 +1,76 @@
+//! Document 01's tally of a text, taken from the crate's composed lines.
+
+use std::collections::BTreeSet;
+
+use ratatui_core::glyph::Glyph;
+
+use crate::compose::{ComposedLine, wrapped_lines};
+use crate::outcome::Outcome;
+use crate::records::glyphs;
+use crate::settings::Alignment;
+
+/// The tally's counts, by document 01's names.
+#[derive(Debug, Default, Clone, Copy, PartialEq, Eq)]
+pub struct Tally {
+    pub lines: u32,
+    pub placed: u32,
+    pub clipped: u32,
+    pub zero_width: u32,
+    pub over_wide: u32,
+    pub dropped: u32,
+}
+
+/// The tally of a text at a limit. The crate drops glyphs without saying so: dropped are those
+/// that are neither emitted nor wider than the limit.
+pub fn tally(text: &[u32], limit: u16, trim: bool) -> Outcome<Tally> {
+    if limit == 0 {
+        return Outcome::Value(Tally::default());
+    }
+    wrapped_lines(text, Alignment::Left, limit, trim).map(|lines| {
+        let mut tally = Tally::default();
+        for line in &lines {
+            let counts = glyph_counts(text, line, 0, limit);
+            tally.lines += 1;
+            tally.placed += counts.placed;
+            tally.clipped += counts.clipped;
+            tally.zero_width += counts.zero_width;
+        }
+        let emitted: BTreeSet<u32> = lines.into_iter().flat_map(|line| line.glyphs).collect();
+        for glyph in glyphs(text) {
+            if glyph.width() > limit {
+                tally.over_wide += 1;
+            } else if !emitted.contains(&glyph.number) {
+                tally.dropped += 1;
+            }
+        }
+        tally
+    })
+}
+
+/// How a line's glyphs fare.
+pub struct GlyphCounts {
+    pub placed: u32,
+    pub clipped: u32,
+    pub zero_width: u32,
+}
+
+/// The glyphs of a line that starts at column `offset` of `columns`: "placed are emitted glyphs of
+/// width above 0 that start below the limit", "clipped (emitted, of width above 0, start at or past
+/// the limit)".
+pub fn glyph_counts(text: &[u32], line: &ComposedLine, offset: u16, columns: u16) -> GlyphCounts {
+    let mut counts = GlyphCounts { placed: 0, clipped: 0, zero_width: 0 };
+    let mut start = offset;
+    for &number in &line.glyphs {
+        let record = text[number as usize];
+        let width = Glyph { record, number }.width();
+        if width == 0 {
+            counts.zero_width += 1;
+        } else if start < columns {
+            counts.placed += 1;
+        } else {
+            counts.clipped += 1;
+        }
+        start += width;
+    }
+    counts
+}

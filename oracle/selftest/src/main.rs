@@ -1,0 +1,27 @@
+//! Holds the oracle against the worked examples of document 01.
+//!
+//! Prints `ok NAME` or `FAILED NAME: expected .. got ..` for each, then `N passed, M failed`; the
+//! exit status is 1 where one failed.
+
+mod frame;
+mod listlines;
+mod notation;
+mod notices;
+mod report;
+mod screen;
+mod styles;
+mod wrapping;
+
+use std::process::ExitCode;
+
+use report::Report;
+
+fn main() -> ExitCode {
+    let mut report = Report::default();
+    wrapping::run(&mut report);
+    frame::run(&mut report);
+    notices::run(&mut report);
+    styles::run(&mut report);
+    listlines::run(&mut report);
+    report.finish()
+}

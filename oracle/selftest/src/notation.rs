@@ -1,0 +1,47 @@
+//! Document 01's notation for small texts: "`_` space, W width 2, Z zero-width solid, z zero-width
+//! space, other letters one cell, bar between lines."
+
+use oracle::ComposedLine;
+
+/// The blank symbol.
+pub const BLANK: u32 = 32;
+
+/// A head that opens a line of a text, or a title at the top: 0 left, 1 centre, 2 right, 3 none.
+pub const fn head(alignment: u32) -> u32 {
+    1 << 31 | alignment << 29
+}
+
+/// The record of a letter, its style number 0.
+pub const fn glyph(letter: char) -> u32 {
+    let (symbol, width, whitespace) = match letter {
+        '_' => (BLANK, 1, 1),
+        'W' => ('W' as u32, 2, 0),
+        'Z' => ('Z' as u32, 0, 0),
+        'z' => ('z' as u32, 0, 1),
+        other => (other as u32, 1, 0),
+    };
+    symbol << 10 | width << 7 | whitespace << 6
+}
+
+/// The records of one line.
+pub fn line(alignment: u32, letters: &str) -> Vec<u32> {
+    let glyphs = letters.chars().map(glyph);
+    std::iter::once(head(alignment)).chain(glyphs).collect()
+}
+
+/// The letter of a symbol.
+pub fn letter(symbol: u32) -> char {
+    match symbol {
+        BLANK => '_',
+        other => char::from_u32(other).unwrap_or('?'),
+    }
+}
+
+/// Composed lines in letters, a bar between two.
+pub fn shown(text: &[u32], lines: &[ComposedLine]) -> String {
+    let letters = |line: &ComposedLine| {
+        let records = line.glyphs.iter().map(|&number| text[number as usize]);
+        records.map(|record| letter(record >> 10)).collect::<String>()
+    };
+    lines.iter().map(letters).collect::<Vec<_>>().join("|")
+}

@@ -1,0 +1,74 @@
+//! A screen of packed cells to draw on.
+
+use oracle::{Block, Notice, Outcome, Rect};
+
+use crate::notation::letter;
+
+/// A blank cell: symbol 32 and zeros.
+pub const BLANK_CELL: u64 = 32 << 43;
+
+/// A style that changes nothing, under number 0.
+pub const PLAIN: &[u64] = &[0];
+
+/// A screen with the styles that are lent for drawing on it.
+pub struct Screen {
+    pub columns: u32,
+    pub rows: u32,
+    pub cells: Vec<u64>,
+    pub styles: Vec<u64>,
+}
+
+impl Screen {
+    /// A screen of one cell repeated.
+    pub fn filled(columns: u32, rows: u32, cell: u64) -> Self {
+        Self { columns, rows, cells: vec![cell; (columns * rows) as usize], styles: PLAIN.to_vec() }
+    }
+
+    pub fn blank(columns: u32, rows: u32) -> Self {
+        Self::filled(columns, rows, BLANK_CELL)
+    }
+
+    pub fn with_styles(mut self, styles: &[u64]) -> Self {
+        self.styles = styles.to_vec();
+        self
+    }
+
+    pub fn draw_block(&mut self, titles: &[u32], area: Rect, block: Block) -> Outcome<()> {
+        oracle::draw_block(
+            self.columns,
+            self.rows,
+            &mut self.cells,
+            &self.styles,
+            titles,
+            area,
+            block,
+        )
+    }
+
+    pub fn draw_notice(
+        &mut self,
+        text: &[u32],
+        area: Rect,
+        notice: Notice,
+    ) -> Outcome<oracle::Drawn> {
+        oracle::draw_notice(
+            self.columns,
+            self.rows,
+            &mut self.cells,
+            &self.styles,
+            text,
+            &[],
+            area,
+            notice,
+        )
+    }
+
+    /// The symbols as letters, a bar between rows.
+    pub fn symbols(&self) -> String {
+        let row = |cells: &[u64]| -> String {
+            cells.iter().map(|cell| letter((cell >> 43) as u32)).collect()
+        };
+        let rows: Vec<String> = self.cells.chunks(self.columns as usize).map(row).collect();
+        rows.join("|")
+    }
+}

@@ -1,0 +1,17 @@
+//! Stands in for `itertools`: `collect_vec`, by which block.rs gathers the centred titles.
+//!
+//! Document 01: "Each position draws left, centre, right titles by the rules of ..
+//! `render_center_titles` ..". The order of the titles is kept.
+
+/// Adds `collect_vec` to every iterator.
+pub trait Itertools: Iterator {
+    /// The items in a `Vec`, in order.
+    fn collect_vec(self) -> Vec<Self::Item>
+    where
+        Self: Sized,
+    {
+        self.collect()
+    }
+}
+
+impl<I: Iterator> Itertools for I {}
