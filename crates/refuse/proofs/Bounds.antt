@@ -42,10 +42,10 @@ titles-over : (records : List ℕ) → length (linesFrom 0 records) ≡ 17 → t
 unfolding titlesWrong
 titles-over records e = rw e
 
-title-most : (title : TextLine) → length (title .glyphs) ≡ 256 → tooManyGlyphs accepted title ≡ false
+title-most : (title : TextLine) → length (title .records) ≡ 256 → tooManyGlyphs accepted title ≡ false
 title-most title e = rw e
 
-title-over : (title : TextLine) → length (title .glyphs) ≡ 257 → tooManyGlyphs accepted title ≡ true
+title-over : (title : TextLine) → length (title .records) ≡ 257 → tooManyGlyphs accepted title ≡ true
 title-over title e = rw e
 
 symbol-most : tooLarge 2097151 ≡ false

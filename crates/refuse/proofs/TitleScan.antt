@@ -9,8 +9,8 @@ use lib.Dec.{ltb}
 use lib.ListN.{length, getD, take, drop, length-drop}
 use lib.Seq.{drop-length, take-all}
 use Rattle.text.specs.Record.{isHead}
-use Rattle.text.specs.Line.{TextLine, numbered, untilHead, linesFrom}
-use Rattle.text.proofs.TextLines.{Opens, end-within, next-opens, line-first, numbered-length}
+use Rattle.text.specs.Line.{TextLine, untilHead, linesFrom}
+use Rattle.text.proofs.TextLines.{Opens, end-within, next-opens, line-first}
 use Rattle.refuse.specs.declared.Ceilings.{Ceilings}
 use Rattle.refuse.specs.Causes.{some, notOpening, tooManyGlyphs, noPosition, headZerosSet, titlesWrong}
 use Rattle.refuse.specs.Scan.{titleWrong, lineWrong, scanWrong}
@@ -54,7 +54,7 @@ module _ (most : Ceilings) (rs : List ℕ) where
       tested : some (lineWrong most) (linesFrom 0 rs) ≡ (b || some (lineWrong most) (linesFrom (at + 1 + n) (drop (at + 1 + n) rs)))
       tested =
           sym (s .same) ∙ ap (some (lineWrong most)) (line-first rs at n h (s .opens) e)
-          ∙ rw (numbered-length (suc at) (untilHead (drop (at + 1) rs)), ← e, ← p)
+          ∙ rw (← e, ← p)
 
       pub scan-hits : b ≡ true → true ≡ scanWrong most rs
       unfolding scanWrong

@@ -52,7 +52,7 @@ textHeadsWrong text = notOpening text || some headWrong text
 
 -- 5: "titles: over 16, over 256 glyphs in one, records not empty and not opening with a head, position 3, zeros not 0"
 abbrev pub tooManyGlyphs : Ceilings → TextLine → Bool
-tooManyGlyphs most title = ltb (most .«title_glyphs») (length (title .glyphs))
+tooManyGlyphs most title = ltb (most .«title_glyphs») (length (title .records))
 
 abbrev pub noPosition : TextLine → Bool
 noPosition title = eqb (positionOf (title .head)) 3

@@ -14,7 +14,7 @@ unfoldable pub titleWrong : Ceilings → ℕ → ℕ → Bool
 titleWrong most head glyphs = ltb (most .«title_glyphs») glyphs || (eqb (positionOf head) 3 || not (eqb (zerosOf head) 0))
 
 abbrev pub lineWrong : Ceilings → TextLine → Bool
-lineWrong most title = titleWrong most (title .head) (length (title .glyphs))
+lineWrong most title = titleWrong most (title .head) (length (title .records))
 
 -- too many titles, or one of them wrong
 unfoldable pub scanWrong : Ceilings → List ℕ → Bool

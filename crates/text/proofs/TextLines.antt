@@ -8,7 +8,7 @@ use native.Mathlib.Omega.{arith}
 use lib.ListN.{length, getD, take, drop, length-drop}
 use lib.Seq.{drop-cons, drop-length, length-take-le, drop-drop, getD-drop}
 use Rattle.text.specs.Record.{isHead}
-use Rattle.text.specs.Line.{TextLine, numbered, untilHead, linesFrom}
+use Rattle.text.specs.Line.{TextLine, untilHead, linesFrom}
 
 -- records passed without a head: what is left says where the line ends
 pub record Measuring (after : List ℕ) (i : ℕ) : Type 0 where
@@ -105,13 +105,9 @@ module _ (rs : List ℕ) (at n : ℕ) (h : at < length rs) (o : Opens rs at) (e 
         rw (e, ← getD-drop (at + 1) rs (length (untilHead (drop (at + 1) rs))) 0) (until-head (drop (at + 1) rs) (omega (arith, q, length-drop (at + 1) rs)));
   }
 
-  pub line-first : linesFrom at (drop at rs) ≡ record { head = getD rs at 0; glyphs = numbered (suc at) (untilHead (drop (at + 1) rs)) } ∷ linesFrom (at + 1 + n) (drop (at + 1 + n) rs)
+  pub line-first : linesFrom at (drop at rs) ≡ record { head = getD rs at 0; first = suc at; records = untilHead (drop (at + 1) rs) } ∷ linesFrom (at + 1 + n) (drop (at + 1 + n) rs)
   line-first =
       let d : drop at rs ≡ getD rs at 0 ∷ drop (at + 1) rs = rw (add-one, drop-cons rs at 0) in
       let s : linesFrom (suc at) (drop (at + 1) rs) ≡ linesFrom (at + 1 + n) (drop (at + 1 + n) rs) =
       lines-skip (suc at) (drop (at + 1) rs) ∙ rw (← e, drop-drop, ← add-one at) in
       rw (d, o .head h, s)
-
-pub numbered-length : (number : ℕ) (rs : List ℕ) → length (numbered number rs) ≡ length rs
-numbered-length number [] = refl
-numbered-length number (r ∷ rs) = ap suc (numbered-length (suc number) rs)

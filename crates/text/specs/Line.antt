@@ -25,15 +25,20 @@ abbrev pub untilHead : List ℕ → List ℕ
 untilHead [] = []
 untilHead (r ∷ rs) = cond (isHead r) [] (r ∷ untilHead rs)
 
--- a line: its head, and its glyphs up to the next head
+-- a line: its head, the number of the record after the head, and the records up to the next head
 pub record TextLine : Type 0 where
   pub head : ℕ
-  pub glyphs : List Glyph
+  pub first : ℕ
+  pub records : List ℕ
 
 -- the lines of records, the first of which has the number given
 abbrev pub linesFrom : ℕ → List ℕ → List TextLine
 linesFrom number [] = []
 linesFrom number (r ∷ rs) =
     cond (isHead r)
-    (record { head = r; glyphs = numbered (suc number) (untilHead rs) } ∷ linesFrom (suc number) rs)
+    (record { head = r; first = suc number; records = untilHead rs } ∷ linesFrom (suc number) rs)
     (linesFrom (suc number) rs)
+
+-- the glyphs of a line
+abbrev pub glyphsOf : TextLine → List Glyph
+glyphsOf line = numbered (line .first) (line .records)
