@@ -1,3 +1,0 @@
-pub mod Wrapping
-pub mod Runs
-pub mod Pulls
