@@ -39,7 +39,7 @@ withSymbol symbol cell =
     let c = cellFrom cell in
     packed (record { symbol = symbol; foreground = c .foreground; background = c .background; modifiers = c .modifiers; untouched = c .untouched })
 
--- "Applying it sets the given colours,
+-- "Applying it sets the given colours, then sets the add bits, then clears the remove bits."
 abbrev pub coloursSet : Style → Cell → Cell
 coloursSet s c =
     record {
@@ -50,7 +50,7 @@ coloursSet s c =
       untouched = c .untouched;
     }
 
--- then sets the add bits,
+-- the add bits set
 abbrev pub addBitsSet : Style → Cell → Cell
 addBitsSet s c =
     record {
@@ -61,7 +61,7 @@ addBitsSet s c =
       untouched = c .untouched;
     }
 
--- then clears the remove bits": of the nine bits, those stay that aren't to be removed
+-- the remove bits cleared: of the nine bits, those stay that aren't to be removed
 abbrev pub removeBitsCleared : Style → Cell → Cell
 removeBitsCleared s c =
     record {
@@ -72,6 +72,7 @@ removeBitsCleared s c =
       untouched = c .untouched;
     }
 
+-- the three in their order
 abbrev pub applied : Style → Cell → Cell
 applied s c = removeBitsCleared s (addBitsSet s (coloursSet s c))
 

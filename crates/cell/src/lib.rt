@@ -44,7 +44,7 @@ pub fn blank() -> u64
     32 * 8796093022208
 }
 
-// The cell with another symbol; the fields of glyphs and the refused causes keep symbols below 2^21.
+// The cell with another symbol. Symbols are below 2^21: a glyph's field has 21 bits, and cause 7 refuses others.
 pub fn set_symbol(symbol: u64, cell: u64) -> u64
     requires { ⌜ symbol < 2 ^ 21 ⌝ }
     ensures { λ r. ⌜ r ≡ withSymbol symbol cell ⌝ }

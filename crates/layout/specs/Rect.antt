@@ -23,7 +23,7 @@ meet a b =
       height = min (bottomOf a) (bottomOf b) - max (a .y) (b .y);
     }
 
--- no cell lies in it
+-- its width or its height is 0
 abbrev pub isEmpty : Rect → Bool
 isEmpty r = eqb (r .width) 0 || eqb (r .height) 0
 
@@ -35,7 +35,7 @@ within first end n = leb first n && ltb n end
 abbrev pub contains : Rect → ℕ → ℕ → Bool
 contains r column row = within (r .x) (rightOf r) column && within (r .y) (bottomOf r) row
 
--- a place moved "by a signed 32-bit offset, held from 0 to" the most given
+-- a place moved by a signed number, and held from 0 to the most given
 abbrev pub moved : ℕ → ℤ → ℕ → ℕ
 moved place (pos n) most = min (place + n) most
 moved place (negsuc n) most = min (place - suc n) most

@@ -12,14 +12,14 @@ pub struct Rect {
 }
 
 impl Rect {
-    // One past the last column, held at 65,535.
+    // x + width, held at 65,535.
     pub fn right(self) -> u16
         ensures { λ r. ⌜ r ≡ rightOf self ⌝ }
     {
         num::saturating_add(self.x, self.width)
     }
 
-    // One past the last row, held at 65,535.
+    // y + height, held at 65,535.
     pub fn bottom(self) -> u16
         ensures { λ r. ⌜ r ≡ bottomOf self ⌝ }
     {
@@ -42,7 +42,7 @@ impl Rect {
         }
     }
 
-    // Whether no cell lies in it.
+    // Whether its width or its height is 0.
     pub fn is_empty(self) -> bool
         ensures { λ r. ⌜ r ≡ isEmpty self ⌝ }
     {

@@ -1,5 +1,6 @@
 -- Document 01, 'Inner area and frame': "all sums and differences here are held in 16 bits".
-use Prim.Native.Nat.{ℕ, _+_, _-_, min}
+-- A difference is held at 0 by the minus of natural numbers; a sum is held at the other end by this.
+use Prim.Native.Nat.{ℕ, min}
 
 -- a number held at 65,535
 abbrev pub held : ℕ → ℕ

@@ -10,7 +10,7 @@ pub fn saturating_add(a: u16, b: u16) -> u16
     if a <= 65535 - b { a + b } else { 65535 }
 }
 
-// a - b, held at 0: the subtraction of natural numbers is.
+// a - b, held at 0, as the minus of natural numbers is.
 pub fn saturating_sub(a: u16, b: u16) -> u16
     ensures { λ r. ⌜ r ≡ a - b ⌝ }
 {

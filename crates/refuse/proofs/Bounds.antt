@@ -6,46 +6,46 @@ use mathlib.Core.List.{List}
 use lib.Dec.{ltb}
 use lib.ListN.{length}
 use Rattle.text.specs.Line.{TextLine, linesFrom}
-use Rattle.refuse.specs.Causes.{accepted, some, screenWrong, zerosSet, stylesWrong, textTooLong, tooManyGlyphs, titlesWrong, tooLarge, limitWrong}
+use Rattle.refuse.specs.Causes.{mostAccepted, some, screenWrong, zerosSet, stylesWrong, textTooLong, tooManyGlyphs, titlesWrong, tooLarge, limitWrong}
 
-screen-largest : screenWrong accepted 512 256 131072 ≡ false
+screen-largest : screenWrong mostAccepted 512 256 131072 ≡ false
 unfolding screenWrong
 screen-largest = refl
 
-columns-over : screenWrong accepted 513 1 513 ≡ true
+columns-over : screenWrong mostAccepted 513 1 513 ≡ true
 unfolding screenWrong
 columns-over = refl
 
-rows-over : screenWrong accepted 1 257 257 ≡ true
+rows-over : screenWrong mostAccepted 1 257 257 ≡ true
 unfolding screenWrong
 rows-over = refl
 
-styles-most : (styles : List ℕ) → length styles ≡ 64 → stylesWrong accepted styles ≡ some zerosSet styles
+styles-most : (styles : List ℕ) → length styles ≡ 64 → stylesWrong mostAccepted styles ≡ some zerosSet styles
 unfolding stylesWrong
 styles-most styles e = rw e
 
-styles-over : (styles : List ℕ) → length styles ≡ 65 → stylesWrong accepted styles ≡ true
+styles-over : (styles : List ℕ) → length styles ≡ 65 → stylesWrong mostAccepted styles ≡ true
 unfolding stylesWrong
 styles-over styles e = rw e
 
 -- "16,384 records pass, 16,385 give 3"
-records-most : (text : List ℕ) → length text ≡ 16384 → textTooLong accepted text ≡ false
+records-most : (text : List ℕ) → length text ≡ 16384 → textTooLong mostAccepted text ≡ false
 records-most text e = rw e
 
-records-over : (text : List ℕ) → length text ≡ 16385 → textTooLong accepted text ≡ true
+records-over : (text : List ℕ) → length text ≡ 16385 → textTooLong mostAccepted text ≡ true
 records-over text e = rw e
 
-titles-most : ltb (accepted .titles) 16 ≡ false
+titles-most : ltb (mostAccepted .titles) 16 ≡ false
 titles-most = refl
 
-titles-over : (records : List ℕ) → length (linesFrom 0 records) ≡ 17 → titlesWrong accepted records ≡ true
+titles-over : (records : List ℕ) → length (linesFrom 0 records) ≡ 17 → titlesWrong mostAccepted records ≡ true
 unfolding titlesWrong
 titles-over records e = rw e
 
-title-most : (title : TextLine) → length (title .records) ≡ 256 → tooManyGlyphs accepted title ≡ false
+title-most : (title : TextLine) → length (title .records) ≡ 256 → tooManyGlyphs mostAccepted title ≡ false
 title-most title e = rw e
 
-title-over : (title : TextLine) → length (title .records) ≡ 257 → tooManyGlyphs accepted title ≡ true
+title-over : (title : TextLine) → length (title .records) ≡ 257 → tooManyGlyphs mostAccepted title ≡ true
 title-over title e = rw e
 
 symbol-most : tooLarge 2097151 ≡ false
@@ -55,8 +55,8 @@ symbol-over : tooLarge 2097152 ≡ true
 symbol-over = refl
 
 -- "limit 4,096 passes, 4,097 gives 8"
-limit-most : limitWrong accepted 4096 ≡ false
+limit-most : limitWrong mostAccepted 4096 ≡ false
 limit-most = refl
 
-limit-over : limitWrong accepted 4097 ≡ true
+limit-over : limitWrong mostAccepted 4097 ≡ true
 limit-over = refl

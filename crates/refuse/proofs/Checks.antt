@@ -10,7 +10,7 @@ use lib.Dec.{eqb, leb, ltb}
 use lib.ListN.{length, getD}
 use Rattle.text.specs.Record.{isHead, styleOf, positionOf, zerosOf}
 use Rattle.refuse.specs.declared.Ceilings.{Ceilings}
-use Rattle.refuse.specs.Causes.{oneTo, screenWrong, notOpening, headWrong, noStyle}
+use Rattle.refuse.specs.Causes.{oneTo, screenWrong, notOpening, textHeadWrong, noStyle}
 use Rattle.refuse.specs.Scan.{titleWrong, glyphNoStyle}
 
 -- cause 1
@@ -55,13 +55,13 @@ pub ruleset opening = (opens-empty, opens-first)
 
 -- cause 4, of one record
 module _ (r : ℕ) (b : Bool) (e : b ≡ isHead r) where
-  pub head-zeros : (zeros : ℕ) → b ≡ true → zeros ≡ zerosOf r → (zeros ≡ 0 → ⊥) → not (eqb zeros 0) ≡ headWrong r
+  pub head-zeros : (zeros : ℕ) → b ≡ true → zeros ≡ zerosOf r → (zeros ≡ 0 → ⊥) → not (eqb zeros 0) ≡ textHeadWrong r
   head-zeros zeros t p n = rw (← e, t, ← p) (simp (ne-eqb zeros 0 n))
 
-  pub head-position : (zeros position : ℕ) → b ≡ true → zeros ≡ zerosOf r → zeros ≡ 0 → position ≡ positionOf r → not (eqb position 0) ≡ headWrong r
+  pub head-position : (zeros position : ℕ) → b ≡ true → zeros ≡ zerosOf r → zeros ≡ 0 → position ≡ positionOf r → not (eqb position 0) ≡ textHeadWrong r
   head-position zeros position t p n q = rw (← e, t, ← p, ← q) (simp (eq-eqb zeros 0 n))
 
-  pub head-none : b ≡ false → false ≡ headWrong r
+  pub head-none : b ≡ false → false ≡ textHeadWrong r
   head-none f = rw (← e, f)
 
 pub ruleset heads = (head-zeros, head-position, head-none)

@@ -11,7 +11,7 @@ use lib.ListN.{length, getD, drop}
 use lib.Seq.{drop-cons, drop-length}
 use Rattle.text.specs.Record.{isHead, styleOf}
 use Rattle.refuse.specs.declared.Ceilings.{Ceilings}
-use Rattle.refuse.specs.Causes.{some, zerosSet, stylesWrong, notOpening, headWrong, textHeadsWrong, noStyle, styleNumbersWrong, glyphStyles}
+use Rattle.refuse.specs.Causes.{some, zerosSet, stylesWrong, notOpening, textHeadWrong, textHeadsWrong, noStyle, styleNumbersWrong, glyphStyles}
 use Rattle.refuse.specs.Scan.{glyphNoStyle}
 
 -- the numbers left say what all say
@@ -62,7 +62,7 @@ module _ (text : List ℕ) (b : Bool) (e : b ≡ notOpening text) where
   unfolding textHeadsWrong
   text-opens-wrong t = rw (← e, t)
 
-  pub text-opens : (x : Bool) → b ≡ false → x ≡ some headWrong text → x ≡ textHeadsWrong text
+  pub text-opens : (x : Bool) → b ≡ false → x ≡ some textHeadWrong text → x ≡ textHeadsWrong text
   unfolding textHeadsWrong
   text-opens x f p = rw (← e, f) p
 

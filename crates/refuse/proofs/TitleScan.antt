@@ -12,7 +12,7 @@ use Rattle.text.specs.Record.{isHead}
 use Rattle.text.specs.Line.{TextLine, untilHead, linesFrom}
 use Rattle.text.proofs.TextLines.{Opens, end-within, next-opens, line-first}
 use Rattle.refuse.specs.declared.Ceilings.{Ceilings}
-use Rattle.refuse.specs.Causes.{some, notOpening, tooManyGlyphs, noPosition, headZerosSet, titlesWrong}
+use Rattle.refuse.specs.Causes.{some, notOpening, tooManyGlyphs, positionThree, headZerosSet, titlesWrong}
 use Rattle.refuse.specs.Scan.{titleWrong, lineWrong, scanWrong}
 
 -- titles passed, none of them wrong: those left say what all say
@@ -93,17 +93,17 @@ three-or false true c false y z = refl
 three-or false false c false true z = or-true c
 three-or false false c false false z = refl
 
-title-tests : (most : Ceilings) (ts : List TextLine) → some (lineWrong most) ts ≡ (some (tooManyGlyphs most) ts || (some noPosition ts || some headZerosSet ts))
+title-tests : (most : Ceilings) (ts : List TextLine) → some (lineWrong most) ts ≡ (some (tooManyGlyphs most) ts || (some positionThree ts || some headZerosSet ts))
 unfolding titleWrong
 title-tests most [] = refl
 title-tests most (t ∷ ts) =
     ap (λ (b : Bool). lineWrong most t || b) (title-tests most ts)
-    ∙ three-or (tooManyGlyphs most t) (noPosition t) (headZerosSet t) (some (tooManyGlyphs most) ts) (some noPosition ts) (some headZerosSet ts)
+    ∙ three-or (tooManyGlyphs most t) (positionThree t) (headZerosSet t) (some (tooManyGlyphs most) ts) (some positionThree ts) (some headZerosSet ts)
 
 scan-is : (most : Ceilings) (rs : List ℕ) → titlesWrong most rs ≡ (notOpening rs || scanWrong most rs)
 unfolding titlesWrong scanWrong
 scan-is most rs =
-    five (ltb (most .titles) (length (linesFrom 0 rs))) (some (tooManyGlyphs most) (linesFrom 0 rs)) (notOpening rs) (some noPosition (linesFrom 0 rs)) (some headZerosSet (linesFrom 0 rs))
+    five (ltb (most .titles) (length (linesFrom 0 rs))) (some (tooManyGlyphs most) (linesFrom 0 rs)) (notOpening rs) (some positionThree (linesFrom 0 rs)) (some headZerosSet (linesFrom 0 rs))
     ∙ rw (title-tests most (linesFrom 0 rs))
 
 module _ (most : Ceilings) (rs : List ℕ) (b : Bool) (e : b ≡ notOpening rs) where

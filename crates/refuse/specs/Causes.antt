@@ -10,8 +10,8 @@ use Rattle.cell.specs.Style.{Style, styleFrom}
 use Rattle.refuse.specs.declared.Ceilings.{Ceilings}
 
 -- "Accepted: 512 columns, 256 rows, 64 styles, 16,384 records, 16 titles of 256 glyphs, limit 4,096."
-abbrev pub accepted : Ceilings
-accepted = record { columns = 512; rows = 256; styles = 64; records = 16384; titles = 16; «title_glyphs» = 256; limit = 4096 }
+abbrev pub mostAccepted : Ceilings
+mostAccepted = record { columns = 512; rows = 256; styles = 64; records = 16384; titles = 16; «title_glyphs» = 256; limit = 4096 }
 
 -- a test holds of something in a list
 abbrev pub some : {A : Type 0} → (A → Bool) → List A → Bool
@@ -44,18 +44,18 @@ notOpening [] = false
 notOpening (r ∷ rs) = not (isHead r)
 
 -- 4: "text not empty and not opening with a head, or a head's zeros or position not 0"
-abbrev pub headWrong : ℕ → Bool
-headWrong r = isHead r && (not (eqb (zerosOf r) 0) || not (eqb (positionOf r) 0))
+abbrev pub textHeadWrong : ℕ → Bool
+textHeadWrong r = isHead r && (not (eqb (zerosOf r) 0) || not (eqb (positionOf r) 0))
 
 unfoldable pub textHeadsWrong : List ℕ → Bool
-textHeadsWrong text = notOpening text || some headWrong text
+textHeadsWrong text = notOpening text || some textHeadWrong text
 
 -- 5: "titles: over 16, over 256 glyphs in one, records not empty and not opening with a head, position 3, zeros not 0"
 abbrev pub tooManyGlyphs : Ceilings → TextLine → Bool
 tooManyGlyphs most title = ltb (most .«title_glyphs») (length (title .records))
 
-abbrev pub noPosition : TextLine → Bool
-noPosition title = eqb (positionOf (title .head)) 3
+abbrev pub positionThree : TextLine → Bool
+positionThree title = eqb (positionOf (title .head)) 3
 
 abbrev pub headZerosSet : TextLine → Bool
 headZerosSet title = not (eqb (zerosOf (title .head)) 0)
@@ -66,7 +66,7 @@ titlesWrong most records =
     ltb (most .titles) (length titles)
     || some (tooManyGlyphs most) titles
     || notOpening records
-    || some noPosition titles
+    || some positionThree titles
     || some headZerosSet titles
 
 -- 6: "where styles are lent, a style number, glyphs' included, not below their count"

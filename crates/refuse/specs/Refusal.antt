@@ -33,7 +33,8 @@ infixl 80 _if_
 abbrev pub _if_ : Refusal → Bool → Cause
 why if b = record { why = why; holds = b }
 
--- A call lists its causes once, in the table's order; the first that holds is the lowest (theorem `lowest`).
+-- A call lists its causes in the table's order, each once. The first that holds is then the lowest, whatever else holds: theorem
+-- `lowest`, to which each call shows that its list is in that order.
 abbrev pub firstCause : List Cause → Verdict
 firstCause [] = Accepted
 firstCause (cause ∷ causes) = cond (cause .holds) (Refused (cause .why)) (firstCause causes)

@@ -9,7 +9,7 @@ use Rattle.text.specs.Line.{TextLine, linesFrom}
 use Rattle.refuse.specs.declared.Ceilings.{Ceilings}
 use Rattle.refuse.specs.Causes.{some, noStyle}
 
--- a title of this head and so many glyphs is one that cause 5 names
+-- a title with this head and this number of glyphs is wrong in one of the ways that cause 5 names
 unfoldable pub titleWrong : Ceilings → ℕ → ℕ → Bool
 titleWrong most head glyphs = ltb (most .«title_glyphs») glyphs || (eqb (positionOf head) 3 || not (eqb (zerosOf head) 0))
 

@@ -1,7 +1,7 @@
 // Why a call is refused: the causes, their numbers, and the checks behind them.
 ghost use mathlib.Core.Path.{_≡_};
 ghost use Rattle.refuse.specs.Refusal.{refusalNumber, verdictNumber};
-ghost use Rattle.refuse.specs.Causes.{accepted};
+ghost use Rattle.refuse.specs.Causes.{mostAccepted};
 
 pub mod limits;
 pub mod records;
@@ -39,9 +39,9 @@ pub struct Ceilings {
 }
 
 impl Ceilings {
-    // The desk's ceilings, which document 01 gives.
+    // Those that document 01 gives.
     pub fn accepted() -> Ceilings
-        ensures { λ r. ⌜ r ≡ accepted ⌝ }
+        ensures { λ r. ⌜ r ≡ mostAccepted ⌝ }
     {
         Ceilings {
             columns: 512,

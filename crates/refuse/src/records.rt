@@ -5,7 +5,7 @@ use text::head;
 use text::line;
 ghost use mathlib.Core.Path.{_≡_};
 ghost use mathlib.Core.Bool.{false};
-ghost use Rattle.refuse.specs.Causes.{textTooLong, notOpening, headWrong, textHeadsWrong, titlesWrong, styleNumbersWrong, glyphStyles};
+ghost use Rattle.refuse.specs.Causes.{textTooLong, notOpening, textHeadWrong, textHeadsWrong, titlesWrong, styleNumbersWrong, glyphStyles};
 ghost use Rattle.refuse.specs.Scan.{titleWrong, scanWrong, glyphNoStyle};
 
 // 3: a text of too many records.
@@ -27,7 +27,7 @@ fn opens_without_head(records: &[u32]) -> bool
 
 // Whether a record is a head whose zeros or position aren't 0.
 fn head_wrong(word: u32) -> bool
-    ensures { λ r. ⌜ r ≡ headWrong word ⌝ }
+    ensures { λ r. ⌜ r ≡ textHeadWrong word ⌝ }
 {
     if head::is_head(word) {
         return head::zeros(word) != 0 || head::position(word) != 0;
@@ -35,7 +35,7 @@ fn head_wrong(word: u32) -> bool
     false
 }
 
-// 4: a text that doesn't open with a head, or a head whose zeros or position aren't 0.
+// 4: a text that isn't empty and doesn't open with a head, or a head whose zeros or position aren't 0.
 pub fn text_heads_wrong(text: &[u32]) -> bool
     ensures { λ r. ⌜ r ≡ textHeadsWrong (now (text .entry)) ⌝ }
 {
@@ -85,7 +85,8 @@ fn any_title_wrong(most: Ceilings, titles: &[u32]) -> bool
     false
 }
 
-// 5: too many titles, too many glyphs in one, records that don't open with a head, position 3, or zeros that aren't 0.
+// 5: too many titles, too many glyphs in one, records that aren't empty and don't open with a head, position 3, or zeros that
+// aren't 0.
 pub fn titles_wrong(most: Ceilings, titles: &[u32]) -> bool
     ensures { λ r. ⌜ r ≡ titlesWrong most (now (titles .entry)) ⌝ }
 {

@@ -1,12 +1,13 @@
 -- What a head's alignment and position come to, one law for each arm of a match on the field.
-use Prim.Native.Nat.{ℕ}
-use mathlib.Core.Path.{_≡_}
-use borrow.Author.Tests.{eq-eqb, ne-eqb}
+use Prim.Native.Nat.{ℕ, zero, suc, _<_}
+use mathlib.Core.Path.{_≡_, refl}
+use native.Mathlib.Omega.{arith}
+use borrow.Author.Tests.{ne-eqb}
 use Rattle.text.specs.declared.Alignment.{Alignment}
 use Rattle.text.specs.declared.Alignment.the-variants.{Left, Center, Right}
 use Rattle.text.specs.declared.TitlePosition.{TitlePosition}
 use Rattle.text.specs.declared.TitlePosition.the-variants.{Top, Bottom}
-use Rattle.text.specs.Alignment.{resolved, resolvedPosition}
+use Rattle.text.specs.Alignment.{alignmentNumber, resolved, resolvedPosition}
 
 -- n is the field as it was read
 module _ (n field : ℕ) (e : n ≡ field) (own : Alignment) where
@@ -33,3 +34,10 @@ module _ (n field : ℕ) (e : n ≡ field) (own : TitlePosition) where
   own-position a b = rw (← e) (simp (ne-eqb n 0 a, ne-eqb n 1 b))
 
 pub ruleset resolving = (left, center, right, own-alignment, top, bottom, own-position)
+
+-- in numbers: a field below 3 is the alignment's own number
+pub resolved-number : (field : ℕ) (own : Alignment) → field < 3 → alignmentNumber (resolved field own) ≡ field
+resolved-number zero own h = refl
+resolved-number (suc zero) own h = refl
+resolved-number (suc (suc zero)) own h = refl
+resolved-number (suc (suc (suc n))) own h = absurd (omega arith)

@@ -13,11 +13,17 @@ alignmentNumber Left = 0
 alignmentNumber Center = 1
 alignmentNumber Right = 2
 
--- 3 the notice's own
+-- 3 is the notice's own. "Alignment 3 in a title means none given": a title is chosen with the block's alignment as its own, and
+-- drawn with left.
 abbrev pub resolved : ℕ → Alignment → Alignment
 resolved alignment own =
     cond (eqb alignment 0) Left (cond (eqb alignment 1) Center (cond (eqb alignment 2) Right own))
 
--- position in a title: 0 top, 1 bottom, 2 the block's
+-- position in a title: 0 top, 1 bottom
+abbrev pub positionNumber : TitlePosition → ℕ
+positionNumber Top = 0
+positionNumber Bottom = 1
+
+-- 2 is the block's; 3 is refused (cause 5)
 abbrev pub resolvedPosition : ℕ → TitlePosition → TitlePosition
 resolvedPosition position own = cond (eqb position 0) Top (cond (eqb position 1) Bottom own)

@@ -2,13 +2,13 @@
 use Prim.Native.Nat.{_-_}
 use lib.ListN.{length}
 use Rattle.refuse.proofs.Passes.{Passing, passing, text-opens-wrong, text-opens}
-use Rattle.refuse.specs.Causes.{headWrong}
+use Rattle.refuse.specs.Causes.{textHeadWrong}
 use borrow.Author.Needs.{needs}
 use Rattle.refuse.proofs.records.text_heads_wrong.Statement.{statement}
 use Rattle.refuse.proofs.records.text_heads_wrong.Tie as tie
 
 abbrev Inv-loop : tie.InvT-loop
-Inv-loop text i₀ i = Passing headWrong text i
+Inv-loop text i₀ i = Passing textHeadWrong text i
 
 abbrev μ-loop : tie.MeasureT-loop
 μ-loop text i₀ i = length text - i
