@@ -1,16 +1,16 @@
 -- Cause 5: the pass over titles, head by head, and that its one test for each title comes to the table's five.
-use Prim.Native.Nat.{ℕ, suc, _+_, _-_, _<_, _≤_}
+use Prim.Native.Nat.{ℕ, suc, _+_, _<_, _≤_}
 use mathlib.Core.Path.{_≡_, refl, sym, ap, _∙_}
 use mathlib.Core.Bool.{Bool, true, false, _||_, or-true}
 use mathlib.Core.List.{List, [], _∷_}
 use native.Mathlib.Omega.{arith}
 use borrow.Author.Tests.{lt-ltb, le-ltb, not-false}
 use lib.Dec.{ltb}
-use lib.ListN.{length, getD, take, drop, length-drop}
-use lib.Seq.{drop-length, take-all}
+use lib.ListN.{length, getD, drop}
+use lib.Seq.{drop-length}
 use Rattle.text.specs.Record.{isHead}
 use Rattle.text.specs.Line.{TextLine, untilHead, linesFrom}
-use Rattle.text.proofs.TextLines.{Opens, end-within, next-opens, line-first}
+use Rattle.text.proofs.TextLines.{Opens, rest, rest-is, next-opens, line-first}
 use Rattle.refuse.specs.declared.Ceilings.{Ceilings}
 use Rattle.refuse.specs.Causes.{some, notOpening, tooManyGlyphs, positionThree, headZerosSet, titlesWrong}
 use Rattle.refuse.specs.Scan.{titleWrong, lineWrong, scanWrong}
@@ -22,19 +22,9 @@ pub record Scanning (most : Ceilings) (rs : List ℕ) (count at : ℕ) : Type 0 
   pub counted : count + length (linesFrom at (drop at rs)) ≡ length (linesFrom 0 rs)
   pub same : some (lineWrong most) (linesFrom at (drop at rs)) ≡ some (lineWrong most) (linesFrom 0 rs)
 
-opens-start : (rs : List ℕ) → notOpening rs ≡ false → Opens rs 0
+pub opens-start : (rs : List ℕ) → notOpening rs ≡ false → Opens rs 0
 opens-start [] e = record { within = omega arith; head = λ (h : 0 < 0). absurd (omega arith) }
 opens-start (r ∷ rs) e = record { within = omega arith; head = λ (h : 0 < suc (length rs)). not-false (isHead r) e }
-
--- the records lent from a place on
-abbrev rest : List ℕ → ℕ → List ℕ
-rest rs from = take (length rs - from) (drop from rs)
-
-rest-is : (rs : List ℕ) (from : ℕ) → rest rs from ≡ drop from rs
-rest-is rs from = take-all (length rs - from) (drop from rs) (omega (arith, length-drop from rs))
-
-pub rest-within : (rs : List ℕ) (at : ℕ) → at < length rs → at + 1 + length (untilHead (rest rs (at + 1))) ≤ length rs
-rest-within rs at h = rw (rest-is rs (at + 1)) (end-within rs at h)
 
 module _ (most : Ceilings) (rs : List ℕ) where
   pub scan-starts : notOpening rs ≡ false → Scanning most rs 0 0

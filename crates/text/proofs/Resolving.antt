@@ -41,3 +41,9 @@ resolved-number zero own h = refl
 resolved-number (suc zero) own h = refl
 resolved-number (suc (suc zero)) own h = refl
 resolved-number (suc (suc (suc n))) own h = absurd (omega arith)
+
+-- a resolved alignment takes two bits, and is never 3
+pub alignment-small : (n : ℕ) (alignment : Alignment) → n ≡ alignmentNumber alignment → n < 3
+alignment-small n Left e = omega arith
+alignment-small n Center e = omega arith
+alignment-small n Right e = omega arith

@@ -6,7 +6,7 @@ use mathlib.Core.List.{List, [], _∷_}
 use native.Mathlib.Numerals.{add-one}
 use native.Mathlib.Omega.{arith}
 use lib.ListN.{length, getD, take, drop, length-drop}
-use lib.Seq.{drop-cons, drop-length, length-take-le, drop-drop, getD-drop}
+use lib.Seq.{drop-cons, drop-length, length-take-le, drop-drop, getD-drop, take-all}
 use Rattle.text.specs.Record.{isHead}
 use Rattle.text.specs.Line.{TextLine, untilHead, linesFrom}
 
@@ -111,3 +111,13 @@ module _ (rs : List ℕ) (at n : ℕ) (h : at < length rs) (o : Opens rs at) (e 
       let s : linesFrom (suc at) (drop (at + 1) rs) ≡ linesFrom (at + 1 + n) (drop (at + 1 + n) rs) =
       lines-skip (suc at) (drop (at + 1) rs) ∙ rw (← e, drop-drop, ← add-one at) in
       rw (d, o .head h, s)
+
+-- the records lent from a place on, as `&records[from..]` lends them
+abbrev pub rest : List ℕ → ℕ → List ℕ
+rest rs from = take (length rs - from) (drop from rs)
+
+pub rest-is : (rs : List ℕ) (from : ℕ) → rest rs from ≡ drop from rs
+rest-is rs from = take-all (length rs - from) (drop from rs) (omega (arith, length-drop from rs))
+
+pub rest-within : (rs : List ℕ) (at : ℕ) → at < length rs → at + 1 + length (untilHead (rest rs (at + 1))) ≤ length rs
+rest-within rs at h = rw (rest-is rs (at + 1)) (end-within rs at h)

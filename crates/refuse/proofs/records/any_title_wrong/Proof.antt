@@ -1,5 +1,5 @@
 -- `refuse::records::any_title_wrong` meets its contract.
-use Rattle.refuse.proofs.TitleScan.{rest-within}
+use Rattle.text.proofs.TextLines.{rest-within}
 use Prim.Native.Nat.{_-_}
 use mathlib.Core.Path.{_≡_}
 use lib.ListN.{length}
