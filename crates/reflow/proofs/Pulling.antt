@@ -1,0 +1,166 @@
+-- A pull goes from a sound state on until a line is emitted, or to the line's end.
+use Prim.Native.Nat.{ℕ, _+_, _-_, _*_, _^_, _≤_, _<_}
+use mathlib.Core.Path.{_≡_, refl, ap, _∙_}
+use mathlib.Core.Bool.{Bool, true, false}
+use mathlib.Core.List.{List, [], _∷_, _++_, map}
+use native.Mathlib.Omega.{arith}
+use native.Mathlib.Numerals.{add-one}
+use lib.Dec.{eqb}
+use lib.ListN.{length, getD, drop, drop-of-length-le}
+use lib.Seq.{drop-cons}
+use Rattle.text.specs.Line.{Glyph, glyphFrom}
+use Rattle.reflow.specs.declared.Run.{Run}
+use Rattle.reflow.specs.declared.Rule.{Rule}
+use Rattle.reflow.specs.declared.Wrapper.{Wrapper}
+use Rattle.reflow.specs.declared.Stepped.{Stepped}
+use Rattle.reflow.specs.declared.Stepped.the-variants.{Emitted, Went}
+use Rattle.reflow.specs.declared.Next.{Next}
+use Rattle.reflow.specs.declared.Next.the-variants.{Line, Done}
+use Rattle.reflow.specs.Wrapping.{Step, emptied, step}
+use Rattle.reflow.specs.Runs.{emptyRun, runOf, glyphsIn, gatherRun, joinRun, joins, joinedRun, emptiedRun, stepRun, closedRun, finishRun}
+use Rattle.reflow.specs.Pulls.{Sound, Spans, lineOf, emittedOf, nextOf, runsFrom, runs, pulled, SoundNext, Pulled}
+use Rattle.reflow.proofs.RunLaws.{cond-cases}
+use Rattle.reflow.proofs.ListRuns.{empty-read}
+use Rattle.reflow.proofs.States.{shows-sum, shows-spaces, joined-sound, emptied-shows, gathered-is, gathered-read}
+use Rattle.reflow.proofs.Simulation.{ReadAll, step-matches}
+
+-- ---- a sound state
+
+module _ (u : Rule) (records : List ℕ) (s : Wrapper) (h : Sound u records s) where
+  pub sound-sum : s .row .width + s .spaces .width + s .word .width ≤ 7 * s .at
+  sound-sum = shows-sum u records s (h .pending) (h .shows)
+
+  pub sound-within : s .at ≤ length records
+  sound-within = h .shows .within
+
+  pub sound-spaces : (s .spaces .end ≤ length records) × (s .spaces ≡ runOf (glyphsIn u records (s .spaces)))
+  sound-spaces = let l = shows-spaces u records s (h .pending) (h .shows) in (l .within, l .glyphs)
+
+  pub sound-closed : Sound u records (closedRun s)
+  unfolding closedRun
+  sound-closed =
+      let k = h .shows in
+      record {
+        pending = h .pending;
+        shows =
+            record {
+              left = k .left;
+              is-row = k .is-row;
+              is-spaces = k .is-spaces;
+              is-word = k .is-word;
+              is-solid = k .is-solid;
+              split = k .split;
+              wordless = k .wordless;
+              within = k .within;
+            };
+      }
+
+  module _ (r : Wrapper) where
+    pub sound-joined : (w : ℕ) (space : Bool) → r ≡ joinedRun u s w space → Sound u records r
+    sound-joined w space e = rw e (joined-sound u records s (h .pending) (h .shows) w space)
+
+    sound-emptied : r ≡ emptiedRun u records s → Sound u records r
+    sound-emptied e = rw e (record { pending = emptied u (h .pending); shows = emptied-shows u records s (h .pending) (h .shows) })
+
+pub joined-at : (u : Rule) (s r : Wrapper) (w : ℕ) (space : Bool) → r ≡ joinedRun u s w space → r .at ≡ s .at
+unfolding joinedRun joinRun
+joined-at u s r w space e =
+    ap (λ (x : Wrapper). x .at) e ∙ cond-cases (λ (x : Wrapper). x .at ≡ s .at) (joins u s w space) (joinRun (u .trim) s) s (λ _. refl) (λ _. refl)
+
+-- after an emit there is room for the glyph
+module _ (u : Rule) (records : List ℕ) (s r : Wrapper) (h : Sound u records s) (k : length records < 2 ^ 28) (e : r ≡ emptiedRun u records s) where
+  pub emptied-fits : (w : ℕ) → w < 8 → r .row .width + r .spaces .width + r .word .width + w < 2 ^ 32
+  emptied-fits w o =
+      let n = sound-emptied u records s h r e in
+      omega (arith, sound-sum u records r n, sound-within u records r n)
+
+  pub emptied-next : r .at + 1 < 2 ^ 64
+  emptied-next = omega (arith, sound-within u records r (sound-emptied u records s h r e))
+
+-- ---- the loop
+
+pub record Pulling (u : Rule) (records : List ℕ) (s w : Wrapper) : Type 0 where
+  pub sound : Sound u records w
+  pub live : w .live ≡ true
+  pub lines : runs u records s ≡ runs u records w
+
+live-runs : (u : Rule) (records : List ℕ) (s : Wrapper) → s .live ≡ true → runs u records s ≡ runsFrom u records s (drop (s .at) records)
+unfolding runs
+live-runs u records s l = rw l
+
+pub closed-runs : (u : Rule) (records : List ℕ) (s : Wrapper) → runs u records (closedRun s) ≡ []
+unfolding runs closedRun
+closed-runs u records s = refl
+
+read-spans : (u : Rule) (records : List ℕ) (line : Run) (ls : List (List Glyph)) → line ∷ [] ≡ map runOf ls → ReadAll u records ls → Spans u records line
+read-spans u records line [] e r = let z : _≡_ {A = ℕ} 0 1 = cc in absurd (omega arith)
+read-spans u records line (l ∷ ls) e r = let d : line ≡ runOf l = cc in rw d (r .0 .spans)
+
+module _ (u : Rule) (records : List ℕ) (s : Wrapper) where
+  pub pulling-starts : Sound u records s → s .live ≡ true → Pulling u records s s
+  pulling-starts h l = record { sound = h; live = l; lines = refl }
+
+  pub pulling-shut : s .live ≡ false → Pulled u records s Done
+  unfolding runs pulled
+  pulling-shut l = record { lines = rw l; sound = tt }
+
+  module _ (w : Wrapper) (p : Pulling u records s w) where
+    module _ (k : w .at < length records) (o : Stepped) (e : o ≡ stepRun u records w (getD records (w .at) 0)) where
+      abbrev ruled : Step
+      ruled = step u (p .sound .pending) (glyphFrom (w .at) (getD records (w .at) 0))
+
+      -- what one step comes to
+      stepping : (Sound u records (nextOf o)) × (nextOf o .live ≡ true) × (nextOf o .at ≡ w .at + 1) × (runs u records s ≡ emittedOf o ++ runs u records (nextOf o))
+      stepping =
+          let h = p .sound in
+          let m = step-matches u records w (h .pending) (h .shows) k in
+          let n = nextOf (stepRun u records w (getD records (w .at) 0)) in
+          let l : n .live ≡ true = m .follows .live ∙ p .live in
+          rw e (
+            record { pending = ruled .pending; shows = m .shows },
+            l,
+            m .follows .at,
+            p .lines ∙ rw (live-runs u records w (p .live), drop-cons records (w .at) 0 k, live-runs u records n l, m .follows .at, add-one (w .at)),
+          )
+
+      pub pulling-goes : (n : Wrapper) → o ≡ Went n → Pulling u records s n
+      pulling-goes n f =
+          let r = rw f at stepping in
+          record { sound = r .0; live = r .1; lines = r .3 }
+
+      pub pulling-less : (n : Wrapper) → o ≡ Went n → length records - n .at < length records - w .at
+      pulling-less n f =
+          let r = rw f at stepping in
+          omega (arith, r .2)
+
+      pub pulling-emits : (line : Run) (n : Wrapper) → o ≡ Emitted line n → Pulled u records s (Line line n)
+      unfolding pulled
+      pulling-emits line n f =
+          let r = rw f at stepping in
+          let m = rw (← e, f) at (step-matches u records w (p .sound .pending) (p .sound .shows) k) in
+          record { lines = r .3; sound = (r .0, read-spans u records line (ruled .lines) (m .lines) (m .read)) }
+
+    -- the line's end gives one line, or none
+    pub pulling-ends : (r : Next) → length records ≤ w .at → r ≡ finishRun u w → Pulled u records s r
+    unfolding finishRun pulled
+    pulling-ends r k e =
+        let q =
+        cond-cases Last (eqb (gatherRun (u .trim) w .end) 0) _ _
+        (λ _. cond-cases Last (eqb (w .spaces .end) 0) _ _ (λ _. cond-cases Last (w .emitted) _ _ (λ _. (refl, tt)) (λ _. none)) (λ _. none))
+        (λ _. last (gatherRun (u .trim) w) (rw (gathered-is u records w (p .sound .pending) (p .sound .shows)) (gathered-read u records w (p .sound .pending) (p .sound .shows) .spans))) in
+        rw e
+        (record {
+          lines = p .lines ∙ live-runs u records w (p .live) ∙ ap (runsFrom u records w) (drop-of-length-le records k) ∙ q .0;
+          sound = q .1;
+        })
+      where
+        Last : Next → Type 0
+        Last n = (lineOf n ≡ pulled u records n) × SoundNext u records n
+
+        last : (line : Run) → Spans u records line → Last (Line line (closedRun w))
+        last line l = (rw (closed-runs u records w), (sound-closed u records w (p .sound), l))
+
+        none : Last (Line emptyRun (closedRun w))
+        none = last emptyRun (empty-read u records .spans)
+
+pub ruleset pulling = (pulling-starts, pulling-shut, pulling-goes, pulling-less, pulling-emits, pulling-ends)

@@ -1,0 +1,45 @@
+-- Lists of glyphs that fall in two.
+use Prim.Native.Nat.{ℕ, suc, _+_, _-_}
+use mathlib.Core.Path.{_≡_, refl}
+use mathlib.Core.Bool.{Bool, true, false, cond, not, _||_}
+use mathlib.Core.List.{List, [], _∷_, _++_, append-assoc}
+use native.Mathlib.Omega.{arith}
+use lib.Dec.{leb}
+use lib.ListN.{length}
+use Rattle.text.specs.Line.{Glyph, numbered}
+use Rattle.reflow.specs.declared.Rule.{Rule}
+use Rattle.reflow.specs.Wrapping.{Pending, empty, overWide, takesSpaces, gathered, unjoined, fitting, afterFitting, notOverWide}
+
+pub numbered-append : (i : ℕ) (xs ys : List ℕ) → numbered i (xs ++ ys) ≡ numbered i xs ++ numbered (i + length xs) ys
+numbered-append i [] ys = let n : i + 0 ≡ i = omega arith in rw n
+numbered-append i (x ∷ xs) ys =
+    let n : i + suc (length xs) ≡ suc i + length xs = omega arith in
+    rw (n, numbered-append (suc i) xs ys)
+
+pub narrow-append : (u : Rule) (a b : List Glyph) → notOverWide u (a ++ b) ≡ notOverWide u a ++ notOverWide u b
+narrow-append u [] b = refl
+narrow-append u (g ∷ a) b = both (overWide u g) _ (notOverWide u a) (notOverWide u b) (narrow-append u a b)
+  where
+    both : (o : Bool) (x y z : List Glyph) → x ≡ y ++ z → cond o x (g ∷ x) ≡ cond o y (g ∷ y) ++ z
+    both true x y z e = e
+    both false x y z e = cc
+
+-- what a join keeps, and what it drops
+pub gathered-split : (u : Rule) (t : Pending) → t .row ++ (t .spaces ++ t .word) ≡ unjoined u t ++ gathered u t
+unfolding gathered unjoined takesSpaces
+gathered-split u t = both (u .trim) (t .row)
+  where
+    both : (trim : Bool) (row : List Glyph) → row ++ (t .spaces ++ t .word)
+        ≡ cond (not (empty row) || not trim) [] (t .spaces) ++ ((row ++ cond (not (empty row) || not trim) (t .spaces) []) ++ t .word)
+    both true [] = refl
+    both false [] = refl
+    both trim (g ∷ row) = simp append-assoc
+
+-- step 3 likewise
+pub fitting-split : (room : ℕ) (l : List Glyph) → l ≡ fitting room l ++ afterFitting room l
+fitting-split room [] = refl
+fitting-split room (g ∷ l) = both (leb (g .width) room) (fitting (room - g .width) l) (afterFitting (room - g .width) l) (fitting-split (room - g .width) l)
+  where
+    both : (b : Bool) (x y : List Glyph) → l ≡ x ++ y → g ∷ l ≡ cond b (g ∷ x) [] ++ cond b y (g ∷ l)
+    both true x y e = cc
+    both false x y e = refl

@@ -1,0 +1,29 @@
+-- `reflow::Wrapper::gathered` meets its contract.
+use Rattle.reflow.proofs.RunLaws.{laws, append-width}
+use native.Mathlib.Omega.{arith}
+use borrow.Author.Needs.{needs}
+use Rattle.reflow.proofs.Wrapper.gathered.Statement.{statement}
+use Rattle.reflow.proofs.Wrapper.gathered.Tie as tie
+
+returns : tie.Need-returns
+returns c = search laws
+
+append-requires : tie.Need-append-requires
+append-requires c κs = search needs
+
+returns-2 : tie.Need-returns-2
+returns-2 c = search laws
+
+append-requires-2 : tie.Need-append-requires-2
+append-requires-2 c κs = search needs
+
+append-requires-3 : tie.Need-append-requires-3
+append-requires-3 c κs = omega (arith, append-width)
+
+returns-3 : tie.Need-returns-3
+returns-3 c = search laws
+
+pub gathered-spec : {M : Type 1} → statement M
+gathered-spec =
+    tie.close
+    (tie.spec returns append-requires returns-2 append-requires-2 append-requires-3 returns-3)

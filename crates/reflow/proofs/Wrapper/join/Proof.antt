@@ -1,0 +1,18 @@
+-- `reflow::Wrapper::join` meets its contract.
+use Rattle.reflow.specs.Runs.{joinRun}
+use borrow.Author.Needs.{needs}
+use Rattle.reflow.proofs.Wrapper.join.Statement.{statement}
+use Rattle.reflow.proofs.Wrapper.join.Tie as tie
+
+gathered-requires : tie.Need-gathered-requires
+gathered-requires c κs = search needs
+
+empty-requires : tie.Need-empty-requires
+empty-requires c κs = search needs
+
+returns : tie.Need-returns
+unfolding joinRun
+returns c = cc
+
+pub join-spec : {M : Type 1} → statement M
+join-spec = tie.close (tie.spec gathered-requires empty-requires returns)

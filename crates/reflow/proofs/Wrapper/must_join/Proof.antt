@@ -1,0 +1,24 @@
+-- `reflow::Wrapper::must_join` meets its contract.
+use Rattle.reflow.proofs.RunLaws.{laws}
+use borrow.Author.Needs.{needs}
+use Rattle.reflow.proofs.Wrapper.must_join.Statement.{statement}
+use Rattle.reflow.proofs.Wrapper.must_join.Tie as tie
+
+ends-word-requires : tie.Need-ends-word-requires
+ends-word-requires c κs = search needs
+
+returns : tie.Need-returns
+returns c = search laws
+
+overflows-requires : tie.Need-overflows-requires
+overflows-requires c κs = search needs
+
+returns-2 : tie.Need-returns-2
+returns-2 c = search laws
+
+returns-3 : tie.Need-returns-3
+returns-3 c = search laws
+
+pub must-join-spec : {M : Type 1} → statement M
+must-join-spec =
+    tie.close (tie.spec ends-word-requires returns overflows-requires returns-2 returns-3)

@@ -1,0 +1,30 @@
+-- `reflow::Wrapper::overflows` meets its contract.
+use Rattle.reflow.proofs.RunLaws.{laws}
+use borrow.Author.Needs.{needs}
+use Rattle.reflow.proofs.Wrapper.overflows.Statement.{statement}
+use Rattle.reflow.proofs.Wrapper.overflows.Tie as tie
+
+add-if2 : tie.Need-add-if2
+add-if2 c = search needs
+
+add-result : tie.Need-add-result
+add-result c = search needs
+
+returns : tie.Need-returns
+returns c = search laws
+
+returns-2 : tie.Need-returns-2
+returns-2 c = search laws
+
+add-result-2 : tie.Need-add-result-2
+add-result-2 c = search needs
+
+add-result-3 : tie.Need-add-result-3
+add-result-3 c = search needs
+
+returns-3 : tie.Need-returns-3
+returns-3 c = search laws
+
+pub overflows-spec : {M : Type 1} → statement M
+overflows-spec =
+    tie.close (tie.spec add-if2 add-result returns returns-2 add-result-2 add-result-3 returns-3)

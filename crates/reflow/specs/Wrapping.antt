@@ -1,0 +1,161 @@
+-- Document 01, 'Wrapping (reflow.rs, `WordWrapper`)': the lines of one text line, and the glyphs that it drops.
+use Prim.Native.Nat.{ℕ, _+_, _-_}
+use mathlib.Core.Bool.{Bool, true, false, cond, not, _&&_, _||_}
+use mathlib.Core.List.{List, [], _∷_, _++_}
+use lib.Dec.{eqb, leb, ltb}
+use Rattle.text.specs.Line.{Glyph}
+use Rattle.reflow.specs.declared.Rule.{Rule}
+
+-- row, spaces and word, and "previous was solid"
+pub record Pending : Type 0 where
+  pub row : List Glyph
+  pub spaces : List Glyph
+  pub word : List Glyph
+  pub solid : Bool
+
+-- "For each text line start with row, spaces and word empty and 'previous was solid' false."
+abbrev pub start : Pending
+start = record { row = []; spaces = []; word = []; solid = false }
+
+-- A list is empty that has no glyph, whatever the widths.
+abbrev pub empty : {A : Type 0} → List A → Bool
+empty [] = true
+empty (x ∷ xs) = false
+
+-- "A list's width is its sum."
+abbrev pub total : List Glyph → ℕ
+total [] = 0
+total (g ∷ gs) = g .width + total gs
+
+-- What a glyph comes to: the lines emitted, none or one, the glyphs dropped, and what is pending then.
+pub record Step : Type 0 where
+  pub lines : List (List Glyph)
+  pub dropped : List Glyph
+  pub pending : Pending
+
+-- 1. "If w exceeds the limit, skip it and change nothing else."
+unfoldable pub overWide : Rule → Glyph → Bool
+overWide u g = ltb (u .limit) (g .width)
+
+-- 2. "Join if it is whitespace and previous was solid. Join also if row is empty and: trimming, word + w or spaces + w exceeds
+-- the limit; not trimming, word + spaces + w does."
+unfoldable pub mustJoin : Rule → Pending → Glyph → Bool
+mustJoin u s g =
+    (g .whitespace && s .solid)
+    || (empty (s .row)
+    && cond (u .trim)
+    (ltb (u .limit) (total (s .word) + g .width) || ltb (u .limit) (total (s .spaces) + g .width))
+    (ltb (u .limit) (total (s .word) + total (s .spaces) + g .width)))
+
+-- "To join, append spaces to row if row isn't empty or trim is off, then append word; empty both."
+unfoldable pub takesSpaces : Rule → Pending → Bool
+takesSpaces u s = not (empty (s .row)) || not (u .trim)
+
+unfoldable pub gathered : Rule → Pending → List Glyph
+gathered u s = (s .row ++ cond (takesSpaces u s) (s .spaces) []) ++ s .word
+
+unfoldable pub joined : Rule → Pending → Pending
+joined u s = record { row = gathered u s; spaces = []; word = []; solid = s .solid }
+
+-- spaces that aren't appended there; they are dropped
+unfoldable pub unjoined : Rule → Pending → List Glyph
+unjoined u s = cond (takesSpaces u s) [] (s .spaces)
+
+-- 3. "If row is at least the limit, or w > 0 and row + spaces + word is at least the limit": then
+unfoldable pub full : Rule → Pending → Glyph → Bool
+full u s g =
+    leb (u .limit) (total (s .row))
+    || (ltb 0 (g .width) && leb (u .limit) (total (s .row) + total (s .spaces) + total (s .word)))
+
+-- "emit row, leaving it empty, then drop spaces from the front while each fits in (limit less the emitted width, held at 0) less
+-- those dropped."
+abbrev pub fitting : ℕ → List Glyph → List Glyph
+fitting room [] = []
+fitting room (g ∷ gs) = cond (leb (g .width) room) (g ∷ fitting (room - g .width) gs) []
+
+abbrev pub afterFitting : ℕ → List Glyph → List Glyph
+afterFitting room [] = []
+afterFitting room (g ∷ gs) = cond (leb (g .width) room) (afterFitting (room - g .width) gs) (g ∷ gs)
+
+unfoldable pub emptied : Rule → Pending → Pending
+emptied u s =
+    record {
+      row = [];
+      spaces = afterFitting (u .limit - total (s .row)) (s .spaces);
+      word = s .word;
+      solid = s .solid;
+    }
+
+-- "After such an emit, if the glyph is whitespace and spaces is now empty, drop it and go to the next glyph, 'previous'
+-- unchanged."
+unfoldable pub drops : Pending → Glyph → Bool
+drops s g = g .whitespace && empty (s .spaces)
+
+-- 4. "Append it to spaces or word; previous is solid if it isn't whitespace."
+unfoldable pub appended : Pending → Glyph → Pending
+appended s g =
+    cond (g .whitespace)
+    (record { row = s .row; spaces = s .spaces ++ (g ∷ []); word = s .word; solid = false })
+    (record { row = s .row; spaces = s .spaces; word = s .word ++ (g ∷ []); solid = true })
+
+-- steps 3 and 4
+unfoldable pub emitting : Rule → Pending → Glyph → Step
+emitting u s g =
+    record {
+      lines = s .row ∷ [];
+      dropped = fitting (u .limit - total (s .row)) (s .spaces) ++ cond (drops (emptied u s) g) (g ∷ []) [];
+      pending = cond (drops (emptied u s) g) (emptied u s) (appended (emptied u s) g);
+    }
+
+unfoldable pub filled : Rule → Pending → Glyph → Step
+filled u s g = cond (full u s g) (emitting u s g) (record { lines = []; dropped = []; pending = appended s g })
+
+-- step 2, then 3 and 4
+unfoldable pub joining : Rule → Pending → Glyph → Step
+joining u s g =
+    let next = filled u (joined u s) g in
+    record { lines = next .lines; dropped = unjoined u s ++ next .dropped; pending = next .pending }
+
+-- "For each glyph of width w": all four
+unfoldable pub step : Rule → Pending → Glyph → Step
+step u s g =
+    cond (overWide u g)
+    (record { lines = []; dropped = []; pending = s })
+    (cond (mustJoin u s g) (joining u s g) (filled u s g))
+
+-- "At the line's end: if row and word are empty, spaces isn't and trim is on, emit an empty line. Append spaces to row if row
+-- isn't empty or trim is off; append word; emit row if not empty."
+unfoldable pub lastLines : Rule → Pending → List (List Glyph)
+lastLines u s =
+    cond (empty (s .row) && empty (s .word) && not (empty (s .spaces)) && u .trim) ([] ∷ []) []
+    ++ cond (empty (gathered u s)) [] (gathered u s ∷ [])
+
+-- "If the line has emitted nothing, emit an empty line." `emitted` says that it has.
+unfoldable pub finish : Rule → Bool → Pending → List (List Glyph)
+finish u emitted s = cond (emitted || not (empty (lastLines u s))) (lastLines u s) ([] ∷ [])
+
+-- what a text line comes to
+pub record Wrapped : Type 0 where
+  pub lines : List (List Glyph)
+  pub dropped : List Glyph
+
+-- its glyphs from a state on; at its end, "Spaces never appended are dropped."
+abbrev pub wrapFrom : Rule → Bool → Pending → List Glyph → Wrapped
+wrapFrom u emitted s [] = record { lines = finish u emitted s; dropped = unjoined u s }
+wrapFrom u emitted s (g ∷ gs) =
+    let now = step u s g in
+    let later = wrapFrom u (emitted || not (empty (now .lines))) (now .pending) gs in
+    record { lines = now .lines ++ later .lines; dropped = now .dropped ++ later .dropped }
+
+-- "Limit 0 gives no line."
+unfoldable pub wrap : Rule → List Glyph → Wrapped
+wrap u gs = cond (eqb (u .limit) 0) (record { lines = []; dropped = [] }) (wrapFrom u false start gs)
+
+-- the glyphs that step 1 skips, and the others
+abbrev pub overWides : Rule → List Glyph → List Glyph
+overWides u [] = []
+overWides u (g ∷ gs) = cond (overWide u g) (g ∷ overWides u gs) (overWides u gs)
+
+abbrev pub notOverWide : Rule → List Glyph → List Glyph
+notOverWide u [] = []
+notOverWide u (g ∷ gs) = cond (overWide u g) (notOverWide u gs) (g ∷ notOverWide u gs)

@@ -1,0 +1,281 @@
+// The wrapper's steps: each takes the state and hands the next one back.
+use crate::Next;
+use crate::Rule;
+use crate::Run;
+use crate::Stepped;
+use crate::Wrapper;
+use text::glyph;
+ghost use mathlib.Core.Path.{_≡_};
+ghost use mathlib.Core.Bool.{_&&_};
+ghost use Prim.Native.Nat.{_+_, _-_, _^_, _≤_, _<_};
+ghost use lib.ListN.{length, getD};
+ghost use Rattle.reflow.specs.Runs.{startRun, gatherRun, joinRun, overflowing, joins, joinedRun, fullRun, runOf, glyphsIn, emptiedRun, passedRun, appendedRun, restRun, filledRun, stepRun, closedRun, finishRun};
+ghost use Rattle.reflow.specs.Pulls.{Sound, Pulled};
+
+// a less b, held at 0
+fn less(a: u32, b: u32) -> u32
+    ensures { λ r. ⌜ r ≡ a - b ⌝ }
+{
+    if a < b {
+        return 0;
+    }
+    a - b
+}
+
+impl Wrapper {
+    // The state before a text line's first glyph. Limit 0 gives no line.
+    pub fn start(rule: Rule) -> Wrapper
+        ensures { λ r. ⌜ r ≡ startRun rule ⌝ }
+    {
+        let none = Run::empty();
+        Wrapper {
+            row: none,
+            spaces: none,
+            word: none,
+            solid: false,
+            emitted: false,
+            live: rule.limit != 0,
+            at: 0,
+        }
+    }
+
+    // Row, then spaces if row isn't empty or trim is off, then word.
+    fn gathered(self, trim: bool) -> Run
+        requires { ⌜ self .row .width + self .spaces .width + self .word .width < 2 ^ 32 ⌝ }
+        ensures { λ r. ⌜ r ≡ gatherRun trim self ⌝ }
+    {
+        let row = self.row;
+        let spaces = self.spaces;
+        let word = self.word;
+        if row.end == 0 {
+            if trim {
+                return word;
+            }
+            return spaces.append(word);
+        }
+        let long = row.append(spaces);
+        long.append(word)
+    }
+
+    fn join(self, trim: bool) -> Wrapper
+        requires { ⌜ self .row .width + self .spaces .width + self .word .width < 2 ^ 32 ⌝ }
+        ensures { λ r. ⌜ r ≡ joinRun trim self ⌝ }
+    {
+        let row = self.gathered(trim);
+        let none = Run::empty();
+        Wrapper {
+            row,
+            spaces: none,
+            word: none,
+            solid: self.solid,
+            emitted: self.emitted,
+            live: self.live,
+            at: self.at,
+        }
+    }
+
+    // A word ends where whitespace follows a solid glyph.
+    fn ends_word(self, space: bool) -> bool
+        ensures { λ r. ⌜ r ≡ (space && self .solid) ⌝ }
+    {
+        if space {
+            return self.solid;
+        }
+        false
+    }
+
+    // What waits, with a glyph of width w, would overflow an empty row.
+    fn overflows(self, rule: Rule, w: u32) -> bool
+        requires { ⌜ self .row .width + self .spaces .width + self .word .width + w < 2 ^ 32 ⌝ }
+        ensures { λ r. ⌜ r ≡ overflowing rule self w ⌝ }
+    {
+        if rule.trim {
+            return rule.limit < self.word.width + w || rule.limit < self.spaces.width + w;
+        }
+        rule.limit < self.word.width + self.spaces.width + w
+    }
+
+    // Step 2's test.
+    fn must_join(self, rule: Rule, w: u32, space: bool) -> bool
+        requires { ⌜ self .row .width + self .spaces .width + self .word .width + w < 2 ^ 32 ⌝ }
+        ensures { λ r. ⌜ r ≡ joins rule self w space ⌝ }
+    {
+        if self.ends_word(space) {
+            return true;
+        }
+        if self.row.end == 0 {
+            return self.overflows(rule, w);
+        }
+        false
+    }
+
+    // Step 2.
+    fn joined(self, rule: Rule, w: u32, space: bool) -> Wrapper
+        requires { ⌜ self .row .width + self .spaces .width + self .word .width + w < 2 ^ 32 ⌝ }
+        ensures { λ r. ⌜ r ≡ joinedRun rule self w space ⌝ }
+    {
+        if self.must_join(rule, w, space) {
+            return self.join(rule.trim);
+        }
+        self
+    }
+
+    // Step 3's test.
+    fn is_full(self, rule: Rule, w: u32) -> bool
+        requires { ⌜ self .row .width + self .spaces .width + self .word .width + w < 2 ^ 32 ⌝ }
+        ensures { λ r. ⌜ r ≡ fullRun rule self w ⌝ }
+    {
+        rule.limit <= self.row.width
+            || (0 < w && rule.limit <= self.row.width + self.spaces.width + self.word.width)
+    }
+
+    // Step 3: the row has been emitted, and spaces are dropped while they fit where it ended.
+    fn emptied(self, rule: Rule, records: &[u32]) -> Wrapper
+        requires { ⌜ (self .spaces .end ≤ length (now records)) × (self .spaces ≡ runOf (glyphsIn rule (now records) (self .spaces))) ⌝ }
+        ensures { λ r. ⌜ r ≡ emptiedRun rule (now (records .entry)) self ⌝ }
+    {
+        let row = self.row;
+        let spaces = self.spaces;
+        let word = self.word;
+        let room = less(rule.limit, row.width);
+        let left = spaces.after_fitting(records, rule, room);
+        let none = Run::empty();
+        Wrapper {
+            row: none,
+            spaces: left,
+            word,
+            solid: self.solid,
+            emitted: true,
+            live: self.live,
+            at: self.at,
+        }
+    }
+
+    // The glyph is left behind.
+    fn passed(self) -> Wrapper
+        requires { ⌜ self .at + 1 < 2 ^ 64 ⌝ }
+        ensures { λ r. ⌜ r ≡ passedRun self ⌝ }
+    {
+        let mut next = self;
+        next.at = self.at + 1;
+        next
+    }
+
+    // Step 4.
+    fn appended(self, w: u32, space: bool) -> Wrapper
+        requires { ⌜ (self .row .width + self .spaces .width + self .word .width + w < 2 ^ 32) × (self .at + 1 < 2 ^ 64) ⌝ }
+        ensures { λ r. ⌜ r ≡ appendedRun self w space ⌝ }
+    {
+        let at = self.at;
+        let mut next = self;
+        next.at = at + 1;
+        if space {
+            let spaces = self.spaces;
+            let longer = spaces.push(at, w);
+            next.spaces = longer;
+            next.solid = false;
+            return next;
+        }
+        let word = self.word;
+        let longer = word.push(at, w);
+        next.word = longer;
+        next.solid = true;
+        next
+    }
+
+    // After an emit: a whitespace glyph is dropped where spaces is now empty.
+    fn rest(self, w: u32, space: bool) -> Wrapper
+        requires { ⌜ (self .row .width + self .spaces .width + self .word .width + w < 2 ^ 32) × (self .at + 1 < 2 ^ 64) ⌝ }
+        ensures { λ r. ⌜ r ≡ restRun self w space ⌝ }
+    {
+        if space {
+            if self.spaces.end == 0 {
+                return self.passed();
+            }
+            return self.appended(w, space);
+        }
+        self.appended(w, space)
+    }
+
+    // Steps 3 and 4, for a glyph that isn't over-wide, after the join.
+    fn filled(self, rule: Rule, records: &[u32], w: u32, space: bool) -> Stepped
+        requires { ⌜ Sound rule (now records) self ⌝ }
+        requires { ⌜ (length (now records) < 2 ^ 28) × (self .at < length (now records)) × (w < 8) ⌝ }
+        ensures { λ r. ⌜ r ≡ filledRun rule (now (records .entry)) self w space ⌝ }
+    {
+        let row = self.row;
+        if self.is_full(rule, w) {
+            let left = self.emptied(rule, records);
+            return Stepped::Emitted(row, left.rest(w, space));
+        }
+        Stepped::Went(self.appended(w, space))
+    }
+
+    // What the glyph at the state's place does.
+    fn step(self, rule: Rule, records: &[u32]) -> Stepped
+        requires { ⌜ Sound rule (now records) self ⌝ }
+        requires { ⌜ (length (now records) < 2 ^ 28) × (self .at < length (now records)) ⌝ }
+        ensures { λ r. ⌜ r ≡ stepRun rule (now (records .entry)) self (getD (now (records .entry)) (self .at) 0) ⌝ }
+    {
+        let at = self.at;
+        let record = records[at];
+        let w = glyph::width(record);
+        let space = glyph::is_whitespace(record);
+        if rule.limit < w {
+            return Stepped::Went(self.passed());
+        }
+        self.joined(rule, w, space).filled(rule, records, w, space)
+    }
+
+    // No line is left.
+    pub fn closed(self) -> Wrapper
+        ensures { λ r. ⌜ r ≡ closedRun self ⌝ }
+    {
+        let mut next = self;
+        next.live = false;
+        next
+    }
+
+    // The line's end.
+    fn finish(self, rule: Rule) -> Next
+        requires { ⌜ self .row .width + self .spaces .width + self .word .width < 2 ^ 32 ⌝ }
+        ensures { λ r. ⌜ r ≡ finishRun rule self ⌝ }
+    {
+        let last = self.gathered(rule.trim);
+        let none = Run::empty();
+        let next = self.closed();
+        if last.end == 0 {
+            if self.spaces.end == 0 {
+                if self.emitted {
+                    return Next::Done;
+                }
+                return Next::Line(none, next);
+            }
+            return Next::Line(none, next);
+        }
+        Next::Line(last, next)
+    }
+
+    // The next line of the text line whose records are handed on, or none.
+    pub fn next_line(self, rule: Rule, records: &[u32]) -> Next
+        requires { ⌜ Sound rule (now records) self ⌝ }
+        requires { ⌜ length (now records) < 2 ^ 28 ⌝ }
+        ensures { λ r. ⌜ Pulled rule (now (records .entry)) self r ⌝ }
+    {
+        if self.live {
+            let mut wrapper = self;
+            while wrapper.at < records.len() {
+                match wrapper.step(rule, records) {
+                    Stepped::Emitted(line, next) => {
+                        return Next::Line(line, next);
+                    }
+                    Stepped::Went(next) => {
+                        wrapper = next;
+                    }
+                }
+            }
+            return wrapper.finish(rule);
+        }
+        Next::Done
+    }
+}
