@@ -1,0 +1,116 @@
+-- accounted: whatever is asked of a glyph, as many of a text line's glyphs have it as of those emitted, dropped and over-wide.
+-- accounted-lengths: so the glyphs emitted, dropped and over-wide are together as many as the text line's.
+-- exactly-once: so every glyph of a text line is emitted, dropped or over-wide, and only once.
+use Prim.Native.Nat.{ℕ, suc, _+_, _-_, _≤_, _<_}
+use mathlib.Core.Path.{_≡_, refl, ap, _∙_}
+use mathlib.Core.Bool.{Bool, true, false, cond, not, _||_}
+use mathlib.Core.List.{List, [], _∷_, _++_, append-nil}
+use native.Mathlib.Omega.{arith}
+use borrow.Author.Tests.{eqb-true, eqb-false, ne-eqb}
+use lib.Dec.{eqb}
+use lib.ListN.{length}
+use Rattle.text.specs.Line.{Glyph, numbered}
+use Rattle.reflow.specs.declared.Rule.{Rule}
+use Rattle.reflow.specs.Wrapping.{Pending, Step, empty, total, start, overWide, takesSpaces, gathered, joined, unjoined, emptied, appended, filled, joining, step, wrapFrom, wrap, overWides}
+use Rattle.nothing_lost.specs.Glyphs.{glyphsOfAll, countOf}
+use Rattle.nothing_lost.proofs.Lists.{cases, glyphs-append}
+use Rattle.nothing_lost.proofs.Steps.{appended-ways, filled-ways, step-ways, fitting-first, finish-gathers, wraps}
+
+module _ (test : Glyph → Bool) where
+  count-append : (a b : List Glyph) → countOf test (a ++ b) ≡ countOf test a + countOf test b
+  count-append [] b = omega arith
+  count-append (g ∷ a) b = omega (arith, count-append a b)
+
+  -- those pending
+  unfoldable held : Pending → ℕ
+  held s = countOf test (s .row) + countOf test (s .spaces) + countOf test (s .word)
+
+  -- those of a step's lines, those that it drops and those pending after it
+  unfoldable after : Step → ℕ
+  after t = countOf test (glyphsOfAll (t .lines)) + countOf test (t .dropped) + held (t .pending)
+
+  gathered-count : (u : Rule) (s : Pending) → countOf test (gathered u s) + countOf test (unjoined u s) ≡ held s
+  unfolding gathered unjoined held
+  gathered-count u s = go (takesSpaces u s)
+    where
+      go : (b : Bool) → countOf test ((s .row ++ cond b (s .spaces) []) ++ s .word) + countOf test (cond b [] (s .spaces))
+          ≡ countOf test (s .row) + countOf test (s .spaces) + countOf test (s .word)
+      go true = simp count-append (omega arith)
+      go false = simp count-append (omega arith)
+
+  appended-count : (s : Pending) (g : Glyph) → held (appended s g) ≡ held s + countOf test (g ∷ [])
+  unfolding held
+  appended-count s g =
+      appended-ways s g (λ (t : Pending). held t ≡ held s + countOf test (g ∷ []))
+      (λ _. simp count-append (omega arith)) (λ _. simp count-append (omega arith))
+
+  filled-count : (u : Rule) (s : Pending) (g : Glyph) → after (filled u s g) ≡ held s + countOf test (g ∷ [])
+  unfolding after held emptied
+  filled-count u s g =
+      let parts = ap (countOf test) (fitting-first (u .limit - total (s .row)) (s .spaces)) in
+      filled-ways u s g (λ (t : Step). after t ≡ held s + countOf test (g ∷ []))
+      (λ _ _. simp (count-append, append-nil) (omega (arith, simp count-append at parts)))
+      (λ _. simp append-nil (omega (arith, simp count-append at parts, appended-count (emptied u s) g)))
+      (λ _. omega (arith, appended-count s g))
+
+  step-count : (u : Rule) (s : Pending) (g : Glyph) →
+      after (step u s g) + countOf test (overWides u (g ∷ [])) ≡ held s + countOf test (g ∷ [])
+  unfolding after held joining joined
+  step-count u s g =
+      step-ways u s g (λ (t : Step). after t + countOf test (overWides u (g ∷ [])) ≡ held s + countOf test (g ∷ []))
+      (λ o. rw o (omega arith))
+      (λ o _. rw o (simp count-append (omega (arith, filled-count u (joined u s) g, gathered-count u s))))
+      (λ o _. rw o (omega (arith, filled-count u s g)))
+
+  over-first : (u : Rule) (g : Glyph) (gs : List Glyph) →
+      countOf test (overWides u (g ∷ gs)) ≡ countOf test (overWides u (g ∷ [])) + countOf test (overWides u gs)
+  over-first u g gs = go (overWide u g)
+    where
+      go : (b : Bool) →
+          countOf test (cond b (g ∷ overWides u gs) (overWides u gs)) ≡ countOf test (cond b (g ∷ []) []) + countOf test (overWides u gs)
+      go true = omega arith
+      go false = omega arith
+
+  from-count : (u : Rule) (emitted : Bool) (s : Pending) (gs : List Glyph) →
+      countOf test (glyphsOfAll (wrapFrom u emitted s gs .lines)) + countOf test (wrapFrom u emitted s gs .dropped) + countOf test (overWides u gs)
+      ≡ held s + countOf test gs
+  unfolding after
+  from-count u emitted s [] = simp finish-gathers (omega (arith, gathered-count u s))
+  from-count u emitted s (g ∷ gs) =
+      let later = from-count u (emitted || not (empty (step u s g .lines))) (step u s g .pending) gs in
+      simp (glyphs-append, count-append) (omega (arith, step-count u s g, over-first u g gs, later))
+
+-- of each number a text line has one glyph
+abbrev pub numberIs : ℕ → Glyph → Bool
+numberIs n g = eqb (g .number) n
+
+numbered-none : (n k : ℕ) (rs : List ℕ) → n < k → countOf (numberIs n) (numbered k rs) ≡ 0
+numbered-none n k [] h = refl
+numbered-none n k (r ∷ rs) h =
+    rw (ne-eqb k n (λ (e : k ≡ n). omega arith)) (omega (arith, numbered-none n (suc k) rs (omega arith)))
+
+numbered-once : (n k : ℕ) (rs : List ℕ) → k ≤ n → n < k + length rs → countOf (numberIs n) (numbered k rs) ≡ 1
+numbered-once n k [] h l = omega arith
+numbered-once n k (r ∷ rs) h l =
+    cases (λ (b : Bool). cond b 1 0 + countOf (numberIs n) (numbered (suc k) rs) ≡ 1) (eqb k n)
+    (λ e. let same = eqb-true k n e in omega (arith, numbered-none n (suc k) rs (omega arith)))
+    (λ e. let other = eqb-false k n e in omega (arith, numbered-once n (suc k) rs (omega arith) (omega arith)))
+
+all-counted : (gs : List Glyph) → countOf (λ _. true) gs ≡ length gs
+all-counted [] = refl
+all-counted (g ∷ gs) = omega (arith, all-counted gs)
+
+module _ (u : Rule) (gs : List Glyph) (h : 0 < u .limit) where
+  pub accounted : (test : Glyph → Bool) →
+      countOf test (glyphsOfAll (wrap u gs .lines)) + countOf test (wrap u gs .dropped) + countOf test (overWides u gs) ≡ countOf test gs
+  unfolding held
+  accounted test = rw (wraps u gs h) (omega (arith, from-count test u false start gs))
+
+  pub accounted-lengths : length (glyphsOfAll (wrap u gs .lines)) + length (wrap u gs .dropped) + length (overWides u gs) ≡ length gs
+  accounted-lengths = simp all-counted at (accounted (λ _. true))
+
+pub exactly-once : (u : Rule) (k : ℕ) (rs : List ℕ) → 0 < u .limit → (n : ℕ) → k ≤ n → n < k + length rs →
+    countOf (numberIs n) (glyphsOfAll (wrap u (numbered k rs) .lines)) + countOf (numberIs n) (wrap u (numbered k rs) .dropped)
+    + countOf (numberIs n) (overWides u (numbered k rs))
+    ≡ 1
+exactly-once u k rs h n from below = accounted u (numbered k rs) h (numberIs n) ∙ numbered-once n k rs from below

@@ -1,0 +1,217 @@
+-- one-cell: where every glyph has one cell, no line is wider than the limit.
+-- any-cells: where no glyph has more than 7, no line is wider than the limit and 13 more.
+-- numbered-widths: no glyph of a record has more than 7, whatever the record's bits.
+use Prim.Native.Nat.{ℕ, suc, _+_, _-_, _≤_, _<_}
+use mathlib.Core.Path.{_≡_, refl, sym, ap, _∙_}
+use mathlib.Core.Bool.{Bool, true, false, cond, not, _&&_, _||_, true≢false, false≢true}
+use mathlib.Core.List.{List, [], _∷_, _++_}
+use native.Mathlib.Omega.{arith}
+use borrow.Author.Tests.{ltb-true, ltb-false, leb-false, lt-ltb}
+use lib.Dec.{eqb, leb, ltb}
+use Rattle.text.specs.Line.{Glyph, glyphFrom, numbered}
+use Rattle.reflow.specs.declared.Rule.{Rule}
+use Rattle.reflow.specs.Wrapping.{Pending, Step, Wrapped, empty, total, start, overWide, mustJoin, takesSpaces, gathered, joined, full, fitting, afterFitting, emptied, appended, filled, joining, step, lastLines, finish, wrapFrom, wrap}
+use Rattle.nothing_lost.specs.Glyphs.{Widths, NoWider, none, one}
+use Rattle.nothing_lost.proofs.Lists.{cases, cond-cases}
+use Rattle.nothing_lost.proofs.Steps.{appended-ways, filled-ways, step-ways, fitting-first}
+
+total-append : (a b : List Glyph) → total (a ++ b) ≡ total a + total b
+total-append [] b = omega arith
+total-append (g ∷ a) b = omega (arith, total-append a b)
+
+no-wider-append : {most : ℕ} {a b : List (List Glyph)} → NoWider most a → NoWider most b → NoWider most (a ++ b)
+no-wider-append none q = q
+no-wider-append (one w p) q = one w (no-wider-append p q)
+
+widths-append : {least most : ℕ} {a b : List Glyph} → Widths least most a → Widths least most b → Widths least most (a ++ b)
+widths-append none q = q
+widths-append (one l m p) q = one l m (widths-append p q)
+
+widths-right : {least most : ℕ} (a : List Glyph) {b : List Glyph} → Widths least most (a ++ b) → Widths least most b
+widths-right [] p = p
+widths-right (g ∷ a) (one l m p) = widths-right a p
+
+widths-after : {least most : ℕ} (room : ℕ) (gs : List Glyph) → Widths least most gs → Widths least most (afterFitting room gs)
+widths-after room gs z = widths-right (fitting room gs) (rw fitting-first z)
+
+total-after : (room : ℕ) (gs : List Glyph) → total (afterFitting room gs) ≤ total gs
+total-after room gs = omega (arith, simp total-append at (ap total (fitting-first room gs)))
+
+empty-total : (gs : List Glyph) → empty gs ≡ true → total gs ≡ 0
+empty-total [] e = refl
+empty-total (g ∷ gs) e = absurd (false≢true e)
+
+least-total : {least most : ℕ} (gs : List Glyph) → empty gs ≡ false → Widths least most gs → least ≤ total gs
+least-total [] e z = absurd (true≢false e)
+least-total (g ∷ gs) e (one l m z) = omega arith
+
+-- what a test that came out false says
+or-left : (a b : Bool) → (a || b) ≡ false → a ≡ false
+or-left true b e = e
+or-left false b e = refl
+
+or-right : (a b : Bool) → (a || b) ≡ false → b ≡ false
+or-right true b e = absurd (true≢false e)
+or-right false b e = e
+
+module _ (u : Rule) (s : Pending) (g : Glyph) where
+  not-full : full u s g ≡ false →
+      (total (s .row) < u .limit) × (0 < g .width → total (s .row) + total (s .spaces) + total (s .word) < u .limit)
+  unfolding full
+  not-full e = (
+    leb-false (u .limit) (total (s .row)) (or-left _ _ e),
+    λ h.
+        leb-false (u .limit) (total (s .row) + total (s .spaces) + total (s .word))
+        (rw (lt-ltb 0 (g .width) h) at (or-right (leb (u .limit) (total (s .row))) _ e)),
+  )
+
+  not-joined : mustJoin u s g ≡ false → empty (s .row) ≡ true →
+      (total (s .word) + g .width ≤ u .limit) × (u .trim ≡ false → total (s .spaces) + total (s .word) + g .width ≤ u .limit)
+  unfolding mustJoin
+  not-joined j e = go (u .trim) (rw e at (or-right (g .whitespace && s .solid) _ j))
+    where
+      go : (trim : Bool) →
+          cond trim (ltb (u .limit) (total (s .word) + g .width) || ltb (u .limit) (total (s .spaces) + g .width))
+          (ltb (u .limit) (total (s .word) + total (s .spaces) + g .width)) ≡ false →
+          (total (s .word) + g .width ≤ u .limit) × (trim ≡ false → total (s .spaces) + total (s .word) + g .width ≤ u .limit)
+      go true f = (ltb-false (u .limit) (total (s .word) + g .width) (or-left _ _ f), λ h. absurd (true≢false h))
+      go false f = let h = ltb-false (u .limit) (total (s .word) + total (s .spaces) + g .width) f in (omega arith, λ _. omega arith)
+
+-- Where row isn't empty, row, spaces and word have at most `tight` cells: below the limit one more glyph may come. A line has
+-- at most `wide`: where row goes, a glyph at least goes with it, and one more may come.
+module _ (u : Rule) (least most tight wide : ℕ)
+    (t : tight + 1 ≡ u .limit + most) (w : wide + least ≡ tight + most) (p : 1 ≤ most) (o : least ≤ most) where
+  -- with n cells more, what a join would make of an empty row is no wider than a line may be
+  record Ahead (s : Pending) (n : ℕ) : Type 0 where
+    pub word : total (s .word) + n ≤ wide
+    pub spaces : u .trim ≡ false → total (s .spaces) + total (s .word) + n ≤ wide
+
+  abbrev Tight : Pending → ℕ → Type 0
+  Tight s n = empty (s .row) ≡ false → total (s .row) + total (s .spaces) + total (s .word) + n ≤ tight
+
+  -- every glyph that is pending is as wide as a glyph may be
+  record Sized (s : Pending) : Type 0 where
+    pub row : Widths least most (s .row)
+    pub spaces : Widths least most (s .spaces)
+    pub word : Widths least most (s .word)
+
+  -- what holds of what is pending, and of a step
+  record Fine (s : Pending) : Type 0 where
+    pub sized : Sized s
+    pub ahead : Ahead s 0
+    pub below : Tight s 0
+
+  record Narrow (r : Step) : Type 0 where
+    pub lines : NoWider wide (r .lines)
+    pub fine : Fine (r .pending)
+
+  gathered-fits : (s : Pending) → Fine s → total (gathered u s) ≤ wide
+  unfolding gathered takesSpaces
+  gathered-fits s f = go (s .row) (u .trim) (f .below) (f .ahead .spaces)
+    where
+      go : (row : List Glyph) (trim : Bool) → (empty row ≡ false → total row + total (s .spaces) + total (s .word) + 0 ≤ tight)
+          → (trim ≡ false → total (s .spaces) + total (s .word) + 0 ≤ wide)
+          → total ((row ++ cond (not (empty row) || not trim) (s .spaces) []) ++ s .word) ≤ wide
+      go [] true k a = omega (arith, f .ahead .word)
+      go [] false k a = simp total-append (omega (arith, a refl))
+      go (g ∷ row) trim k a = simp total-append (omega (arith, k refl))
+
+  gathered-sized : (s : Pending) → Sized s → Widths least most (gathered u s)
+  unfolding gathered
+  gathered-sized s z =
+      let spaces = cond-cases (λ (gs : List Glyph). Widths least most gs) (takesSpaces u s) (λ _. z .spaces) (λ _. none) in
+      widths-append (widths-append (z .row) spaces) (z .word)
+
+  module _ (g : Glyph) (l : least ≤ g .width) (m : g .width ≤ most) where
+    appended-fine : (s : Pending) → Sized s → Ahead s (g .width) → Tight s (g .width) → Fine (appended s g)
+    appended-fine s z a k =
+        appended-ways s g (λ (t : Pending). Fine t)
+        (λ _.
+        record {
+          sized = record { row = z .row; spaces = widths-append (z .spaces) (one l m none); word = z .word };
+          ahead = record { word = omega (arith, a .word); spaces = λ e. simp total-append (omega (arith, a .spaces e)) };
+          below = λ e. simp total-append (omega (arith, k e));
+        })
+        (λ _.
+        record {
+          sized = record { row = z .row; spaces = z .spaces; word = widths-append (z .word) (one l m none) };
+          ahead = record { word = simp total-append (omega (arith, a .word)); spaces = λ e. simp total-append (omega (arith, a .spaces e)) };
+          below = λ e. simp total-append (omega (arith, k e));
+        })
+
+    filled-narrow : (s : Pending) → Sized s → total (s .row) ≤ wide → Ahead s (g .width) →
+        (full u s g ≡ false → Tight s (g .width)) → Narrow (filled u s g)
+    unfolding emptied
+    filled-narrow s z r a k =
+        let left = total-after (u .limit - total (s .row)) (s .spaces) in
+        let z' : Sized (emptied u s) = record { row = none; spaces = widths-after _ (s .spaces) (z .spaces); word = z .word } in
+        let a' : Ahead (emptied u s) (g .width) = record { word = a .word; spaces = λ e. omega (arith, a .spaces e) } in
+        filled-ways u s g (λ (t : Step). Narrow t)
+        (λ _ _.
+        let b : Ahead (emptied u s) 0 = record { word = omega (arith, a .word); spaces = λ e. omega (arith, a' .spaces e) } in
+        record { lines = one r none; fine = record { sized = z'; ahead = b; below = λ e. absurd (true≢false e) } })
+        (λ _. record { lines = one r none; fine = appended-fine (emptied u s) z' a' (λ e. absurd (true≢false e)) })
+        (λ e. record { lines = none; fine = appended-fine s z a (k e) })
+
+    step-narrow : (s : Pending) → Fine s → Narrow (step u s g)
+    unfolding overWide joining joined
+    step-narrow s f =
+        step-ways u s g (λ (t : Step). Narrow t)
+        (λ _. record { lines = none; fine = f })
+        (λ e _.
+        let fits = ltb-false (u .limit) (g .width) e in
+        let n =
+        filled-narrow (joined u s) (record { row = gathered-sized s (f .sized); spaces = none; word = none }) (gathered-fits s f)
+        (record { word = omega arith; spaces = λ _. omega arith }) (λ b _. omega (arith, not-full u (joined u s) g b .0)) in
+        record { lines = n .lines; fine = n .fine })
+        (λ _ j.
+        cases (λ _. Narrow (filled u s g)) (empty (s .row))
+        (λ e.
+        let fits = not-joined u s g j e in
+        filled-narrow s (f .sized) (omega (arith, empty-total (s .row) e))
+        (record { word = omega (arith, fits .0); spaces = λ b. omega (arith, fits .1 b) }) (λ _ h. absurd (true≢false (sym e ∙ h))))
+        (λ e.
+        let some = least-total (s .row) e (f .sized .row) in
+        let below = f .below e in
+        filled-narrow s (f .sized) (omega arith) (record { word = omega arith; spaces = λ _. omega arith })
+        (λ b _. cases (λ _. total (s .row) + total (s .spaces) + total (s .word) + g .width ≤ tight) (ltb 0 (g .width))
+        (λ h. omega (arith, not-full u s g b .1 (ltb-true 0 (g .width) h))) (λ h. omega (arith, ltb-false 0 (g .width) h)))))
+
+  finish-narrow : (emitted : Bool) (s : Pending) → Fine s → NoWider wide (finish u emitted s)
+  unfolding finish lastLines
+  finish-narrow emitted s f =
+      cond-cases (λ (lines : List (List Glyph)). NoWider wide lines) (emitted || not (empty (lastLines u s)))
+      (λ _.
+      no-wider-append
+      (cond-cases (λ (lines : List (List Glyph)). NoWider wide lines) (empty (s .row) && empty (s .word) && not (empty (s .spaces)) && u .trim)
+      (λ _. one (omega arith) none) (λ _. none))
+      (cond-cases (λ (lines : List (List Glyph)). NoWider wide lines) (empty (gathered u s)) (λ _. none) (λ _. one (gathered-fits s f) none)))
+      (λ _. one (omega arith) none)
+
+  from-narrow : (emitted : Bool) (s : Pending) (gs : List Glyph) → Widths least most gs → Fine s → NoWider wide (wrapFrom u emitted s gs .lines)
+  from-narrow emitted s [] z f = finish-narrow emitted s f
+  from-narrow emitted s (g ∷ gs) (one l m z) f =
+      let n = step-narrow g l m s f in
+      no-wider-append (n .lines) (from-narrow (emitted || not (empty (step u s g .lines))) (step u s g .pending) gs z (n .fine))
+
+  lines-narrow : (gs : List Glyph) → Widths least most gs → NoWider wide (wrap u gs .lines)
+  unfolding wrap
+  lines-narrow gs z =
+      cond-cases (λ (w : Wrapped). NoWider wide (w .lines)) (eqb (u .limit) 0) (λ _. none)
+      (λ _.
+      from-narrow false start gs z
+      (record {
+        sized = record { row = none; spaces = none; word = none };
+        ahead = record { word = omega arith; spaces = λ _. omega arith };
+        below = λ e. absurd (true≢false e);
+      }))
+
+pub one-cell : (u : Rule) (gs : List Glyph) → Widths 1 1 gs → NoWider (u .limit) (wrap u gs .lines)
+one-cell u = lines-narrow u 1 1 (u .limit) (u .limit) refl refl (omega arith) (omega arith)
+
+pub any-cells : (u : Rule) (gs : List Glyph) → Widths 0 7 gs → NoWider (u .limit + 13) (wrap u gs .lines)
+any-cells u = lines-narrow u 0 7 (u .limit + 6) (u .limit + 13) (omega arith) (omega arith) (omega arith) (omega arith)
+
+pub numbered-widths : (k : ℕ) (rs : List ℕ) → Widths 0 7 (numbered k rs)
+numbered-widths k [] = none
+numbered-widths k (r ∷ rs) = one {g = glyphFrom k r} (omega arith) (omega arith) (numbered-widths (suc k) rs)

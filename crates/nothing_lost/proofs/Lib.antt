@@ -1,0 +1,7 @@
+pub mod Lists
+pub mod Steps
+pub mod Solid
+pub mod Accounted
+pub mod Bounds
+pub mod Few
+pub mod Examples

@@ -1,0 +1,31 @@
+-- Words for the theorems: what is solid, what all lines hold, how often a glyph is there.
+use Prim.Native.Nat.{ℕ, _+_, _≤_}
+use mathlib.Core.Bool.{Bool, cond}
+use mathlib.Core.List.{List, [], _∷_, _++_}
+use Rattle.text.specs.Line.{Glyph}
+use Rattle.reflow.specs.Wrapping.{total}
+
+-- the glyphs that aren't whitespace, in order
+abbrev pub solids : List Glyph → List Glyph
+solids [] = []
+solids (g ∷ gs) = cond (g .whitespace) (solids gs) (g ∷ solids gs)
+
+-- the glyphs of lines, one line after another
+abbrev pub glyphsOfAll : List (List Glyph) → List Glyph
+glyphsOfAll [] = []
+glyphsOfAll (line ∷ lines) = line ++ glyphsOfAll lines
+
+-- how many glyphs pass a test
+abbrev pub countOf : (Glyph → Bool) → List Glyph → ℕ
+countOf test [] = 0
+countOf test (g ∷ gs) = cond (test g) 1 0 + countOf test gs
+
+-- every width is from the least to the most given
+pub data Widths (least most : ℕ) : List Glyph → Type 0 where
+  none : Widths least most []
+  one : {g : Glyph} {gs : List Glyph} → least ≤ g .width → g .width ≤ most → Widths least most gs → Widths least most (g ∷ gs)
+
+-- no line is wider than the most given
+pub data NoWider (most : ℕ) : List (List Glyph) → Type 0 where
+  none : NoWider most []
+  one : {line : List Glyph} {lines : List (List Glyph)} → total line ≤ most → NoWider most lines → NoWider most (line ∷ lines)

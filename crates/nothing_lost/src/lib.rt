@@ -1,0 +1,1 @@
+// No code: theorems over the wrapping rules, in proofs/.
