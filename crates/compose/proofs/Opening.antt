@@ -1,0 +1,94 @@
+-- A text line that was opened: its lines, and the lines that are left of the text.
+use Prim.Native.Nat.{ℕ, suc, _+_, _-_, _≤_, _<_}
+use mathlib.Core.Path.{_≡_, refl, sym, ap, _∙_}
+use mathlib.Core.Bool.{true}
+use mathlib.Core.List.{List, [], _∷_, _++_, map}
+use native.Mathlib.Numerals.{add-one}
+use native.Mathlib.Omega.{arith}
+use lib.ListN.{length, getD, take, drop, length-drop}
+use Rattle.text.specs.declared.Alignment.{Alignment}
+use Rattle.text.specs.Record.{isHead, alignmentOf}
+use Rattle.text.specs.Alignment.{resolved}
+use Rattle.text.specs.Line.{Glyph, TextLine, numbered, untilHead, linesFrom, glyphsOf}
+use Rattle.text.proofs.TextLines.{Opens, rest, rest-is, end-within, until-take, next-opens, line-first}
+use Rattle.reflow.specs.declared.Run.{Run}
+use Rattle.reflow.specs.declared.Rule.{Rule}
+use Rattle.reflow.specs.declared.Wrapper.{Wrapper}
+use Rattle.reflow.specs.Wrapping.{wrap}
+use Rattle.reflow.specs.Runs.{runOf, glyphsIn, startRun}
+use Rattle.reflow.specs.Pulls.{Sound, Spans, runs}
+use Rattle.reflow.proofs.Simulation.{ReadAll}
+use Rattle.reflow.proofs.WholeLine.{start-sound, start-runs, wrap-read}
+use Rattle.reflow.proofs.Renumbering.{renumber, numbered-from, lines-renumbered}
+use Rattle.compose.specs.declared.Composer.{Composer}
+use Rattle.compose.specs.Lines.{Line, aligned, lineLines, allLines, lines}
+use Rattle.compose.specs.Composing.{lineAt, part, composedRun, left, Ready, Opened}
+use Rattle.compose.proofs.Told.{told-line}
+
+-- the runs of lines, told of the text, are the lines numbered over the text
+module _ (u : Rule) (text : List ℕ) (from to : ℕ) (a : Alignment) where
+  abbrev records : List ℕ
+  records = take (to - from) (drop from text)
+
+  told-lines : (ls : List (List Glyph)) → ReadAll u records ls
+      → map (λ (run : Run). lineAt u text (composedRun from a run)) (map runOf ls) ≡ map (aligned a) (map (map (renumber from)) ls)
+  told-lines [] r = refl
+  told-lines (l ∷ ls) r =
+      let h : lineAt u text (composedRun from a (runOf l)) ≡ aligned a (map (renumber from) l)
+      = told-line u text from to a (runOf l) (r .0 .spans) ∙ ap (λ (gs : List Glyph). aligned a (map (renumber from) gs)) (r .0 .glyphs) in
+      let rest = told-lines ls (r .1) in
+      cc
+
+  -- from the start of a text line
+  started-lines : map (λ (run : Run). lineAt u text (composedRun from a run)) (runs u records (startRun u)) ≡ map (aligned a) (wrap u (numbered from records) .lines)
+  started-lines =
+      let z : from + 0 ≡ from = omega arith in
+      ap (map (λ (run : Run). lineAt u text (composedRun from a run))) (start-runs u records)
+      ∙ told-lines (wrap u (numbered 0 records) .lines) (wrap-read u records)
+      ∙ ap (map (aligned a)) (sym (lines-renumbered u from (numbered 0 records)))
+      ∙ ap (λ (gs : List Glyph). map (aligned a) (wrap u gs .lines)) (sym (numbered-from from 0 records))
+      ∙ rw z
+
+module _ (u : Rule) (own : Alignment) (text : List ℕ) (at : ℕ) (c : Composer) (k : at < length text) (h : Opens text at) (p : Opened u own text at c) where
+  opened-part : part text c ≡ untilHead (drop (at + 1) text)
+  opened-part =
+      let n : c .to - c .from ≡ length (untilHead (drop (at + 1) text)) = omega (arith, p .from, p .to) in
+      rw (n, p .from) (until-take (drop (at + 1) text))
+
+  pub opened-more : at < c .to
+  opened-more = omega (arith, p .to)
+
+  pub opened-ready : Ready u text c
+  opened-ready =
+      let next = next-opens text at (length (untilHead (drop (at + 1) text))) k h refl in
+      record {
+        from-to = omega (arith, p .from, p .to);
+        to-end = omega (arith, p .to, end-within text at k);
+        sound = rw (p .wrapper) (start-sound u (part text c));
+        head = rw (p .to) (next .head);
+      }
+
+  abbrev line : TextLine
+  line = record { head = getD text at 0; first = suc at; records = untilHead (drop (at + 1) text) }
+
+  opened-lines : map (λ (run : Run). lineAt u text (composedRun (c .from) (c .alignment) run)) (runs u (part text c) (c .wrapper)) ≡ lineLines u own line
+  unfolding lineLines
+  opened-lines =
+      let f : c .from ≡ suc at = p .from ∙ add-one at in
+      ap (λ (w : Wrapper). map (λ (run : Run). lineAt u text (composedRun (c .from) (c .alignment) run)) (runs u (part text c) w)) (p .wrapper)
+      ∙ started-lines u text (c .from) (c .to) (c .alignment)
+      ∙ ap (λ (rs : List ℕ). map (aligned (c .alignment)) (wrap u (numbered (c .from) rs) .lines)) opened-part
+      ∙ rw (f, p .alignment)
+
+  pub opened-left : left u own text c ≡ allLines u own (linesFrom at (drop at text))
+  unfolding left
+  opened-left =
+      let n = length (untilHead (drop (at + 1) text)) in
+      rw (opened-lines, p .to, line-first text at n k h refl)
+
+-- what `open` makes
+pub opened : (u : Rule) (own a : Alignment) (text : List ℕ) (at glyphs : ℕ) (w : Wrapper)
+    → glyphs ≡ length (untilHead (rest text (at + 1))) → w ≡ startRun u → a ≡ resolved (alignmentOf (getD text at 0)) own
+    → Opened u own text at (record { wrapper = w; from = at + 1; to = at + 1 + glyphs; alignment = a })
+opened u own a text at glyphs w e f g =
+    record { wrapper = f; from = refl; to = rw (e, rest-is text (at + 1)); alignment = g }

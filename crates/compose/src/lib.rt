@@ -1,0 +1,122 @@
+// The composed lines of a whole text, pulled one by one.
+use reflow::Next;
+use reflow::Rule;
+use reflow::Run;
+use reflow::Wrapper;
+use text::Alignment;
+use text::head;
+use text::line;
+ghost use mathlib.Core.Path.{_≡_};
+ghost use mathlib.Core.Bool.{false};
+ghost use Prim.Native.Nat.{_+_, _^_, _<_};
+ghost use lib.ListN.{length};
+ghost use Rattle.refuse.specs.Causes.{notOpening};
+ghost use Rattle.compose.specs.Composing.{composedRun, Ready, Opened, Started, Pulled};
+
+// What is told of a composed line: its first record, one past its last, its width and its alignment.
+pub struct Composed {
+    pub first: usize,
+    pub end: usize,
+    pub width: u32,
+    pub alignment: Alignment,
+}
+
+// Where the composing of a text stands: in the text line whose glyphs are the records from `from` to `to`.
+pub struct Composer {
+    pub wrapper: Wrapper,
+    pub from: usize,
+    pub to: usize,
+    pub alignment: Alignment,
+}
+
+// The next composed line of a text, or none.
+pub enum Pull {
+    Line(Composed, Composer),
+    Done,
+}
+
+// A run of a text line whose first record has the number `from`, told of the whole text. Every composed line leaves the composer
+// here.
+fn composed_line(from: usize, alignment: Alignment, run: Run) -> Composed
+    requires { ⌜ (from + run .first < 2 ^ 64) × (from + run .end < 2 ^ 64) ⌝ }
+    ensures { λ r. ⌜ r ≡ composedRun from alignment run ⌝ }
+{
+    if run.end == 0 {
+        return Composed {
+            first: 0,
+            end: 0,
+            width: run.width,
+            alignment,
+        };
+    }
+    Composed {
+        first: from + run.first,
+        end: from + run.end,
+        width: run.width,
+        alignment,
+    }
+}
+
+impl Composer {
+    // Before a text's first line.
+    pub fn start(rule: Rule, text: &[u32]) -> Composer
+        requires { ⌜ notOpening (now text) ≡ false ⌝ }
+        ensures { λ c. ⌜ Started rule (now (text .entry)) c ⌝ }
+    {
+        let wrapper = Wrapper::start(rule).closed();
+        Composer {
+            wrapper,
+            from: 0,
+            to: 0,
+            alignment: Alignment::Left,
+        }
+    }
+
+    // At the text line whose head stands at `at`.
+    fn open(rule: Rule, own: Alignment, text: &[u32], at: usize) -> Composer
+        requires { ⌜ at < length (now text) ⌝ }
+        ensures { λ c. ⌜ Opened rule own (now (text .entry)) at c ⌝ }
+    {
+        let from = at + 1;
+        let glyphs = line::line_length(&text[from..]);
+        let to = from + glyphs;
+        let wrapper = Wrapper::start(rule);
+        let alignment = head::resolve(text[at], own);
+        Composer {
+            wrapper,
+            from,
+            to,
+            alignment,
+        }
+    }
+
+    // The next line of the text, or none.
+    pub fn next(self, rule: Rule, own: Alignment, text: &[u32]) -> Pull
+        requires { ⌜ Ready rule (now text) self ⌝ }
+        requires { ⌜ length (now text) < 2 ^ 28 ⌝ }
+        ensures { λ r. ⌜ Pulled rule own (now (text .entry)) self r ⌝ }
+    {
+        let mut composer = self;
+        loop {
+            let from = composer.from;
+            let to = composer.to;
+            let alignment = composer.alignment;
+            let wrapper = composer.wrapper;
+            let Next::Line(run, next) = wrapper.next_line(rule, &text[from..to]) else {
+                if text.len() <= to {
+                    return Pull::Done;
+                }
+                composer = Composer::open(rule, own, text, to);
+                continue;
+            };
+            let line = composed_line(from, alignment, run);
+            let rest = Composer {
+                wrapper: next,
+                from,
+                to,
+                alignment,
+            };
+            return Pull::Line(line, rest);
+        }
+    }
+}
