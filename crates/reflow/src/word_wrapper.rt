@@ -244,8 +244,9 @@ impl Wrapper {
         let last = self.gathered(rule.trim);
         let none = Run::empty();
         let next = self.closed();
+        let spaces = self.spaces;
         if last.end == 0 {
-            if self.spaces.end == 0 {
+            if spaces.end == 0 {
                 if self.emitted {
                     return Next::Done;
                 }
