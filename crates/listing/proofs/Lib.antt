@@ -1,0 +1,3 @@
+pub mod Parsing
+pub mod Answering
+pub mod Cutting
