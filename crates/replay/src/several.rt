@@ -1,0 +1,34 @@
+// Random texts of several short lines, at the limits 0 to 8.
+use crate::cases;
+use crate::cases::Case;
+use crate::cases::Manner;
+use crate::random::below;
+use crate::random::next;
+use crate::random::seed;
+ghost use Prim.Native.Nat.{_≤_};
+ghost use lib.ListN.{length};
+
+// The case of a number.
+pub fn write_case(text: &mut [u32], number: u32) -> Case
+    requires { ⌜ 24 ≤ length (now text) ⌝ }
+    ensures { λ r. ⌜ r .length ≤ 24 ⌝ }
+{
+    let a = seed(number);
+    let b = next(a);
+    let c = next(b);
+    let d = next(c);
+    let e = next(d);
+    let manner = Manner {
+        heads: 2 + below(a, 6),
+        widths: 1 + below(b, 5),
+        spaces: 1 + below(c, 5),
+    };
+    let length = below(d, 25) as usize;
+    cases::write_random(text, length, manner, next(e));
+    Case {
+        length: length,
+        own: cases::alignment(number % 3),
+        limit: below(e, 9) as u16,
+        trim: number % 2 == 0,
+    }
+}
