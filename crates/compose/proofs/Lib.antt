@@ -1,3 +1,4 @@
 pub mod Told
 pub mod Opening
 pub mod Pulling
+pub mod ReadBack

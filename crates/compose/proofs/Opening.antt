@@ -39,15 +39,19 @@ module _ (u : Rule) (text : List ℕ) (from to : ℕ) (a : Alignment) where
       let rest = told-lines ls (r .1) in
       cc
 
+  pub numbered-lines : map (map (renumber from)) (wrap u (numbered 0 records) .lines) ≡ wrap u (numbered from records) .lines
+  numbered-lines =
+      let z : from + 0 ≡ from = omega arith in
+      sym (lines-renumbered u from (numbered 0 records))
+      ∙ ap (λ (gs : List Glyph). wrap u gs .lines) (sym (numbered-from from 0 records))
+      ∙ rw z
+
   -- from the start of a text line
   started-lines : map (λ (run : Run). lineAt u text (composedRun from a run)) (runs u records (startRun u)) ≡ map (aligned a) (wrap u (numbered from records) .lines)
   started-lines =
-      let z : from + 0 ≡ from = omega arith in
       ap (map (λ (run : Run). lineAt u text (composedRun from a run))) (start-runs u records)
       ∙ told-lines (wrap u (numbered 0 records) .lines) (wrap-read u records)
-      ∙ ap (map (aligned a)) (sym (lines-renumbered u from (numbered 0 records)))
-      ∙ ap (λ (gs : List Glyph). map (aligned a) (wrap u gs .lines)) (sym (numbered-from from 0 records))
-      ∙ rw z
+      ∙ ap (map (aligned a)) numbered-lines
 
 module _ (u : Rule) (own : Alignment) (text : List ℕ) (at : ℕ) (c : Composer) (k : at < length text) (h : Opens text at) (p : Opened u own text at c) where
   opened-part : part text c ≡ untilHead (drop (at + 1) text)

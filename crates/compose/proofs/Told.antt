@@ -94,7 +94,7 @@ module _ (u : Rule) (text : List ℕ) (from to : ℕ) (alignment : Alignment) (r
       go false e = ap (aligned alignment) shifted
 
   -- and what is told of it is what those glyphs say
-  is-told : (gs : List Glyph) → run ≡ runOf gs → composedRun from alignment run ≡ composedOf (aligned alignment (map (renumber from) gs))
+  pub is-told : (gs : List Glyph) → run ≡ runOf gs → composedRun from alignment run ≡ composedOf (aligned alignment (map (renumber from) gs))
   unfolding composedOf composedRun
   is-told [] e = rw e
   is-told (g ∷ gs) e =

@@ -9,7 +9,7 @@ use Rattle.reflow.specs.declared.Rule.{Rule}
 use Rattle.reflow.specs.Wrapping.{total, wrap}
 use Rattle.compose.specs.declared.Composed.{Composed}
 
--- a composed line: its glyphs, and its text line's alignment, 3 being the notice's own
+-- a composed line: its text line's alignment, resolved, and its glyphs
 pub record Line : Type 0 where
   pub alignment : Alignment
   pub glyphs : List Glyph

@@ -16,7 +16,7 @@ use Rattle.reflow.specs.Wrapping.{Pending, notOverWide}
 use Rattle.reflow.specs.Runs.{runOf, glyphsIn, stepRun, finishRun}
 
 -- The invariant: row, spaces and word are the runs of three lists that follow one another in what was read, with only over-wide
--- glyphs between, and what stands before them has left: emitted or dropped.
+-- glyphs between, and they are its end. What stands before them has left.
 pub record Shows (u : Rule) (records : List ℕ) (s : Wrapper) (t : Pending) : Type 0 where
   pub left : List Glyph
   pub is-row : s .row ≡ runOf (t .row)

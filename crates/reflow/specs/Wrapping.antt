@@ -88,6 +88,7 @@ emptied u s =
 
 -- "After such an emit, if the glyph is whitespace and spaces is now empty, drop it and go to the next glyph, 'previous'
 -- unchanged."
+-- (the state is the one after the emit)
 unfoldable pub drops : Pending → Glyph → Bool
 drops s g = g .whitespace && empty (s .spaces)
 
@@ -98,7 +99,7 @@ appended s g =
     (record { row = s .row; spaces = s .spaces ++ (g ∷ []); word = s .word; solid = false })
     (record { row = s .row; spaces = s .spaces; word = s .word ++ (g ∷ []); solid = true })
 
--- steps 3 and 4
+-- step 3 where it emits: what is dropped, and whether the glyph is dropped too or appended by step 4
 unfoldable pub emitting : Rule → Pending → Glyph → Step
 emitting u s g =
     record {
@@ -107,6 +108,7 @@ emitting u s g =
       pending = cond (drops (emptied u s) g) (emptied u s) (appended (emptied u s) g);
     }
 
+-- steps 3 and 4
 unfoldable pub filled : Rule → Pending → Glyph → Step
 filled u s g = cond (full u s g) (emitting u s g) (record { lines = []; dropped = []; pending = appended s g })
 
@@ -151,7 +153,7 @@ wrapFrom u emitted s (g ∷ gs) =
 unfoldable pub wrap : Rule → List Glyph → Wrapped
 wrap u gs = cond (eqb (u .limit) 0) (record { lines = []; dropped = [] }) (wrapFrom u false start gs)
 
--- the glyphs that step 1 skips, and the others
+-- the glyphs of a text line that step 1 skips, and the others; where the limit is 0 there is no step
 abbrev pub overWides : Rule → List Glyph → List Glyph
 overWides u [] = []
 overWides u (g ∷ gs) = cond (overWide u g) (g ∷ overWides u gs) (overWides u gs)

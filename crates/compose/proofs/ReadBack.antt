@@ -1,0 +1,81 @@
+-- Theorem `read-back`: every composed line of a text can be read back from what is told of it. "Its glyphs are those from first to
+-- end that are no wider than the limit."
+use Prim.Native.Nat.{ℕ, suc, _+_, _-_}
+use mathlib.Core.Path.{_≡_, refl, sym, ap, _∙_}
+use mathlib.Core.Bool.{Bool, true, false, cond}
+use mathlib.Core.List.{List, [], _∷_, _++_, map, append-assoc}
+use native.Mathlib.Omega.{arith}
+use lib.ListN.{length, take, drop, length-append}
+use lib.Seq.{drop-at}
+use Rattle.text.specs.declared.Alignment.{Alignment}
+use Rattle.text.specs.Record.{isHead, alignmentOf}
+use Rattle.text.specs.Alignment.{resolved}
+use Rattle.text.specs.Line.{Glyph, TextLine, numbered, untilHead, linesFrom}
+use Rattle.text.proofs.TextLines.{until-take}
+use Rattle.reflow.specs.declared.Rule.{Rule}
+use Rattle.reflow.specs.Wrapping.{wrap}
+use Rattle.reflow.specs.Runs.{runOf}
+use Rattle.reflow.proofs.Simulation.{ReadAll}
+use Rattle.reflow.proofs.WholeLine.{wrap-read}
+use Rattle.reflow.proofs.Renumbering.{renumber}
+use Rattle.compose.specs.Lines.{Line, aligned, lineLines, allLines, lines, composedOf}
+use Rattle.compose.specs.Composing.{lineAt}
+use Rattle.compose.proofs.Told.{told-line, is-told}
+use Rattle.compose.proofs.Opening.{numbered-lines}
+
+-- each line is the one that stands from its first to its end
+abbrev pub ReadBack : Rule → List ℕ → List Line → Type 0
+ReadBack u text [] = Unit {0}
+ReadBack u text (line ∷ rest) = (lineAt u text (composedOf line) ≡ line) × ReadBack u text rest
+
+both : (u : Rule) (text : List ℕ) (a b : List Line) → ReadBack u text a → ReadBack u text b → ReadBack u text (a ++ b)
+both u text [] b p q = q
+both u text (line ∷ a) b p q = (p .0, both u text a b (p .1) q)
+
+module _ (u : Rule) (text : List ℕ) (from to : ℕ) (a : Alignment) where
+  abbrev records : List ℕ
+  records = take (to - from) (drop from text)
+
+  part-back : (ls : List (List Glyph)) → ReadAll u records ls → ReadBack u text (map (aligned a) (map (map (renumber from)) ls))
+  part-back [] r = tt
+  part-back (l ∷ ls) r = (
+    ap (lineAt u text) (sym (is-told u text from to a (runOf l) (r .0 .spans) l refl))
+        ∙ told-line u text from to a (runOf l) (r .0 .spans) ∙ ap (λ (gs : List Glyph). aligned a (map (renumber from) gs)) (r .0 .glyphs),
+    part-back ls (r .1),
+  )
+
+  wrapped-back : ReadBack u text (map (aligned a) (wrap u (numbered from records) .lines))
+  wrapped-back = rw (numbered-lines u text from to a) at (part-back (wrap u (numbered 0 records) .lines) (wrap-read u records))
+
+module _ (u : Rule) (own : Alignment) (text : List ℕ) where
+  -- the text line whose head r stands after the records before it
+  line-back : (before : List ℕ) (r : ℕ) (rs : List ℕ) → text ≡ before ++ r ∷ rs
+      → ReadBack u text (lineLines u own (record { head = r; first = suc (length before); records = untilHead rs }))
+  unfolding lineLines
+  line-back before r rs e =
+      let from : ℕ = suc (length before) in
+      let d : drop from text ≡ rs =
+      ap (drop from) (e ∙ sym (append-assoc before (r ∷ []) rs)) ∙ drop-at (before ++ (r ∷ [])) rs from (length-append before (r ∷ []) ∙ omega arith) in
+      let n : from + length (untilHead rs) - from ≡ length (untilHead rs) = omega arith in
+      let k : take (from + length (untilHead rs) - from) (drop from text) ≡ untilHead rs = rw (n, d) (until-take rs) in
+      rw k at (wrapped-back u text from (from + length (untilHead rs)) (resolved (alignmentOf r) own))
+
+  from-back : (before rs : List ℕ) → text ≡ before ++ rs → ReadBack u text (allLines u own (linesFrom (length before) rs))
+  from-back before [] e = tt
+  from-back before (r ∷ rs) e =
+      let s : text ≡ (before ++ (r ∷ [])) ++ rs = e ∙ sym (append-assoc before (r ∷ []) rs) in
+      let n : length (before ++ (r ∷ [])) ≡ suc (length before) = length-append before (r ∷ []) ∙ omega arith in
+      go (isHead r) (rw n at (from-back (before ++ (r ∷ [])) rs s))
+    where
+      go : (b : Bool) → ReadBack u text (allLines u own (linesFrom (suc (length before)) rs))
+          → ReadBack u text
+          (allLines u own
+          (cond b
+          (record { head = r; first = suc (length before); records = untilHead rs } ∷ linesFrom (suc (length before)) rs)
+          (linesFrom (suc (length before)) rs)))
+      go true later = both u text (lineLines u own (record { head = r; first = suc (length before); records = untilHead rs })) _ (line-back before r rs e) later
+      go false later = later
+
+  pub read-back : ReadBack u text (lines u own text)
+  unfolding lines
+  read-back = from-back [] text refl
