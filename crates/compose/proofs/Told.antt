@@ -15,7 +15,7 @@ use Rattle.reflow.specs.declared.Rule.{Rule}
 use Rattle.reflow.specs.Wrapping.{total, overWide, notOverWide}
 use Rattle.reflow.specs.Runs.{emptyRun, endFrom, runOf, glyphsIn}
 use Rattle.reflow.specs.Pulls.{Spans}
-use Rattle.reflow.proofs.Renumbering.{renumber, numbered-from}
+use Rattle.reflow.proofs.Renumbering.{renumber, total-map, numbered-from}
 use Rattle.compose.specs.declared.Composed.{Composed}
 use Rattle.compose.specs.declared.Composer.{Composer}
 use Rattle.compose.specs.Lines.{Line, aligned, firstOf, endOf, composedOf}
@@ -53,10 +53,6 @@ fits-shift u k (g ∷ gs) = go (ltb (u .limit) (g .width)) (fits-shift u k gs)
         → cond b (notOverWide u (map (renumber k) gs)) (renumber k g ∷ notOverWide u (map (renumber k) gs)) ≡ map (renumber k) (cond b (notOverWide u gs) (g ∷ notOverWide u gs))
     go true ih = ih
     go false ih = ap {B = List Glyph} (λ (l : List Glyph). renumber k g ∷ l) ih
-
-total-shift : (k : ℕ) (gs : List Glyph) → total (map (renumber k) gs) ≡ total gs
-total-shift k [] = refl
-total-shift k (g ∷ gs) = ap (λ (n : ℕ). g .width + n) (total-shift k gs)
 
 end-shift : (k : ℕ) (g : Glyph) (gs : List Glyph) → endOf (map (renumber k) (g ∷ gs)) ≡ k + endFrom (g .number + 1) gs
 end-shift k g [] = omega arith
@@ -99,7 +95,7 @@ module _ (u : Rule) (text : List ℕ) (from to : ℕ) (alignment : Alignment) (r
   is-told [] e = rw e
   is-told (g ∷ gs) e =
       let l : endOf (map (renumber from) (g ∷ gs)) ≡ from + endFrom (g .number + 1) gs = end-shift from g gs in
-      rw e (sym (composed-some from alignment (runOf (g ∷ gs)) (end-more (g .number) gs)) ∙ rw (l, total-shift from gs))
+      rw e (sym (composed-some from alignment (runOf (g ∷ gs)) (end-more (g .number) gs)) ∙ rw (l, total-map (renumber from) (λ g. refl) (λ g. refl) gs))
 
   Lies : Composed → Type 0
   Lies c = (c .first ≤ c .end) × (c .end ≤ length text)

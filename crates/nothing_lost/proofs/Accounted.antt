@@ -2,7 +2,7 @@
 -- accounted-lengths: so the glyphs emitted, dropped and over-wide are together as many as the text line's.
 -- exactly-once: so every glyph of a text line is emitted, dropped or over-wide, and only once.
 use Prim.Native.Nat.{ℕ, suc, _+_, _-_, _≤_, _<_}
-use mathlib.Core.Path.{_≡_, refl, ap, _∙_}
+use mathlib.Core.Path.{_≡_, refl, sym, ap, _∙_}
 use mathlib.Core.Bool.{Bool, true, false, cond, not, _||_}
 use mathlib.Core.List.{List, [], _∷_, _++_, append-nil}
 use native.Mathlib.Omega.{arith}
@@ -14,7 +14,8 @@ use Rattle.reflow.specs.declared.Rule.{Rule}
 use Rattle.reflow.specs.Wrapping.{Pending, Step, empty, total, start, overWide, takesSpaces, gathered, joined, unjoined, emptied, appended, filled, joining, step, wrapFrom, wrap, overWides}
 use Rattle.nothing_lost.specs.Glyphs.{glyphsOfAll, countOf}
 use Rattle.nothing_lost.proofs.Lists.{cases, glyphs-append}
-use Rattle.nothing_lost.proofs.Steps.{appended-ways, filled-ways, step-ways, fitting-first, finish-gathers, wraps}
+use Rattle.nothing_lost.proofs.Steps.{appended-ways, filled-ways, step-ways, finish-gathers, wraps}
+use Rattle.reflow.proofs.Splits.{fitting-split}
 
 module _ (test : Glyph → Bool) where
   count-append : (a b : List Glyph) → countOf test (a ++ b) ≡ countOf test a + countOf test b
@@ -47,7 +48,7 @@ module _ (test : Glyph → Bool) where
   filled-count : (u : Rule) (s : Pending) (g : Glyph) → after (filled u s g) ≡ held s + countOf test (g ∷ [])
   unfolding after held emptied
   filled-count u s g =
-      let parts = ap (countOf test) (fitting-first (u .limit - total (s .row)) (s .spaces)) in
+      let parts = ap (countOf test) (sym (fitting-split (u .limit - total (s .row)) (s .spaces))) in
       filled-ways u s g (λ (t : Step). after t ≡ held s + countOf test (g ∷ []))
       (λ _ _. simp (count-append, append-nil) (omega (arith, simp count-append at parts)))
       (λ _. simp append-nil (omega (arith, simp count-append at parts, appended-count (emptied u s) g)))

@@ -12,12 +12,11 @@ use Rattle.text.specs.Line.{Glyph, glyphFrom, numbered}
 use Rattle.reflow.specs.declared.Rule.{Rule}
 use Rattle.reflow.specs.Wrapping.{Pending, Step, Wrapped, empty, total, start, overWide, mustJoin, takesSpaces, gathered, joined, full, fitting, afterFitting, emptied, appended, filled, joining, step, lastLines, finish, wrapFrom, wrap}
 use Rattle.nothing_lost.specs.Glyphs.{Widths, NoWider, none, one}
-use Rattle.nothing_lost.proofs.Lists.{cases, cond-cases}
-use Rattle.nothing_lost.proofs.Steps.{appended-ways, filled-ways, step-ways, fitting-first}
-
-total-append : (a b : List Glyph) → total (a ++ b) ≡ total a + total b
-total-append [] b = omega arith
-total-append (g ∷ a) b = omega (arith, total-append a b)
+use Rattle.nothing_lost.proofs.Lists.{cases}
+use Rattle.reflow.proofs.RunLaws.{cond-cases}
+use Rattle.nothing_lost.proofs.Steps.{appended-ways, filled-ways, step-ways}
+use Rattle.reflow.proofs.Splits.{fitting-split}
+use Rattle.reflow.proofs.ListRuns.{total-append}
 
 no-wider-append : {most : ℕ} {a b : List (List Glyph)} → NoWider most a → NoWider most b → NoWider most (a ++ b)
 no-wider-append none q = q
@@ -32,10 +31,10 @@ widths-right [] p = p
 widths-right (g ∷ a) (one l m p) = widths-right a p
 
 widths-after : {least most : ℕ} (room : ℕ) (gs : List Glyph) → Widths least most gs → Widths least most (afterFitting room gs)
-widths-after room gs z = widths-right (fitting room gs) (rw fitting-first z)
+widths-after room gs z = widths-right (fitting room gs) (rw (fitting-split room gs) at z)
 
 total-after : (room : ℕ) (gs : List Glyph) → total (afterFitting room gs) ≤ total gs
-total-after room gs = omega (arith, simp total-append at (ap total (fitting-first room gs)))
+total-after room gs = omega (arith, simp total-append at (ap total (fitting-split room gs)))
 
 empty-total : (gs : List Glyph) → empty gs ≡ true → total gs ≡ 0
 empty-total [] e = refl
@@ -119,7 +118,7 @@ module _ (u : Rule) (least most tight wide : ℕ)
   gathered-sized : (s : Pending) → Sized s → Widths least most (gathered u s)
   unfolding gathered
   gathered-sized s z =
-      let spaces = cond-cases (λ (gs : List Glyph). Widths least most gs) (takesSpaces u s) (λ _. z .spaces) (λ _. none) in
+      let spaces = cond-cases (λ (gs : List Glyph). Widths least most gs) (takesSpaces u s) _ _ (λ _. z .spaces) (λ _. none) in
       widths-append (widths-append (z .row) spaces) (z .word)
 
   module _ (g : Glyph) (l : least ≤ g .width) (m : g .width ≤ most) where
@@ -180,12 +179,12 @@ module _ (u : Rule) (least most tight wide : ℕ)
   finish-narrow : (emitted : Bool) (s : Pending) → Fine s → NoWider wide (finish u emitted s)
   unfolding finish lastLines
   finish-narrow emitted s f =
-      cond-cases (λ (lines : List (List Glyph)). NoWider wide lines) (emitted || not (empty (lastLines u s)))
+      cond-cases (λ (lines : List (List Glyph)). NoWider wide lines) (emitted || not (empty (lastLines u s))) _ _
       (λ _.
       no-wider-append
-      (cond-cases (λ (lines : List (List Glyph)). NoWider wide lines) (empty (s .row) && empty (s .word) && not (empty (s .spaces)) && u .trim)
+      (cond-cases (λ (lines : List (List Glyph)). NoWider wide lines) (empty (s .row) && empty (s .word) && not (empty (s .spaces)) && u .trim) _ _
       (λ _. one (omega arith) none) (λ _. none))
-      (cond-cases (λ (lines : List (List Glyph)). NoWider wide lines) (empty (gathered u s)) (λ _. none) (λ _. one (gathered-fits s f) none)))
+      (cond-cases (λ (lines : List (List Glyph)). NoWider wide lines) (empty (gathered u s)) _ _ (λ _. none) (λ _. one (gathered-fits s f) none)))
       (λ _. one (omega arith) none)
 
   from-narrow : (emitted : Bool) (s : Pending) (gs : List Glyph) → Widths least most gs → Fine s → NoWider wide (wrapFrom u emitted s gs .lines)
@@ -197,7 +196,7 @@ module _ (u : Rule) (least most tight wide : ℕ)
   lines-narrow : (gs : List Glyph) → Widths least most gs → NoWider wide (wrap u gs .lines)
   unfolding wrap
   lines-narrow gs z =
-      cond-cases (λ (w : Wrapped). NoWider wide (w .lines)) (eqb (u .limit) 0) (λ _. none)
+      cond-cases (λ (w : Wrapped). NoWider wide (w .lines)) (eqb (u .limit) 0) _ _ (λ _. none)
       (λ _.
       from-narrow false start gs z
       (record {

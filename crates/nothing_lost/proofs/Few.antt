@@ -10,7 +10,7 @@ use lib.ListN.{length, length-append}
 use Rattle.text.specs.Line.{Glyph}
 use Rattle.reflow.specs.declared.Rule.{Rule}
 use Rattle.reflow.specs.Wrapping.{Pending, Step, Wrapped, empty, start, total, takesSpaces, gathered, joined, full, filled, joining, step, lastLines, finish, wrapFrom, wrap}
-use Rattle.nothing_lost.proofs.Lists.{cond-cases}
+use Rattle.reflow.proofs.RunLaws.{cond-cases}
 use Rattle.nothing_lost.proofs.Steps.{filled-ways, step-ways}
 
 -- a glyph emits at most one line
@@ -47,7 +47,7 @@ last-few u s = go (s .row) (s .spaces) (s .word) (u .trim)
 finish-few : (u : Rule) (emitted : Bool) (s : Pending) → length (finish u emitted s) ≤ 1
 unfolding finish
 finish-few u emitted s =
-    cond-cases (λ (lines : List (List Glyph)). length lines ≤ 1) (emitted || not (empty (lastLines u s)))
+    cond-cases (λ (lines : List (List Glyph)). length lines ≤ 1) (emitted || not (empty (lastLines u s))) _ _
     (λ _. last-few u s) (λ _. omega arith)
 
 from-few : (u : Rule) (emitted : Bool) (s : Pending) (gs : List Glyph) → length (wrapFrom u emitted s gs .lines) ≤ suc (length gs)
@@ -84,7 +84,7 @@ first-none u g h =
 pub lines-few : (u : Rule) (gs : List Glyph) → length (wrap u gs .lines) ≤ max 1 (length gs)
 unfolding wrap
 lines-few u gs =
-    cond-cases (λ (w : Wrapped). length (w .lines) ≤ max 1 (length gs)) (eqb (u .limit) 0)
+    cond-cases (λ (w : Wrapped). length (w .lines) ≤ max 1 (length gs)) (eqb (u .limit) 0) _ _
     (λ _. omega arith) (λ e. go gs (eqb-false (u .limit) 0 e))
   where
     go : (gs : List Glyph) → (u .limit ≡ 0 → ⊥) → length (wrapFrom u false start gs .lines) ≤ max 1 (length gs)

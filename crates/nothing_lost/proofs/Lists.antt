@@ -1,6 +1,6 @@
 -- Laws on lists and tests that the theorems share.
 use mathlib.Core.Path.{_≡_, refl}
-use mathlib.Core.Bool.{Bool, true, false, cond, _&&_}
+use mathlib.Core.Bool.{Bool, true, false}
 use mathlib.Core.List.{List, [], _∷_, _++_, append-assoc}
 use Rattle.text.specs.Line.{Glyph}
 use Rattle.nothing_lost.specs.Glyphs.{glyphsOfAll}
@@ -9,14 +9,6 @@ use Rattle.nothing_lost.specs.Glyphs.{glyphsOfAll}
 pub cases : (P : Bool → Type 0) (b : Bool) → (b ≡ true → P true) → (b ≡ false → P false) → P b
 cases P true f g = f refl
 cases P false f g = g refl
-
-pub cond-cases : {A : Type 0} (P : A → Type 0) (b : Bool) {x y : A} → (b ≡ true → P x) → (b ≡ false → P y) → P (cond b x y)
-cond-cases P true f g = f refl
-cond-cases P false f g = g refl
-
-pub and-left : (a b : Bool) → (a && b) ≡ true → a ≡ true
-and-left true b e = refl
-and-left false b e = e
 
 pub glyphs-append : (a b : List (List Glyph)) → glyphsOfAll (a ++ b) ≡ glyphsOfAll a ++ glyphsOfAll b
 glyphs-append [] b = refl

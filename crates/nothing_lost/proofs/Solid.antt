@@ -10,8 +10,10 @@ use Rattle.text.specs.Line.{Glyph}
 use Rattle.reflow.specs.declared.Rule.{Rule}
 use Rattle.reflow.specs.Wrapping.{Pending, Step, Wrapped, empty, total, start, overWide, takesSpaces, gathered, joined, unjoined, fitting, afterFitting, emptied, appended, filled, joining, step, wrapFrom, wrap, notOverWide}
 use Rattle.nothing_lost.specs.Glyphs.{solids, glyphsOfAll}
-use Rattle.nothing_lost.proofs.Lists.{cond-cases, glyphs-append}
-use Rattle.nothing_lost.proofs.Steps.{appended-ways, silent, filled-ways, step-ways, fitting-first, finish-gathers, wraps}
+use Rattle.nothing_lost.proofs.Lists.{glyphs-append}
+use Rattle.reflow.proofs.RunLaws.{cond-cases}
+use Rattle.nothing_lost.proofs.Steps.{appended-ways, silent, filled-ways, step-ways, finish-gathers, wraps}
+use Rattle.reflow.proofs.Splits.{fitting-split}
 
 solids-append : (a b : List Glyph) → solids (a ++ b) ≡ solids a ++ solids b
 solids-append [] b = refl
@@ -29,7 +31,7 @@ both-nil (g ∷ a) b e = let z : _≡_ {A = ℕ} 0 1 = cc in absurd (omega arith
 fitting-solids : (room : ℕ) (gs : List Glyph) → solids gs ≡ [] → (solids (fitting room gs) ≡ []) × (solids (afterFitting room gs) ≡ [])
 fitting-solids room gs e =
     both-nil (solids (fitting room gs)) (solids (afterFitting room gs))
-    (sym (solids-append (fitting room gs) (afterFitting room gs)) ∙ ap solids (fitting-first room gs) ∙ e)
+    (sym (solids-append (fitting room gs) (afterFitting room gs)) ∙ ap solids (sym (fitting-split room gs)) ∙ e)
 
 -- the solid glyphs that are pending, where spaces has none
 unfoldable held : Pending → List Glyph
@@ -52,7 +54,7 @@ module _ (u : Rule) (s : Pending) (blank : solids (s .spaces) ≡ []) where
 
   unjoined-solids : solids (unjoined u s) ≡ []
   unfolding unjoined
-  unjoined-solids = cond-cases (λ (gs : List Glyph). solids gs ≡ []) (takesSpaces u s) (λ _. refl) (λ _. blank)
+  unjoined-solids = cond-cases (λ (gs : List Glyph). solids gs ≡ []) (takesSpaces u s) _ _ (λ _. refl) (λ _. blank)
 
 module _ (u : Rule) (g : Glyph) where
   appended-keeps : (s : Pending) → solids (s .spaces) ≡ [] → Keeps (held s) (solids (g ∷ [])) (silent (appended s g))
@@ -124,5 +126,5 @@ no-solid-lost u gs h = rw (wraps u gs h) (from-keeps u false start gs refl .same
 pub dropped-whitespace : (u : Rule) (gs : List Glyph) → solids (wrap u gs .dropped) ≡ []
 unfolding wrap
 dropped-whitespace u gs =
-    cond-cases (λ (w : Wrapped). solids (w .dropped) ≡ []) (eqb (u .limit) 0)
+    cond-cases (λ (w : Wrapped). solids (w .dropped) ≡ []) (eqb (u .limit) 0) _ _
     (λ _. refl) (λ _. from-keeps u false start gs refl .gone)

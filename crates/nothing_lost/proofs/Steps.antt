@@ -1,16 +1,17 @@
 -- The ways through a step of the rules, and what a line's end emits.
-use Prim.Native.Nat.{ℕ, _-_, _<_}
+use Prim.Native.Nat.{_-_, _<_}
 use mathlib.Core.Path.{_≡_, refl, _∙_}
 use mathlib.Core.Bool.{Bool, true, false, cond, not, _&&_, _||_}
 use mathlib.Core.List.{List, [], _∷_, _++_, append-nil}
 use native.Mathlib.Omega.{arith}
 use borrow.Author.Tests.{ne-eqb}
-use lib.Dec.{leb}
 use Rattle.text.specs.Line.{Glyph}
 use Rattle.reflow.specs.declared.Rule.{Rule}
-use Rattle.reflow.specs.Wrapping.{Pending, Step, empty, total, start, overWide, mustJoin, full, drops, fitting, afterFitting, emptied, appended, emitting, filled, joining, gathered, step, lastLines, finish, wrapFrom, wrap}
+use Rattle.reflow.specs.Wrapping.{Pending, Step, empty, total, start, overWide, mustJoin, full, drops, fitting, emptied, appended, emitting, filled, joining, gathered, step, lastLines, finish, wrapFrom, wrap}
 use Rattle.nothing_lost.specs.Glyphs.{glyphsOfAll}
-use Rattle.nothing_lost.proofs.Lists.{cases, cond-cases, and-left}
+use Rattle.nothing_lost.proofs.Lists.{cases}
+use Rattle.reflow.proofs.RunLaws.{cond-cases}
+use Rattle.reflow.proofs.Simulation.{and-left}
 
 -- step 4 appends a glyph to spaces or word
 abbrev pub spaced : Pending → Glyph → Pending
@@ -22,7 +23,7 @@ worded s g = record { row = s .row; spaces = s .spaces; word = s .word ++ (g ∷
 pub appended-ways : (s : Pending) (g : Glyph) (P : Pending → Type 0) →
     (g .whitespace ≡ true → P (spaced s g)) → (g .whitespace ≡ false → P (worded s g)) → P (appended s g)
 unfolding appended
-appended-ways s g P to-spaces to-word = cond-cases P (g .whitespace) to-spaces to-word
+appended-ways s g P to-spaces to-word = cond-cases P (g .whitespace) _ _ to-spaces to-word
 
 -- a glyph emits nothing, or row
 abbrev pub silent : Pending → Step
@@ -40,7 +41,7 @@ module _ (u : Rule) (s : Pending) (g : Glyph) (P : Step → Type 0) where
       → P (filled u s g)
   unfolding filled emitting drops
   filled-ways drop emit append =
-      cond-cases P (full u s g)
+      cond-cases P (full u s g) _ _
       (λ e.
       cases (λ (b : Bool). P (emits u s (cond b (g ∷ []) []) (cond b (emptied u s) (appended (emptied u s) g))))
       (drops (emptied u s) g)
@@ -54,17 +55,7 @@ module _ (u : Rule) (s : Pending) (g : Glyph) (P : Step → Type 0) where
       → (overWide u g ≡ false → mustJoin u s g ≡ false → P (filled u s g))
       → P (step u s g)
   unfolding step
-  step-ways skip join fill = cond-cases P (overWide u g) skip (λ o. cond-cases P (mustJoin u s g) (join o) (fill o))
-
--- of spaces, those that an emit drops come first
-pub fitting-first : (room : ℕ) (gs : List Glyph) → fitting room gs ++ afterFitting room gs ≡ gs
-fitting-first room [] = refl
-fitting-first room (g ∷ gs) = go (leb (g .width) room) (fitting-first (room - g .width) gs)
-  where
-    go : (b : Bool) → fitting (room - g .width) gs ++ afterFitting (room - g .width) gs ≡ gs →
-        cond b (g ∷ fitting (room - g .width) gs) [] ++ cond b (afterFitting (room - g .width) gs) (g ∷ gs) ≡ g ∷ gs
-    go true e = rw e
-    go false e = refl
+  step-ways skip join fill = cond-cases P (overWide u g) _ _ skip (λ o. cond-cases P (mustJoin u s g) _ _ (join o) (fill o))
 
 -- the line's end emits what a join gathers, and empty lines
 pub finish-gathers : (u : Rule) (emitted : Bool) (s : Pending) → glyphsOfAll (finish u emitted s) ≡ gathered u s

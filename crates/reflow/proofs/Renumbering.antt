@@ -29,7 +29,7 @@ module _ (f : Glyph → Glyph) (same-width : (g : Glyph) → f g .width ≡ g .w
   abbrev pub onWrapped : Wrapped → Wrapped
   onWrapped w = record { lines = map (map f) (w .lines); dropped = map f (w .dropped) }
 
-  total-map : (l : List Glyph) → total (map f l) ≡ total l
+  pub total-map : (l : List Glyph) → total (map f l) ≡ total l
   total-map [] = refl
   total-map (g ∷ l) = rw (same-width g, total-map l)
 

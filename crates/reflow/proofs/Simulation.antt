@@ -18,7 +18,7 @@ use Rattle.reflow.proofs.RunLaws.{cond-cases}
 use Rattle.reflow.proofs.ListRuns.{Read}
 use Rattle.reflow.proofs.States.{row-read, spaces-empty, joins-is, full-is, join-shows, emptied-shows, wide-shows, dropped-shows, appended-shows}
 
-and-left : (a b : Bool) → (a && b) ≡ true → a ≡ true
+pub and-left : (a b : Bool) → (a && b) ≡ true → a ≡ true
 and-left true b e = refl
 and-left false b e = e
 
