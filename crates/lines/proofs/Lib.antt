@@ -1,3 +1,4 @@
 pub mod Bounds
 pub mod Counting
 pub mod Verdicts
+pub mod Answers
