@@ -1,0 +1,73 @@
+//! The crate's `WordWrapper`, over the oracle's stand-ins and over lean ones. The types differ and
+//! the text of the functions doesn't.
+
+macro_rules! original {
+    ($name:ident, $widgets:ident, $core:ident) => {
+        pub mod $name {
+            use std::hint::black_box;
+            use $core::layout::Alignment;
+            use $core::style::Style;
+            use $core::text::StyledGrapheme;
+            use $widgets::reflow::{LineComposer, WordWrapper};
+
+            /// A text made ready: the graphemes of each text line.
+            pub struct Text<'a> {
+                symbols: &'a str,
+                symbol_length: usize,
+                lines: Vec<Vec<StyledGrapheme<'a>>>,
+            }
+
+            impl<'a> Text<'a> {
+                /// The text of some records, whose symbols stand one after the other.
+                pub fn new(records: &[u32], symbols: &'a str) -> Self {
+                    let symbol_length = symbols.len() / records.len();
+                    let mut lines: Vec<Vec<StyledGrapheme>> = Vec::new();
+                    for (number, record) in records.iter().enumerate() {
+                        if record >> 31 == 1 {
+                            lines.push(Vec::new());
+                        } else {
+                            let symbol = &symbols[number * symbol_length..][..symbol_length];
+                            let line = lines.last_mut().expect("records open with a head");
+                            line.push(StyledGrapheme { symbol, style: Style::new() });
+                        }
+                    }
+                    Self { symbols, symbol_length, lines }
+                }
+
+                fn composer<'t>(&'t self, limit: u16, trim: bool) -> impl LineComposer<'a> + 't {
+                    let lines = self.lines.iter();
+                    let given = lines.map(|line| (line.iter().cloned(), Alignment::Left));
+                    WordWrapper::new(given, limit, trim)
+                }
+
+                /// What is timed: all lines are composed and none is looked at.
+                #[inline(never)]
+                pub fn compose(&self, limit: u16, trim: bool) {
+                    let mut composer = self.composer(limit, trim);
+                    while let Some(line) = composer.next_line() {
+                        black_box((line.graphemes, line.width));
+                    }
+                }
+
+                /// The entries that the lines come to, for comparison.
+                pub fn entries(&self, limit: u16, trim: bool) -> Vec<u64> {
+                    let number = |grapheme: &StyledGrapheme| {
+                        let start = self.symbols.as_ptr().addr();
+                        ((grapheme.symbol.as_ptr().addr() - start) / self.symbol_length) as u64
+                    };
+                    let mut entries = Vec::new();
+                    let mut composer = self.composer(limit, trim);
+                    while let Some(line) = composer.next_line() {
+                        let first = line.graphemes.first().map_or(0, number);
+                        let end = line.graphemes.last().map_or(0, |last| number(last) + 1);
+                        entries.push(first << 49 | end << 34 | u64::from(line.width) << 18);
+                    }
+                    entries
+                }
+            }
+        }
+    };
+}
+
+original!(over_oracle, ratatui_widgets, ratatui_core);
+original!(over_lean, lean, lean);
