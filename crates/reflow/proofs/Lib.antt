@@ -7,3 +7,5 @@ pub mod Simulation
 pub mod WholeLine
 pub mod Pulling
 pub mod Renumbering
+pub mod Truncating
+pub mod Truncated

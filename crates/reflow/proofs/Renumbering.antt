@@ -10,7 +10,7 @@ use Rattle.reflow.specs.declared.Rule.{Rule}
 use Rattle.reflow.specs.Wrapping.{Pending, start, empty, total, Step, overWide, mustJoin, takesSpaces, gathered, joined, unjoined, full, fitting, afterFitting, emptied, drops, appended, emitting, filled, joining, step, lastLines, finish, Wrapped, wrapFrom, wrap}
 use Rattle.reflow.proofs.WholeLine.{last-is}
 
-cond-map : {A B : Type 0} (h : A → B) (b c : Bool) {x y : B} {x' y' : A} → b ≡ c → x ≡ h x' → y ≡ h y' → cond b x y ≡ h (cond c x' y')
+pub cond-map : {A B : Type 0} (h : A → B) (b c : Bool) {x y : B} {x' y' : A} → b ≡ c → x ≡ h x' → y ≡ h y' → cond b x y ≡ h (cond c x' y')
 cond-map h b true p q r = rw p q
 cond-map h b false p q r = rw p r
 

@@ -1,3 +1,5 @@
 pub mod Wrapping
+pub mod Truncation
 pub mod Runs
 pub mod Pulls
+pub mod Truncating

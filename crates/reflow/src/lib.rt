@@ -1,5 +1,6 @@
-// Word wrapping of one text line: reflow.rs' `WordWrapper`, its pending graphemes as runs of records.
+// The lines of one text line: reflow.rs' `WordWrapper`, its pending graphemes as runs of records, and its `LineTruncator`.
 
+mod line_truncator;
 mod runs;
 mod word_wrapper;
 
@@ -39,4 +40,10 @@ pub enum Stepped {
 pub enum Next {
     Line(Run, Wrapper),
     Done,
+}
+
+// Truncation of a text line in a text that is scrolled to the right by `column`. `live` says that its line is still to come.
+pub struct Truncator {
+    pub column: u32,
+    pub live: bool,
 }

@@ -1,0 +1,16 @@
+-- `reflow::Truncator::line` meets its contract.
+use borrow.Author.Needs.{needs}
+use Rattle.reflow.proofs.Truncator.line.Statement.{statement}
+use Rattle.reflow.proofs.Truncator.line.Tie as tie
+
+offset-requires : tie.Need-offset-requires
+offset-requires c κs = search needs
+
+shown-requires : tie.Need-shown-requires
+shown-requires c κs = search needs
+
+returns : tie.Need-returns
+returns c = cc
+
+pub line-spec : {M : Type 1} → statement M
+line-spec = tie.close (tie.spec offset-requires shown-requires returns)
