@@ -1,4 +1,6 @@
 pub mod Told
+pub mod Methods
+pub mod Composers
 pub mod Opening
 pub mod Pulling
 pub mod ReadBack

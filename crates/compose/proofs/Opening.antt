@@ -1,28 +1,27 @@
 -- A text line that was opened: its lines, and the lines that are left of the text.
-use Prim.Native.Nat.{ℕ, suc, _+_, _-_, _≤_, _<_}
+use Prim.Native.Nat.{ℕ, suc, _+_, _-_, _<_}
 use mathlib.Core.Path.{_≡_, refl, sym, ap, _∙_}
-use mathlib.Core.Bool.{true}
-use mathlib.Core.List.{List, [], _∷_, _++_, map}
+use mathlib.Core.List.{List, [], _∷_, map}
 use native.Mathlib.Numerals.{add-one}
 use native.Mathlib.Omega.{arith}
-use lib.ListN.{length, getD, take, drop, length-drop}
+use lib.ListN.{length, getD, take, drop}
 use Rattle.text.specs.declared.Alignment.{Alignment}
-use Rattle.text.specs.Record.{isHead, alignmentOf}
+use Rattle.text.specs.Record.{alignmentOf}
 use Rattle.text.specs.Alignment.{resolved}
-use Rattle.text.specs.Line.{Glyph, TextLine, numbered, untilHead, linesFrom, glyphsOf}
+use Rattle.text.specs.Line.{Glyph, TextLine, numbered, untilHead, linesFrom}
 use Rattle.text.proofs.TextLines.{Opens, rest, rest-is, end-within, until-take, next-opens, line-first}
 use Rattle.reflow.specs.declared.Run.{Run}
 use Rattle.reflow.specs.declared.Rule.{Rule}
-use Rattle.reflow.specs.declared.Wrapper.{Wrapper}
-use Rattle.reflow.specs.Wrapping.{wrap}
-use Rattle.reflow.specs.Runs.{runOf, glyphsIn, startRun}
-use Rattle.reflow.specs.Pulls.{Sound, Spans, runs}
+use Rattle.reflow.specs.Runs.{runOf}
 use Rattle.reflow.proofs.Simulation.{ReadAll}
-use Rattle.reflow.proofs.WholeLine.{start-sound, start-runs, wrap-read}
-use Rattle.reflow.proofs.Renumbering.{renumber, numbered-from, lines-renumbered}
+use Rattle.reflow.proofs.Renumbering.{renumber, numbered-from}
 use Rattle.compose.specs.declared.Composer.{Composer}
-use Rattle.compose.specs.Lines.{Line, aligned, lineLines, allLines, lines}
+use Rattle.compose.specs.declared.LineComposer.{LineComposer}
+use Rattle.compose.specs.declared.Method.{Method}
+use Rattle.compose.specs.Lines.{aligned, linesOf, lineLines, allLines}
+use Rattle.compose.specs.Composers.{methodOf, startLine, lineRuns}
 use Rattle.compose.specs.Composing.{lineAt, part, composedRun, left, Ready, Opened}
+use Rattle.compose.proofs.Methods.{method-starts, starts-sound, starts-runs, lines-read, linesOf-renumbered}
 use Rattle.compose.proofs.Told.{told-line}
 
 -- the runs of lines, told of the text, are the lines numbered over the text
@@ -39,21 +38,23 @@ module _ (u : Rule) (text : List ℕ) (from to : ℕ) (a : Alignment) where
       let rest = told-lines ls (r .1) in
       cc
 
-  pub numbered-lines : map (map (renumber from)) (wrap u (numbered 0 records) .lines) ≡ wrap u (numbered from records) .lines
-  numbered-lines =
-      let z : from + 0 ≡ from = omega arith in
-      sym (lines-renumbered u from (numbered 0 records))
-      ∙ ap (λ (gs : List Glyph). wrap u gs .lines) (sym (numbered-from from 0 records))
-      ∙ rw z
+  module _ (method : Method) where
+    pub numbered-lines : map (map (renumber from)) (linesOf u method a (numbered 0 records)) ≡ linesOf u method a (numbered from records)
+    numbered-lines =
+        let z : from + 0 ≡ from = omega arith in
+        sym (linesOf-renumbered u a method from (numbered 0 records))
+        ∙ ap (linesOf u method a) (sym (numbered-from from 0 records))
+        ∙ rw z
 
-  -- from the start of a text line
-  started-lines : map (λ (run : Run). lineAt u text (composedRun from a run)) (runs u records (startRun u)) ≡ map (aligned a) (wrap u (numbered from records) .lines)
-  started-lines =
-      ap (map (λ (run : Run). lineAt u text (composedRun from a run))) (start-runs u records)
-      ∙ told-lines (wrap u (numbered 0 records) .lines) (wrap-read u records)
-      ∙ ap (map (aligned a)) numbered-lines
+    -- from the start of a text line
+    started-lines : map (λ (run : Run). lineAt u text (composedRun from a run)) (lineRuns u a records (startLine u method)) ≡ map (aligned a) (linesOf u method a (numbered from records))
+    started-lines =
+        ap (map (λ (run : Run). lineAt u text (composedRun from a run))) (starts-runs u a method records)
+        ∙ told-lines (linesOf u method a (numbered 0 records)) (lines-read u a method records)
+        ∙ ap (map (aligned a)) numbered-lines
 
-module _ (u : Rule) (own : Alignment) (text : List ℕ) (at : ℕ) (c : Composer) (k : at < length text) (h : Opens text at) (p : Opened u own text at c) where
+module _ (u : Rule) (method : Method) (own : Alignment) (text : List ℕ) (at : ℕ) (c : Composer) (k : at < length text) (h : Opens text at)
+    (p : Opened u method own text at c) where
   opened-part : part text c ≡ untilHead (drop (at + 1) text)
   opened-part =
       let n : c .to - c .from ≡ length (untilHead (drop (at + 1) text)) = omega (arith, p .from, p .to) in
@@ -68,31 +69,36 @@ module _ (u : Rule) (own : Alignment) (text : List ℕ) (at : ℕ) (c : Composer
       record {
         from-to = omega (arith, p .from, p .to);
         to-end = omega (arith, p .to, end-within text at k);
-        sound = rw (p .wrapper) (start-sound u (part text c));
+        sound = rw (p .lines) (starts-sound u method (part text c));
         head = rw (p .to) (next .head);
       }
 
   abbrev line : TextLine
   line = record { head = getD text at 0; first = suc at; records = untilHead (drop (at + 1) text) }
 
-  opened-lines : map (λ (run : Run). lineAt u text (composedRun (c .from) (c .alignment) run)) (runs u (part text c) (c .wrapper)) ≡ lineLines u own line
+  opened-lines :
+      map (λ (run : Run). lineAt u text (composedRun (c .from) (c .alignment) run)) (lineRuns u (c .alignment) (part text c) (c .lines))
+      ≡ lineLines u method own line
   unfolding lineLines
   opened-lines =
       let f : c .from ≡ suc at = p .from ∙ add-one at in
-      ap (λ (w : Wrapper). map (λ (run : Run). lineAt u text (composedRun (c .from) (c .alignment) run)) (runs u (part text c) w)) (p .wrapper)
-      ∙ started-lines u text (c .from) (c .to) (c .alignment)
-      ∙ ap (λ (rs : List ℕ). map (aligned (c .alignment)) (wrap u (numbered (c .from) rs) .lines)) opened-part
+      ap (λ (s : LineComposer). map (λ (run : Run). lineAt u text (composedRun (c .from) (c .alignment) run)) (lineRuns u (c .alignment) (part text c) s)) (p .lines)
+      ∙ started-lines u text (c .from) (c .to) (c .alignment) method
+      ∙ ap (λ (rs : List ℕ). map (aligned (c .alignment)) (linesOf u method (c .alignment) (numbered (c .from) rs))) opened-part
       ∙ rw (f, p .alignment)
 
-  pub opened-left : left u own text c ≡ allLines u own (linesFrom at (drop at text))
+  pub opened-method : methodOf (c .lines) ≡ method
+  opened-method = ap methodOf (p .lines) ∙ method-starts u method
+
+  pub opened-left : left u own text c ≡ allLines u method own (linesFrom at (drop at text))
   unfolding left
   opened-left =
       let n = length (untilHead (drop (at + 1) text)) in
-      rw (opened-lines, p .to, line-first text at n k h refl)
+      rw (opened-lines, opened-method, p .to, line-first text at n k h refl)
 
 -- what `open` makes
-pub opened : (u : Rule) (own a : Alignment) (text : List ℕ) (at glyphs : ℕ) (w : Wrapper)
-    → glyphs ≡ length (untilHead (rest text (at + 1))) → w ≡ startRun u → a ≡ resolved (alignmentOf (getD text at 0)) own
-    → Opened u own text at (record { wrapper = w; from = at + 1; to = at + 1 + glyphs; alignment = a })
-opened u own a text at glyphs w e f g =
-    record { wrapper = f; from = refl; to = rw (e, rest-is text (at + 1)); alignment = g }
+pub opened : (u : Rule) (method : Method) (own a : Alignment) (text : List ℕ) (at glyphs : ℕ) (s : LineComposer)
+    → glyphs ≡ length (untilHead (rest text (at + 1))) → s ≡ startLine u method → a ≡ resolved (alignmentOf (getD text at 0)) own
+    → Opened u method own text at (record { lines = s; from = at + 1; to = at + 1 + glyphs; alignment = a })
+opened u method own a text at glyphs s e f g =
+    record { lines = f; from = refl; to = rw (e, rest-is text (at + 1)); alignment = g }

@@ -10,16 +10,16 @@ use lib.Seq.{drop-at}
 use Rattle.text.specs.declared.Alignment.{Alignment}
 use Rattle.text.specs.Record.{isHead, alignmentOf}
 use Rattle.text.specs.Alignment.{resolved}
-use Rattle.text.specs.Line.{Glyph, TextLine, numbered, untilHead, linesFrom}
+use Rattle.text.specs.Line.{Glyph, numbered, untilHead, linesFrom}
 use Rattle.text.proofs.TextLines.{until-take}
 use Rattle.reflow.specs.declared.Rule.{Rule}
-use Rattle.reflow.specs.Wrapping.{wrap}
 use Rattle.reflow.specs.Runs.{runOf}
 use Rattle.reflow.proofs.Simulation.{ReadAll}
-use Rattle.reflow.proofs.WholeLine.{wrap-read}
 use Rattle.reflow.proofs.Renumbering.{renumber}
-use Rattle.compose.specs.Lines.{Line, aligned, lineLines, allLines, lines, composedOf}
+use Rattle.compose.specs.declared.Method.{Method}
+use Rattle.compose.specs.Lines.{Line, aligned, linesOf, lineLines, allLines, lines, composedOf}
 use Rattle.compose.specs.Composing.{lineAt}
+use Rattle.compose.proofs.Methods.{lines-read}
 use Rattle.compose.proofs.Told.{told-line, is-told}
 use Rattle.compose.proofs.Opening.{numbered-lines}
 
@@ -44,13 +44,13 @@ module _ (u : Rule) (text : List ℕ) (from to : ℕ) (a : Alignment) where
     part-back ls (r .1),
   )
 
-  wrapped-back : ReadBack u text (map (aligned a) (wrap u (numbered from records) .lines))
-  wrapped-back = rw (numbered-lines u text from to a) at (part-back (wrap u (numbered 0 records) .lines) (wrap-read u records))
+  lines-back : (method : Method) → ReadBack u text (map (aligned a) (linesOf u method a (numbered from records)))
+  lines-back method = rw (numbered-lines u text from to a method) at (part-back (linesOf u method a (numbered 0 records)) (lines-read u a method records))
 
-module _ (u : Rule) (own : Alignment) (text : List ℕ) where
+module _ (u : Rule) (method : Method) (own : Alignment) (text : List ℕ) where
   -- the text line whose head r stands after the records before it
   line-back : (before : List ℕ) (r : ℕ) (rs : List ℕ) → text ≡ before ++ r ∷ rs
-      → ReadBack u text (lineLines u own (record { head = r; first = suc (length before); records = untilHead rs }))
+      → ReadBack u text (lineLines u method own (record { head = r; first = suc (length before); records = untilHead rs }))
   unfolding lineLines
   line-back before r rs e =
       let from : ℕ = suc (length before) in
@@ -58,24 +58,24 @@ module _ (u : Rule) (own : Alignment) (text : List ℕ) where
       ap (drop from) (e ∙ sym (append-assoc before (r ∷ []) rs)) ∙ drop-at (before ++ (r ∷ [])) rs from (length-append before (r ∷ []) ∙ omega arith) in
       let n : from + length (untilHead rs) - from ≡ length (untilHead rs) = omega arith in
       let k : take (from + length (untilHead rs) - from) (drop from text) ≡ untilHead rs = rw (n, d) (until-take rs) in
-      rw k at (wrapped-back u text from (from + length (untilHead rs)) (resolved (alignmentOf r) own))
+      rw k at (lines-back u text from (from + length (untilHead rs)) (resolved (alignmentOf r) own) method)
 
-  from-back : (before rs : List ℕ) → text ≡ before ++ rs → ReadBack u text (allLines u own (linesFrom (length before) rs))
+  from-back : (before rs : List ℕ) → text ≡ before ++ rs → ReadBack u text (allLines u method own (linesFrom (length before) rs))
   from-back before [] e = tt
   from-back before (r ∷ rs) e =
       let s : text ≡ (before ++ (r ∷ [])) ++ rs = e ∙ sym (append-assoc before (r ∷ []) rs) in
       let n : length (before ++ (r ∷ [])) ≡ suc (length before) = length-append before (r ∷ []) ∙ omega arith in
       go (isHead r) (rw n at (from-back (before ++ (r ∷ [])) rs s))
     where
-      go : (b : Bool) → ReadBack u text (allLines u own (linesFrom (suc (length before)) rs))
+      go : (b : Bool) → ReadBack u text (allLines u method own (linesFrom (suc (length before)) rs))
           → ReadBack u text
-          (allLines u own
+          (allLines u method own
           (cond b
           (record { head = r; first = suc (length before); records = untilHead rs } ∷ linesFrom (suc (length before)) rs)
           (linesFrom (suc (length before)) rs)))
-      go true later = both u text (lineLines u own (record { head = r; first = suc (length before); records = untilHead rs })) _ (line-back before r rs e) later
+      go true later = both u text (lineLines u method own (record { head = r; first = suc (length before); records = untilHead rs })) _ (line-back before r rs e) later
       go false later = later
 
-  pub read-back : ReadBack u text (lines u own text)
+  pub read-back : ReadBack u text (lines u method own text)
   unfolding lines
   read-back = from-back [] text refl

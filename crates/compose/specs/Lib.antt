@@ -1,2 +1,4 @@
 pub mod Lines
+pub mod Places
+pub mod Composers
 pub mod Composing

@@ -1,4 +1,4 @@
--- Document 01, 'Packed fields' and 'Wrapping': the composed lines of a whole text.
+-- Document 01, 'Packed fields', 'Wrapping' and 'After the pages': the composed lines of a whole text, and the glyphs that it drops.
 use Prim.Native.Nat.{ℕ, _+_}
 use mathlib.Core.List.{List, [], _∷_, _++_, map}
 use Rattle.text.specs.declared.Alignment.{Alignment}
@@ -7,6 +7,9 @@ use Rattle.text.specs.Alignment.{resolved}
 use Rattle.text.specs.Line.{Glyph, TextLine, linesFrom, glyphsOf}
 use Rattle.reflow.specs.declared.Rule.{Rule}
 use Rattle.reflow.specs.Wrapping.{total, wrap}
+use Rattle.reflow.specs.Truncation.{truncate}
+use Rattle.compose.specs.declared.Method.{Method}
+use Rattle.compose.specs.declared.Method.the-variants.{Wrapped, Truncated}
 use Rattle.compose.specs.declared.Composed.{Composed}
 
 -- a composed line: its text line's alignment, resolved, and its glyphs
@@ -17,18 +20,33 @@ pub record Line : Type 0 where
 abbrev pub aligned : Alignment → List Glyph → Line
 aligned alignment glyphs = record { alignment = alignment; glyphs = glyphs }
 
+-- the lines of the glyphs of one text line, wrapped, or truncated and scrolled to the right by so many columns
+unfoldable pub linesOf : Rule → Method → Alignment → List Glyph → List (List Glyph)
+linesOf u Wrapped alignment gs = wrap u gs .lines
+linesOf u (Truncated column) alignment gs = truncate u column alignment gs
+
 -- the composed lines of one text line
-unfoldable pub lineLines : Rule → Alignment → TextLine → List Line
-lineLines u own line = map (aligned (resolved (alignmentOf (line .head)) own)) (wrap u (glyphsOf line) .lines)
+unfoldable pub lineLines : Rule → Method → Alignment → TextLine → List Line
+lineLines u method own line =
+    let alignment = resolved (alignmentOf (line .head)) own in
+    map (aligned alignment) (linesOf u method alignment (glyphsOf line))
 
 -- those of text lines, one after another
-abbrev pub allLines : Rule → Alignment → List TextLine → List Line
-allLines u own [] = []
-allLines u own (line ∷ rest) = lineLines u own line ++ allLines u own rest
+abbrev pub allLines : Rule → Method → Alignment → List TextLine → List Line
+allLines u method own [] = []
+allLines u method own (line ∷ rest) = lineLines u method own line ++ allLines u method own rest
 
 -- those of a text
-unfoldable pub lines : Rule → Alignment → List ℕ → List Line
-lines u own text = allLines u own (linesFrom 0 text)
+unfoldable pub lines : Rule → Method → Alignment → List ℕ → List Line
+lines u method own text = allLines u method own (linesFrom 0 text)
+
+-- the glyphs that wrapping drops, of text lines and of a text
+abbrev pub allDropped : Rule → List TextLine → List Glyph
+allDropped u [] = []
+allDropped u (line ∷ rest) = wrap u (glyphsOf line) .dropped ++ allDropped u rest
+
+unfoldable pub dropped : Rule → List ℕ → List Glyph
+dropped u text = allDropped u (linesFrom 0 text)
 
 -- "First and end are record numbers, end one past, both 0 where the line holds no glyph."
 abbrev pub firstOf : List Glyph → ℕ

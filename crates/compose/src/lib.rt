@@ -1,7 +1,10 @@
 // The composed lines of a whole text, pulled one by one.
-use reflow::Next;
+
+mod line_composer;
+
 use reflow::Rule;
 use reflow::Run;
+use reflow::Truncator;
 use reflow::Wrapper;
 use text::Alignment;
 use text::head;
@@ -12,6 +15,7 @@ ghost use Prim.Native.Nat.{_+_, _^_, _<_};
 ghost use lib.ListN.{length};
 ghost use Rattle.refuse.specs.Causes.{notOpening};
 ghost use Rattle.compose.specs.Composing.{composedRun, Ready, Opened, Started, Pulled};
+ghost use Rattle.compose.specs.Composers.{methodOf};
 
 // What is told of a composed line: its first record, one past its last, its width and its alignment.
 pub struct Composed {
@@ -21,9 +25,27 @@ pub struct Composed {
     pub alignment: Alignment,
 }
 
+// How lines are composed: wrapped, or truncated and scrolled to the right by so many columns.
+pub enum Method {
+    Wrapped,
+    Truncated(u32),
+}
+
+// reflow.rs' `LineComposer`: which composer is at work on a text line, and where it stands.
+pub enum LineComposer {
+    Wrapping(Wrapper),
+    Truncating(Truncator),
+}
+
+// The next line of a text line, or none.
+pub enum NextLine {
+    Line(Run, LineComposer),
+    Done,
+}
+
 // Where the composing of a text stands: in the text line whose glyphs are the records from `from` to `to`.
 pub struct Composer {
-    pub wrapper: Wrapper,
+    pub lines: LineComposer,
     pub from: usize,
     pub to: usize,
     pub alignment: Alignment,
@@ -59,13 +81,13 @@ fn composed_line(from: usize, alignment: Alignment, run: Run) -> Composed
 
 impl Composer {
     // Before a text's first line.
-    pub fn start(rule: Rule, text: &[u32]) -> Composer
+    pub fn start(rule: Rule, method: Method, text: &[u32]) -> Composer
         requires { ⌜ notOpening (now text) ≡ false ⌝ }
-        ensures { λ c. ⌜ Started rule (now (text .entry)) c ⌝ }
+        ensures { λ c. ⌜ Started rule method (now (text .entry)) c ⌝ }
     {
-        let wrapper = Wrapper::start(rule).closed();
+        let lines = LineComposer::start(rule, method).closed();
         Composer {
-            wrapper,
+            lines,
             from: 0,
             to: 0,
             alignment: Alignment::Left,
@@ -73,17 +95,18 @@ impl Composer {
     }
 
     // At the text line whose head stands at `at`.
-    fn open(rule: Rule, own: Alignment, text: &[u32], at: usize) -> Composer
+    fn open(self, rule: Rule, own: Alignment, text: &[u32], at: usize) -> Composer
         requires { ⌜ at < length (now text) ⌝ }
-        ensures { λ c. ⌜ Opened rule own (now (text .entry)) at c ⌝ }
+        ensures { λ c. ⌜ Opened rule (methodOf (self .lines)) own (now (text .entry)) at c ⌝ }
     {
         let from = at + 1;
         let glyphs = line::line_length(&text[from..]);
         let to = from + glyphs;
-        let wrapper = Wrapper::start(rule);
+        let before = self.lines;
+        let lines = before.restart(rule);
         let alignment = head::resolve(text[at], own);
         Composer {
-            wrapper,
+            lines,
             from,
             to,
             alignment,
@@ -101,17 +124,17 @@ impl Composer {
             let from = composer.from;
             let to = composer.to;
             let alignment = composer.alignment;
-            let wrapper = composer.wrapper;
-            let Next::Line(run, next) = wrapper.next_line(rule, &text[from..to]) else {
+            let lines = composer.lines;
+            let NextLine::Line(run, next) = lines.next_line(rule, alignment, &text[from..to]) else {
                 if text.len() <= to {
                     return Pull::Done;
                 }
-                composer = Composer::open(rule, own, text, to);
+                composer = composer.open(rule, own, text, to);
                 continue;
             };
             let line = composed_line(from, alignment, run);
             let rest = Composer {
-                wrapper: next,
+                lines: next,
                 from,
                 to,
                 alignment,

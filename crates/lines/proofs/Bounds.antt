@@ -14,7 +14,8 @@ use Rattle.reflow.specs.Wrapping.{total, wrap}
 use Rattle.nothing_lost.specs.Glyphs.{NoWider, none, one}
 use Rattle.nothing_lost.proofs.Bounds.{any-cells, numbered-widths}
 use Rattle.nothing_lost.proofs.Few.{lines-few}
-use Rattle.compose.specs.Lines.{Line, aligned, lineLines, allLines, lines}
+use Rattle.compose.specs.declared.Method.the-variants.{Wrapped}
+use Rattle.compose.specs.Lines.{Line, aligned, linesOf, lineLines, allLines, lines}
 
 -- no line is wider than the most given
 abbrev pub Narrow : ℕ → List Line → Type 0
@@ -29,15 +30,15 @@ narrow-aligned : {most : ℕ} {ls : List (List Glyph)} (a : Alignment) → NoWid
 narrow-aligned a none = tt
 narrow-aligned a (one h rest) = (h, narrow-aligned a rest)
 
-narrow-all : (u : Rule) (own : Alignment) (ls : List TextLine) → Narrow (u .limit + 13) (allLines u own ls)
-unfolding lineLines
+narrow-all : (u : Rule) (own : Alignment) (ls : List TextLine) → Narrow (u .limit + 13) (allLines u Wrapped own ls)
+unfolding lineLines linesOf
 narrow-all u own [] = tt
 narrow-all u own (l ∷ ls) =
-    narrow-append (u .limit + 13) (lineLines u own l) (allLines u own ls)
+    narrow-append (u .limit + 13) (lineLines u Wrapped own l) (allLines u Wrapped own ls)
     (narrow-aligned (resolved (alignmentOf (l .head)) own) (any-cells u (glyphsOf l) (numbered-widths (l .first) (l .records))))
     (narrow-all u own ls)
 
-pub narrow-lines : (u : Rule) (own : Alignment) (text : List ℕ) → Narrow (u .limit + 13) (lines u own text)
+pub narrow-lines : (u : Rule) (own : Alignment) (text : List ℕ) → Narrow (u .limit + 13) (lines u Wrapped own text)
 unfolding lines
 narrow-lines u own text = narrow-all u own (linesFrom 0 text)
 
@@ -45,8 +46,8 @@ numbered-length : (number : ℕ) (rs : List ℕ) → length (numbered number rs)
 numbered-length number [] = refl
 numbered-length number (r ∷ rs) = omega (arith, numbered-length (suc number) rs)
 
-line-short : (u : Rule) (own : Alignment) (l : TextLine) → length (lineLines u own l) ≤ suc (length (l .records))
-unfolding lineLines
+line-short : (u : Rule) (own : Alignment) (l : TextLine) → length (lineLines u Wrapped own l) ≤ suc (length (l .records))
+unfolding lineLines linesOf
 line-short u own l =
     omega (
       arith,
@@ -56,21 +57,21 @@ line-short u own l =
     )
 
 -- each head has room for a line, and each glyph
-all-short : (u : Rule) (own : Alignment) (i : ℕ) (rs : List ℕ) → length (allLines u own (linesFrom i rs)) + length (untilHead rs) ≤ length rs
+all-short : (u : Rule) (own : Alignment) (i : ℕ) (rs : List ℕ) → length (allLines u Wrapped own (linesFrom i rs)) + length (untilHead rs) ≤ length rs
 all-short u own i [] = omega arith
 all-short u own i (r ∷ rs) = go (isHead r) (all-short u own (suc i) rs)
   where
-    go : (b : Bool) → length (allLines u own (linesFrom (suc i) rs)) + length (untilHead rs) ≤ length rs
-        → length (allLines u own (cond b (record { head = r; first = suc i; records = untilHead rs } ∷ linesFrom (suc i) rs) (linesFrom (suc i) rs))) + length (cond b [] (r ∷ untilHead rs)) ≤ suc (length rs)
+    go : (b : Bool) → length (allLines u Wrapped own (linesFrom (suc i) rs)) + length (untilHead rs) ≤ length rs
+        → length (allLines u Wrapped own (cond b (record { head = r; first = suc i; records = untilHead rs } ∷ linesFrom (suc i) rs) (linesFrom (suc i) rs))) + length (cond b [] (r ∷ untilHead rs)) ≤ suc (length rs)
     go true h =
         omega (
           arith,
-          length-append (lineLines u own (record { head = r; first = suc i; records = untilHead rs })) (allLines u own (linesFrom (suc i) rs)),
+          length-append (lineLines u Wrapped own (record { head = r; first = suc i; records = untilHead rs })) (allLines u Wrapped own (linesFrom (suc i) rs)),
           line-short u own (record { head = r; first = suc i; records = untilHead rs }),
         )
     go false h = omega arith
 
 -- a text has no more lines than records: a list as long as the text is never too short
-pub lines-short : (u : Rule) (own : Alignment) (text : List ℕ) → length (lines u own text) ≤ length text
+pub lines-short : (u : Rule) (own : Alignment) (text : List ℕ) → length (lines u Wrapped own text) ≤ length text
 unfolding lines
 lines-short u own text = omega (arith, all-short u own 0 text)

@@ -14,7 +14,8 @@ use Rattle.compose.specs.declared.Composed.{Composed}
 use Rattle.compose.specs.declared.Composer.{Composer}
 use Rattle.compose.specs.declared.Pull.{Pull}
 use Rattle.compose.specs.declared.Pull.the-variants.{Line as PulledLine, Done}
-use Rattle.compose.specs.Lines.{Line, lines, composedOf}
+use Rattle.compose.specs.declared.Method.the-variants.{Wrapped}
+use Rattle.compose.specs.Lines.{lines, composedOf}
 use Rattle.compose.specs.Composing.{left, lineAt, Ready, Started, Told, Pulled}
 use Rattle.lines.specs.List.{packed, listed}
 use Rattle.lines.proofs.Bounds.{Narrow, narrow-lines, lines-short}
@@ -22,9 +23,9 @@ use Rattle.lines.proofs.Bounds.{Narrow, narrow-lines, lines-short}
 -- n lines were pulled, and the composer has the others
 pub record Counting (u : Rule) (own : Alignment) (text : List ℕ) (c : Composer) (n : ℕ) : Type 0 where
   pub ready : Ready u text c
-  pub counted : n + length (left u own text c) ≡ length (lines u own text)
+  pub counted : n + length (left u own text c) ≡ length (lines u Wrapped own text)
 
-pub counting-starts : (u : Rule) (own : Alignment) (text : List ℕ) (c : Composer) → Started u text c → Counting u own text c 0
+pub counting-starts : (u : Rule) (own : Alignment) (text : List ℕ) (c : Composer) → Started u Wrapped text c → Counting u own text c 0
 counting-starts u own text c s = record { ready = s .ready; counted = omega (arith, ap length (s .lines-left own)) }
 
 module _ (u : Rule) (own : Alignment) (text : List ℕ) (c : Composer) (n : ℕ) (k : Counting u own text c n) (o : Pull) (p : Pulled u own text c o) where
@@ -41,13 +42,13 @@ module _ (u : Rule) (own : Alignment) (text : List ℕ) (c : Composer) (n : ℕ)
     pub counting-less : length (left u own text d) < length (left u own text c)
     counting-less = omega (arith, ap length pulled-left)
 
-    pub counting-more : n < length (lines u own text)
+    pub counting-more : n < length (lines u Wrapped own text)
     counting-more = omega (arith, k .counted, ap length pulled-left)
 
     pub counting-fits : length text < 2 ^ 28 → Fits w64 (n + 1)
     counting-fits h = record { fits = omega (arith, counting-more, lines-short u own text) }
 
-  pub counting-done : o ≡ Done → n ≡ length (lines u own text)
+  pub counting-done : o ≡ Done → n ≡ length (lines u Wrapped own text)
   counting-done e = let z : left u own text c ≡ [] = rw e at (p .pulled-lines) in omega (arith, k .counted, ap length z)
 
 pub ruleset counting = (counting-starts, counting-goes, counting-less, counting-fits, counting-done)
@@ -55,13 +56,13 @@ pub ruleset counting = (counting-starts, counting-goes, counting-less, counting-
 -- n lines were pulled and written, later entries are as they were, and none of the lines left is too wide
 pub record Writing (u : Rule) (own : Alignment) (text old list : List ℕ) (c : Composer) (n : ℕ) : Type 0 where
   pub counting-on : Counting u own text c n
-  pub done : take n list ++ map listed (left u own text c) ≡ map listed (lines u own text)
+  pub done : take n list ++ map listed (left u own text c) ≡ map listed (lines u Wrapped own text)
   pub after : drop n list ≡ drop n old
   pub same : length list ≡ length old
-  pub room : length (lines u own text) ≤ length old
+  pub room : length (lines u Wrapped own text) ≤ length old
   pub narrow : Narrow (u .limit + 13) (left u own text c)
 
-pub writing-starts : (u : Rule) (own : Alignment) (text old : List ℕ) (c : Composer) → Started u text c → length (lines u own text) ≤ length old → Writing u own text old old c 0
+pub writing-starts : (u : Rule) (own : Alignment) (text old : List ℕ) (c : Composer) → Started u Wrapped text c → length (lines u Wrapped own text) ≤ length old → Writing u own text old old c 0
 writing-starts u own text old c s r =
     record {
       counting-on = counting-starts u own text c s;
@@ -123,11 +124,11 @@ module _ (u : Rule) (own : Alignment) (text old list : List ℕ) (c : Composer) 
           narrow = both .1;
         }
 
-  pub writing-done : o ≡ Done → list ≡ map listed (lines u own text) ++ drop (length (lines u own text)) old
+  pub writing-done : o ≡ Done → list ≡ map listed (lines u Wrapped own text) ++ drop (length (lines u Wrapped own text)) old
   writing-done e =
       let z : left u own text c ≡ [] = rw e at (p .pulled-lines) in
-      let t : take n list ≡ map listed (lines u own text) = sym (append-nil (take n list)) ∙ rw z at (w .done) in
-      let k : n ≡ length (lines u own text) = counting-done u own text c n (w .counting-on) o p e in
+      let t : take n list ≡ map listed (lines u Wrapped own text) = sym (append-nil (take n list)) ∙ rw z at (w .done) in
+      let k : n ≡ length (lines u Wrapped own text) = counting-done u own text c n (w .counting-on) o p e in
       sym (take-append-drop n list) ∙ cc (w .after)
 
 pub ruleset writing = (writing-starts, writing-room, writing-fits, writing-scaled, first-fits, end-fits, width-fits, writing-less, writing-goes, writing-done)

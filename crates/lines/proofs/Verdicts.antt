@@ -15,11 +15,11 @@ use Rattle.refuse.specs.declared.Verdict.the-variants.{Accepted, Refused as Ref
 use Rattle.refuse.specs.Refusal.{Cause, _if_, firstCause}
 use Rattle.refuse.specs.Causes.{textTooLong, notOpening, textHeadWrong, textHeadsWrong, limitWrong, listTooShort, some}
 use Rattle.refuse.proofs.Calls.{passed, neither, early-refused, early-accepted}
+use Rattle.compose.specs.declared.Method.the-variants.{Wrapped}
 use Rattle.compose.specs.Lines.{Line, lines}
-use Rattle.lines.specs.declared.Listed.{Listed}
 use Rattle.lines.specs.declared.Listed.the-variants.{Written, Refused}
 use Rattle.lines.specs.List.{listed, ruleOf, listCauses, listVerdict, listAnswer, listAfter}
-use Rattle.lines.specs.Stages.{textVerdict}
+use Rattle.lines.specs.Causes.{textCauses, textVerdict}
 
 -- v is what the checks of the text answered, with the ceilings m
 module _ (most m : Ceilings) (limit : ℕ) (text : List ℕ) (v : Verdict) (q : m ≡ most) (e : v ≡ textVerdict m limit text) where
@@ -27,12 +27,12 @@ module _ (most m : Ceilings) (limit : ℕ) (text : List ℕ) (v : Verdict) (q : 
   text-causes = TextLength if textTooLong most text ∷ TextHeads if textHeadsWrong text ∷ Limit if limitWrong most limit ∷ []
 
   checked : v ≡ firstCause text-causes
-  unfolding textVerdict
+  unfolding textVerdict textCauses
   checked = rw q at e
 
   module _ (own : Alignment) (trim : Bool) (list : List ℕ) where
     abbrev all : List Line
-    all = lines (ruleOf limit trim) own text
+    all = lines (ruleOf limit trim) Wrapped own text
 
     abbrev verdict : Verdict
     verdict = listVerdict most (ruleOf limit trim) own text (length list)

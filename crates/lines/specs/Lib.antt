@@ -1,2 +1,2 @@
+pub mod Causes
 pub mod List
-pub mod Stages

@@ -1,7 +1,7 @@
 -- Document 01, 'Packed fields' and 'Why a call is refused': the list call.
 use Prim.Native.Nat.{ℕ, _+_, _*_, _^_}
 use mathlib.Core.Bool.{Bool}
-use mathlib.Core.List.{List, [], _∷_, _++_, map}
+use mathlib.Core.List.{List, [], _∷_, _++_}
 use lib.ListN.{length, drop}
 use Rattle.text.specs.declared.Alignment.{Alignment}
 use Rattle.text.specs.Alignment.{alignmentNumber}
@@ -13,6 +13,7 @@ use Rattle.refuse.specs.Refusal.{Cause, _if_, firstCause, refusalNumber}
 use Rattle.refuse.specs.Causes.{textTooLong, textHeadsWrong, limitWrong, listTooShort}
 use Rattle.reflow.specs.declared.Rule.{Rule}
 use Rattle.compose.specs.declared.Composed.{Composed}
+use Rattle.compose.specs.declared.Method.the-variants.{Wrapped}
 use Rattle.compose.specs.Lines.{Line, lines, composedOf}
 use Rattle.lines.specs.declared.Listed.{Listed}
 use Rattle.lines.specs.declared.Listed.the-variants.{Written, Refused}
@@ -38,7 +39,7 @@ listCauses most limit text count entries =
     ∷ []
 
 unfoldable pub listVerdict : Ceilings → Rule → Alignment → List ℕ → ℕ → Verdict
-listVerdict most u own text entries = firstCause (listCauses most (u .limit) text (length (lines u own text)) entries)
+listVerdict most u own text entries = firstCause (listCauses most (u .limit) text (length (lines u Wrapped own text)) entries)
 
 -- the answer: how many lines were written, or why none was
 abbrev pub listAnswer : Verdict → ℕ → Listed

@@ -1,6 +1,8 @@
 // The calls on composed lines that are open to callers.
+
 use compose::Composed;
 use compose::Composer;
+use compose::Method;
 use compose::Pull;
 use reflow::Rule;
 use refuse::Ceilings;
@@ -15,9 +17,10 @@ ghost use mathlib.Core.List.{_++_, map};
 ghost use Prim.Native.Nat.{_+_, _^_, _≤_, _<_};
 ghost use lib.ListN.{length, drop};
 ghost use Rattle.refuse.specs.Causes.{mostAccepted, notOpening};
+ghost use Rattle.compose.specs.declared.Method.the-variants.{Wrapped};
 ghost use Rattle.compose.specs.Lines.{lines};
 ghost use Rattle.lines.specs.List.{packed, listed, ruleOf, listVerdict, listAnswer, listAfter};
-ghost use Rattle.lines.specs.Stages.{textVerdict};
+ghost use Rattle.lines.specs.Causes.{textVerdict};
 
 // What a list call answers: how many lines it wrote, or why it wrote none.
 pub enum Listed {
@@ -56,9 +59,9 @@ fn check_text(most: Ceilings, limit: u16, text: &[u32]) -> Verdict
 // How many lines a text has.
 fn count_lines(rule: Rule, own: Alignment, text: &[u32]) -> usize
     requires { ⌜ (length (now text) < 2 ^ 28) × (notOpening (now text) ≡ false) ⌝ }
-    ensures { λ r. ⌜ r ≡ length (lines rule own (now (text .entry))) ⌝ }
+    ensures { λ r. ⌜ r ≡ length (lines rule Wrapped own (now (text .entry))) ⌝ }
 {
-    let mut composer = Composer::start(rule, text);
+    let mut composer = Composer::start(rule, Method::Wrapped, text);
     let mut count = 0;
     loop {
         let Pull::Line(_, next) = composer.next(rule, own, text) else {
@@ -72,10 +75,10 @@ fn count_lines(rule: Rule, own: Alignment, text: &[u32]) -> usize
 // Writes the lines of a text to a list that is long enough.
 fn write_lines(rule: Rule, own: Alignment, text: &[u32], list: &mut [u64])
     requires { ⌜ (length (now text) < 2 ^ 15) × (notOpening (now text) ≡ false) × (rule .limit + 13 < 2 ^ 16) ⌝ }
-    requires { ⌜ length (lines rule own (now text)) ≤ length (now list) ⌝ }
-    ensures { λ _. ⌜ now (list .exit) ≡ map listed (lines rule own (now (text .entry))) ++ drop (length (lines rule own (now (text .entry)))) (now (list .entry)) ⌝ }
+    requires { ⌜ length (lines rule Wrapped own (now text)) ≤ length (now list) ⌝ }
+    ensures { λ _. ⌜ now (list .exit) ≡ map listed (lines rule Wrapped own (now (text .entry))) ++ drop (length (lines rule Wrapped own (now (text .entry)))) (now (list .entry)) ⌝ }
 {
-    let mut composer = Composer::start(rule, text);
+    let mut composer = Composer::start(rule, Method::Wrapped, text);
     let mut count = 0;
     loop {
         let Pull::Line(line, next) = composer.next(rule, own, text) else {
@@ -89,8 +92,8 @@ fn write_lines(rule: Rule, own: Alignment, text: &[u32], list: &mut [u64])
 
 // Lists the composed lines of a text: causes 3, 4, 8, 9. The lines are counted before the first entry is written.
 pub fn list_lines(text: &[u32], own: Alignment, limit: u16, trim: bool, list: &mut [u64]) -> Listed
-    ensures answer { λ r. ⌜ r ≡ listAnswer (listVerdict mostAccepted (ruleOf limit trim) own (now (text .entry)) (length (now (list .entry)))) (length (lines (ruleOf limit trim) own (now (text .entry)))) ⌝ }
-    ensures entries { λ r. ⌜ now (list .exit) ≡ listAfter (listVerdict mostAccepted (ruleOf limit trim) own (now (text .entry)) (length (now (list .entry)))) (map listed (lines (ruleOf limit trim) own (now (text .entry)))) (now (list .entry)) ⌝ }
+    ensures answer { λ r. ⌜ r ≡ listAnswer (listVerdict mostAccepted (ruleOf limit trim) own (now (text .entry)) (length (now (list .entry)))) (length (lines (ruleOf limit trim) Wrapped own (now (text .entry)))) ⌝ }
+    ensures entries { λ r. ⌜ now (list .exit) ≡ listAfter (listVerdict mostAccepted (ruleOf limit trim) own (now (text .entry)) (length (now (list .entry)))) (map listed (lines (ruleOf limit trim) Wrapped own (now (text .entry)))) (now (list .entry)) ⌝ }
 {
     let most = Ceilings::accepted();
     if let Verdict::Refused(why) = check_text(most, limit, text) {

@@ -11,9 +11,9 @@ use lib.Seq.{length-take-le, take-at}
 use Rattle.refuse.specs.declared.Refusal.{Refusal}
 use Rattle.refuse.specs.Refusal.{refusalNumber}
 use Rattle.text.specs.declared.Alignment.the-variants.{Left}
-use Rattle.refuse.specs.Causes.{mostAccepted}
+use Rattle.compose.specs.declared.Method.the-variants.{Wrapped}
 use Rattle.compose.specs.Lines.{lines}
-use Rattle.lines.specs.List.{listed, ruleOf, listVerdict, listAnswer, listAfter}
+use Rattle.lines.specs.List.{listed, ruleOf, listAnswer, listAfter}
 use Rattle.lines.specs.declared.Listed.{Listed}
 use Rattle.lines.specs.declared.Listed.the-variants as listed-variant
 use Rattle.listing.specs.declared.Answer.{Answer}
@@ -69,8 +69,8 @@ module _ (input : List ℕ) (p : Parsed) (e : p ≡ parsedOf input) where
           ap (take count) k ∙ take-at (recordsOf input) (drop count text₀) count (sym (known .0))
 
       pub answer-listed : (l : Listed) (list : List ℕ) (r : Answer) → r ≡ answerFor l
-          → l ≡ listAnswer (programVerdict limit trim (take count text) (length list₀)) (length (lines (ruleOf limit trim) Left (take count text)))
-          → list ≡ listAfter (programVerdict limit trim (take count text) (length list₀)) (map listed (lines (ruleOf limit trim) Left (take count text))) list₀
+          → l ≡ listAnswer (programVerdict limit trim (take count text) (length list₀)) (length (lines (ruleOf limit trim) Wrapped Left (take count text)))
+          → list ≡ listAfter (programVerdict limit trim (take count text) (length list₀)) (map listed (lines (ruleOf limit trim) Wrapped Left (take count text))) list₀
           → (r ≡ answerOf input (length list₀)) × (list ≡ listOf input list₀)
       unfolding answerOf listOf
       answer-listed l list r q f g =

@@ -8,6 +8,7 @@ use Rattle.refuse.specs.Refusal.{refusalNumber}
 use Rattle.text.specs.declared.Alignment.the-variants.{Left}
 use Rattle.refuse.specs.declared.Verdict.{Verdict}
 use Rattle.refuse.specs.Causes.{mostAccepted}
+use Rattle.compose.specs.declared.Method.the-variants.{Wrapped}
 use Rattle.compose.specs.Lines.{lines}
 use Rattle.lines.specs.List.{listed, ruleOf, listVerdict, listAnswer, listAfter}
 use Rattle.lines.specs.declared.Listed.{Listed}
@@ -87,12 +88,12 @@ programVerdict limit trim text entries = listVerdict mostAccepted (ruleOf limit 
 abbrev pub answered : Parsed → List ℕ → ℕ → Answer
 answered (Refused number) text entries = answer.Refused number
 answered (Text limit trim count) text entries =
-    answerFor (listAnswer (programVerdict limit trim text entries) (length (lines (ruleOf limit trim) Left text)))
+    answerFor (listAnswer (programVerdict limit trim text entries) (length (lines (ruleOf limit trim) Wrapped Left text)))
 
 abbrev pub entered : Parsed → List ℕ → List ℕ → List ℕ
 entered (Refused number) text list = list
 entered (Text limit trim count) text list =
-    listAfter (programVerdict limit trim text (length list)) (map listed (lines (ruleOf limit trim) Left text)) list
+    listAfter (programVerdict limit trim text (length list)) (map listed (lines (ruleOf limit trim) Wrapped Left text)) list
 
 -- the answer to an input, where the list has so many entries
 unfoldable pub answerOf : List ℕ → ℕ → Answer

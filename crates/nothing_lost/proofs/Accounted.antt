@@ -12,7 +12,8 @@ use lib.ListN.{length}
 use Rattle.text.specs.Line.{Glyph, numbered}
 use Rattle.reflow.specs.declared.Rule.{Rule}
 use Rattle.reflow.specs.Wrapping.{Pending, Step, empty, total, start, overWide, takesSpaces, gathered, joined, unjoined, emptied, appended, filled, joining, step, wrapFrom, wrap, overWides}
-use Rattle.nothing_lost.specs.Glyphs.{glyphsOfAll, countOf}
+use Rattle.text.specs.Lists.{countOf}
+use Rattle.nothing_lost.specs.Glyphs.{glyphsOfAll}
 use Rattle.nothing_lost.proofs.Lists.{cases, glyphs-append}
 use Rattle.nothing_lost.proofs.Steps.{appended-ways, filled-ways, step-ways, finish-gathers, wraps}
 use Rattle.reflow.proofs.Splits.{fitting-split}

@@ -1,6 +1,6 @@
--- Words for the theorems: what is solid, what all lines hold, how often a glyph is there.
-use Prim.Native.Nat.{ℕ, _+_, _≤_}
-use mathlib.Core.Bool.{Bool, cond}
+-- Words for the theorems: what is solid, what all lines hold, how wide glyphs and lines are.
+use Prim.Native.Nat.{ℕ, _≤_}
+use mathlib.Core.Bool.{cond}
 use mathlib.Core.List.{List, [], _∷_, _++_}
 use Rattle.text.specs.Line.{Glyph}
 use Rattle.reflow.specs.Wrapping.{total}
@@ -14,11 +14,6 @@ solids (g ∷ gs) = cond (g .whitespace) (solids gs) (g ∷ solids gs)
 abbrev pub glyphsOfAll : List (List Glyph) → List Glyph
 glyphsOfAll [] = []
 glyphsOfAll (line ∷ lines) = line ++ glyphsOfAll lines
-
--- how many glyphs pass a test
-abbrev pub countOf : (Glyph → Bool) → List Glyph → ℕ
-countOf test [] = 0
-countOf test (g ∷ gs) = cond (test g) 1 0 + countOf test gs
 
 -- every width is from the least to the most given
 pub data Widths (least most : ℕ) : List Glyph → Type 0 where

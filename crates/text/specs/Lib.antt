@@ -1,3 +1,4 @@
 pub mod Record
 pub mod Alignment
 pub mod Line
+pub mod Lists

@@ -42,3 +42,8 @@ linesFrom number (r ∷ rs) =
 -- the glyphs of a line
 abbrev pub glyphsOf : TextLine → List Glyph
 glyphsOf line = numbered (line .first) (line .records)
+
+-- "glyphs are the records that aren't heads": those of records, the first of which has the number given
+abbrev pub glyphsFrom : ℕ → List ℕ → List Glyph
+glyphsFrom number [] = []
+glyphsFrom number (r ∷ rs) = cond (isHead r) (glyphsFrom (suc number) rs) (glyphFrom number r ∷ glyphsFrom (suc number) rs)
