@@ -18,8 +18,11 @@ use Rattle.refuse.proofs.Calls.{passed, neither, early-refused, early-accepted}
 use Rattle.compose.specs.declared.Method.the-variants.{Wrapped}
 use Rattle.compose.specs.Lines.{Line, lines}
 use Rattle.lines.specs.declared.Listed.the-variants.{Written, Refused}
+use Rattle.lines.specs.declared.Counts.{Counts}
+use Rattle.lines.specs.declared.Tallied.the-variants.{Counted, Refused as RefusedTally}
 use Rattle.lines.specs.List.{listed, ruleOf, listCauses, listVerdict, listAnswer, listAfter}
 use Rattle.lines.specs.Causes.{textCauses, textVerdict}
+use Rattle.lines.specs.Tally.{tallyAnswer}
 
 -- v is what the checks of the text answered, with the ceilings m
 module _ (most m : Ceilings) (limit : ℕ) (text : List ℕ) (v : Verdict) (q : m ≡ most) (e : v ≡ textVerdict m limit text) where
@@ -58,6 +61,14 @@ module _ (most m : Ceilings) (limit : ℕ) (text : List ℕ) (v : Verdict) (q : 
       written f new w =
           let k : verdict ≡ Accepted = later ∙ rw f in
           (rw (k, c), rw (k, length-map) w)
+
+  -- a tally has no other cause
+  module _ (counts : Counts) where
+    pub tally-refused : (why : Refusal) → v ≡ RefusedFor why → RefusedTally why ≡ tallyAnswer (textVerdict most limit text) counts
+    tally-refused why r = rw (← q, ← e, r)
+
+    pub tally-counted : v ≡ Accepted → (c : Counts) → c ≡ counts → Counted c ≡ tallyAnswer (textVerdict most limit text) counts
+    tally-counted a c k = rw (← q, ← e, a, k)
 
   -- no cause of the text holds
   module _ (a : v ≡ Accepted) where

@@ -1,2 +1,4 @@
 pub mod Causes
 pub mod List
+pub mod Tally
+pub mod Tallying

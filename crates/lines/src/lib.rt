@@ -1,5 +1,7 @@
 // The calls on composed lines that are open to callers.
 
+mod tallying;
+
 use compose::Composed;
 use compose::Composer;
 use compose::Method;
@@ -21,11 +23,42 @@ ghost use Rattle.compose.specs.declared.Method.the-variants.{Wrapped};
 ghost use Rattle.compose.specs.Lines.{lines};
 ghost use Rattle.lines.specs.List.{packed, listed, ruleOf, listVerdict, listAnswer, listAfter};
 ghost use Rattle.lines.specs.Causes.{textVerdict};
+ghost use Rattle.lines.specs.Tally.{tallyOf, tallyAnswer};
 
 // What a list call answers: how many lines it wrote, or why it wrote none.
 pub enum Listed {
     Written(usize),
     Refused(Refusal),
+}
+
+// The tally of a text: its composed lines, and what becomes of its glyphs.
+pub struct Counts {
+    pub lines: u32,
+    pub placed: u32,
+    pub clipped: u32,
+    pub zero_width: u32,
+    pub over_wide: u32,
+    pub dropped: u32,
+}
+
+// What a tally call answers: the counts, or why nothing was counted.
+pub enum Tallied {
+    Counted(Counts),
+    Refused(Refusal),
+}
+
+// Composed lines, and what becomes of their glyphs.
+pub struct LineCounts {
+    pub lines: u32,
+    pub placed: u32,
+    pub clipped: u32,
+    pub zero_width: u32,
+}
+
+// The glyphs of a text, and how many of them are over-wide.
+pub struct GlyphCounts {
+    pub glyphs: u32,
+    pub over_wide: u32,
 }
 
 // The entry of a composed line.
@@ -109,4 +142,19 @@ pub fn list_lines(text: &[u32], own: Alignment, limit: u16, trim: bool, list: &m
     }
     write_lines(rule, own, text, list);
     Listed::Written(count)
+}
+
+// Tallies a text at a limit: causes 3, 4, 8.
+pub fn tally(text: &[u32], limit: u16, trim: bool) -> Tallied
+    ensures { λ r. ⌜ r ≡ tallyAnswer (textVerdict mostAccepted limit (now (text .entry))) (tallyOf (ruleOf limit trim) (now (text .entry))) ⌝ }
+{
+    let most = Ceilings::accepted();
+    if let Verdict::Refused(why) = check_text(most, limit, text) {
+        return Tallied::Refused(why);
+    }
+    let rule = Rule {
+        limit: limit as u32,
+        trim,
+    };
+    Tallied::Counted(tallying::text_counts(rule, text))
 }

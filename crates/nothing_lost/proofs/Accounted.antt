@@ -13,16 +13,13 @@ use Rattle.text.specs.Line.{Glyph, numbered}
 use Rattle.reflow.specs.declared.Rule.{Rule}
 use Rattle.reflow.specs.Wrapping.{Pending, Step, empty, total, start, overWide, takesSpaces, gathered, joined, unjoined, emptied, appended, filled, joining, step, wrapFrom, wrap, overWides}
 use Rattle.text.specs.Lists.{countOf}
+use Rattle.text.proofs.Lists.{count-append}
 use Rattle.nothing_lost.specs.Glyphs.{glyphsOfAll}
 use Rattle.nothing_lost.proofs.Lists.{cases, glyphs-append}
 use Rattle.nothing_lost.proofs.Steps.{appended-ways, filled-ways, step-ways, finish-gathers, wraps}
 use Rattle.reflow.proofs.Splits.{fitting-split}
 
 module _ (test : Glyph → Bool) where
-  count-append : (a b : List Glyph) → countOf test (a ++ b) ≡ countOf test a + countOf test b
-  count-append [] b = omega arith
-  count-append (g ∷ a) b = omega (arith, count-append a b)
-
   -- those pending
   unfoldable held : Pending → ℕ
   held s = countOf test (s .row) + countOf test (s .spaces) + countOf test (s .word)

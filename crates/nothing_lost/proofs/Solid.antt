@@ -15,7 +15,7 @@ use Rattle.reflow.proofs.RunLaws.{cond-cases}
 use Rattle.nothing_lost.proofs.Steps.{appended-ways, silent, filled-ways, step-ways, finish-gathers, wraps}
 use Rattle.reflow.proofs.Splits.{fitting-split}
 
-solids-append : (a b : List Glyph) → solids (a ++ b) ≡ solids a ++ solids b
+pub solids-append : (a b : List Glyph) → solids (a ++ b) ≡ solids a ++ solids b
 solids-append [] b = refl
 solids-append (g ∷ a) b = go (g .whitespace) (solids-append a b)
   where

@@ -1,2 +1,4 @@
 pub mod Resolving
 pub mod TextLines
+pub mod LineGlyphs
+pub mod Lists

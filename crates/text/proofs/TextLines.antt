@@ -8,7 +8,7 @@ use native.Mathlib.Omega.{arith}
 use lib.ListN.{length, getD, take, drop, length-drop}
 use lib.Seq.{drop-cons, drop-length, length-take-le, drop-drop, getD-drop, take-all}
 use Rattle.text.specs.Record.{isHead}
-use Rattle.text.specs.Line.{TextLine, untilHead, linesFrom}
+use Rattle.text.specs.Line.{untilHead, linesFrom}
 
 -- records passed without a head: what is left says where the line ends
 pub record Measuring (after : List ℕ) (i : ℕ) : Type 0 where

@@ -1,0 +1,106 @@
+-- The glyphs of a text: those that its composed lines emit, those that wrapping drops, and those that are over-wide.
+use Prim.Native.Nat.{ℕ, _+_, _≤_, _<_}
+use mathlib.Core.Path.{_≡_, refl, ap, _∙_}
+use mathlib.Core.Bool.{Bool, true, false, cond}
+use mathlib.Core.List.{List, [], _∷_, _++_, map, map-append}
+use native.Mathlib.Omega.{arith}
+use borrow.Author.Tests.{eqb-false}
+use lib.Dec.{eqb}
+use lib.ListN.{length, length-append}
+use Rattle.text.specs.declared.Alignment.{Alignment}
+use Rattle.text.specs.Record.{alignmentOf}
+use Rattle.text.specs.Alignment.{resolved}
+use Rattle.text.specs.Line.{Glyph, TextLine, linesFrom, glyphsOf}
+use Rattle.text.proofs.LineGlyphs.{lineGlyphs, split-glyphs, glyphs-short}
+use Rattle.reflow.specs.declared.Rule.{Rule}
+use Rattle.reflow.specs.Wrapping.{overWide, overWides, wrap}
+use Rattle.nothing_lost.specs.Glyphs.{solids, glyphsOfAll}
+use Rattle.nothing_lost.proofs.Lists.{cases, glyphs-append}
+use Rattle.nothing_lost.proofs.Solid.{solids-append, dropped-whitespace}
+use Rattle.nothing_lost.proofs.Accounted.{accounted-lengths}
+use Rattle.compose.specs.declared.Method.the-variants.{Wrapped}
+use Rattle.compose.specs.Lines.{Line, aligned, linesOf, lineLines, allLines, lines, allDropped}
+use Rattle.compose.specs.Places.{startsFrom, starts}
+
+-- the lines' glyphs, without their alignments
+abbrev pub lists : List Line → List (List Glyph)
+lists ls = map (λ (line : Line). line .glyphs) ls
+
+lists-aligned : (a : Alignment) (ls : List (List Glyph)) → lists (map (aligned a) ls) ≡ ls
+lists-aligned a [] = refl
+lists-aligned a (gs ∷ ls) = ap {B = List (List Glyph)} (λ (rest : List (List Glyph)). gs ∷ rest) (lists-aligned a ls)
+
+-- what wrapping emits of text lines
+abbrev pub wrapped : Rule → List TextLine → List (List Glyph)
+wrapped u [] = []
+wrapped u (line ∷ rest) = wrap u (glyphsOf line) .lines ++ wrapped u rest
+
+-- the own alignment changes no line's glyphs
+all-wrapped : (u : Rule) (own : Alignment) (ls : List TextLine) → lists (allLines u Wrapped own ls) ≡ wrapped u ls
+unfolding lineLines linesOf
+all-wrapped u own [] = refl
+all-wrapped u own (line ∷ rest) =
+    map-append (λ (l : Line). l .glyphs) (lineLines u Wrapped own line) (allLines u Wrapped own rest)
+    ∙ rw (lists-aligned (resolved (alignmentOf (line .head)) own) (wrap u (glyphsOf line) .lines), all-wrapped u own rest)
+
+pub lines-wrapped : (u : Rule) (own : Alignment) (text : List ℕ) → lists (lines u Wrapped own text) ≡ wrapped u (linesFrom 0 text)
+unfolding lines
+lines-wrapped u own text = all-wrapped u own (linesFrom 0 text)
+
+from-length : (column : ℕ) (gs : List Glyph) → length (startsFrom column gs) ≡ length gs
+from-length column [] = refl
+from-length column (g ∷ gs) = omega (arith, from-length (column + g .width) gs)
+
+-- every glyph of a line has a start
+starts-length : (ls : List Line) → length (starts ls) ≡ length (glyphsOfAll (lists ls))
+starts-length [] = refl
+starts-length (line ∷ rest) = simp length-append (omega (arith, from-length 0 (line .glyphs), starts-length rest))
+
+-- so a text's lines have as many starts as wrapping emits glyphs
+pub emitted-length : (u : Rule) (own : Alignment) (text : List ℕ) → length (starts (lines u Wrapped own text)) ≡ length (glyphsOfAll (wrapped u (linesFrom 0 text)))
+emitted-length u own text = starts-length (lines u Wrapped own text) ∙ ap (λ (ls : List (List Glyph)). length (glyphsOfAll ls)) (lines-wrapped u own text)
+
+-- a text emits no more glyphs than it has; where the limit is 0, none
+line-emitted : (u : Rule) (gs : List Glyph) → length (glyphsOfAll (wrap u gs .lines)) ≤ length gs
+unfolding wrap
+line-emitted u gs =
+    cases (λ _. length (glyphsOfAll (wrap u gs .lines)) ≤ length gs) (eqb (u .limit) 0)
+    (λ e. rw e (omega arith))
+    (λ e. let n = eqb-false (u .limit) 0 e in omega (arith, accounted-lengths u gs (omega arith)))
+
+pub emitted-few : (u : Rule) (ls : List TextLine) → length (glyphsOfAll (wrapped u ls)) ≤ length (lineGlyphs ls)
+emitted-few u [] = omega arith
+emitted-few u (line ∷ rest) =
+    simp (glyphs-append, length-append) (omega (arith, line-emitted u (glyphsOf line), emitted-few u rest))
+
+-- and no more than its records
+pub text-emits : (u : Rule) (own : Alignment) (text : List ℕ) → length (starts (lines u Wrapped own text)) ≤ length text
+text-emits u own text =
+    omega (
+      arith,
+      emitted-length u own text,
+      emitted-few u (linesFrom 0 text),
+      simp length-append at (ap length (split-glyphs 0 text)),
+      glyphs-short 0 text,
+    )
+
+over-append : (u : Rule) (a b : List Glyph) → length (overWides u (a ++ b)) ≡ length (overWides u a) + length (overWides u b)
+over-append u [] b = omega arith
+over-append u (g ∷ a) b = go (overWide u g) (over-append u a b)
+  where
+    go : (t : Bool) → length (overWides u (a ++ b)) ≡ length (overWides u a) + length (overWides u b)
+        → length (cond t (g ∷ overWides u (a ++ b)) (overWides u (a ++ b))) ≡ length (cond t (g ∷ overWides u a) (overWides u a)) + length (overWides u b)
+    go true e = omega arith
+    go false e = e
+
+-- at a limit above 0 every glyph of text lines is emitted, dropped or over-wide
+pub all-accounted : (u : Rule) (ls : List TextLine) → 0 < u .limit
+    → length (glyphsOfAll (wrapped u ls)) + length (allDropped u ls) + length (overWides u (lineGlyphs ls)) ≡ length (lineGlyphs ls)
+all-accounted u [] h = refl
+all-accounted u (line ∷ rest) h =
+    simp (glyphs-append, length-append, over-append) (omega (arith, accounted-lengths u (glyphsOf line) h, all-accounted u rest h))
+
+-- and every glyph that is dropped is whitespace
+pub all-blank : (u : Rule) (ls : List TextLine) → solids (allDropped u ls) ≡ []
+all-blank u [] = refl
+all-blank u (line ∷ rest) = simp (solids-append, dropped-whitespace) (all-blank u rest)
