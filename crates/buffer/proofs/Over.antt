@@ -1,0 +1,85 @@
+-- Laws of `over` and `sparing`: what is drawn on a rectangle's cells, and what spares them.
+use Prim.Native.Nat.{ℕ, _+_, _*_, _<_, _≤_}
+use mathlib.Core.Path.{_≡_, refl}
+use mathlib.Core.Bool.{Bool, true, false}
+use mathlib.Core.Logic.{_⊎_, inl, inr}
+use mathlib.Core.List.{List}
+use native.Mathlib.Omega.{arith}
+use mir.Syntax.{w16}
+use mir.Val.{Fits}
+use lib.ListN.{length}
+use Rattle.layout.specs.declared.Rect.{Rect}
+use Rattle.layout.specs.Rect.{rightOf, bottomOf, contains}
+use Rattle.buffer.specs.declared.Screen.{Screen}
+use Rattle.buffer.specs.Drawing.{Drawing, drawn, over, sparing}
+use Rattle.buffer.specs.Parts.{inRows, OnScreen}
+use Rattle.buffer.proofs.Drawn.{drawn-commute}
+use Rattle.buffer.proofs.Rows.{DrawingRows, rows-start, rows-done, row-fits}
+
+-- the rows of a rectangle, from its left edge up to its right one, are the rectangle
+pub rows-over : (r : Rect) (f : ℕ → ℕ) → inRows (r .x) (rightOf r) (r .y) (bottomOf r) (λ j i cell. f cell) ≡ over r f
+unfolding inRows over
+rows-over r f = refl
+
+-- a loop over the rows of a rectangle that lies on a screen, its edges read before
+module _ (s : Screen) (r : Rect) (right bottom : ℕ) (right-is : right ≡ rightOf r) (bottom-is : bottom ≡ bottomOf r) where
+  -- its first row comes before its bottom, or is it
+  pub area-starts : (f : ℕ → ℕ → ℕ → ℕ) (cells : List ℕ) → OnScreen s (length cells) r → Fits w16 (r .y)
+      → DrawingRows (s .columns) (r .x) right (r .y) bottom f cells cells (r .y)
+  area-starts f cells on fits = rows-start (s .columns) (r .x) right (r .y) bottom f cells (on .columns) (omega (arith, fits .fits))
+
+  -- its left edge comes before its right one, or is it
+  pub area-left : Fits w16 (r .x) → r .x ≤ right
+  area-left fits = omega (arith, fits .fits)
+
+  -- its right edge lies on the screen
+  pub area-right : (n : ℕ) → OnScreen s n r → right ≤ s .columns
+  area-right n on = omega (arith, on .right)
+
+  -- and each of its rows does
+  pub area-row : (f : ℕ → ℕ → ℕ → ℕ) (old cells : List ℕ) (n : ℕ) → OnScreen s (length old) r
+      → DrawingRows (s .columns) (r .x) right (r .y) bottom f old cells n → n < bottom → n * s .columns + right ≤ length cells
+  area-row f old cells n on d h =
+      omega (arith, d .same-length, row-fits (s .columns) right n (s .rows) (length old) (area-right (length old) on) (omega (arith, on .bottom)) (on .size))
+
+  -- after the last, the whole rectangle is drawn
+  pub area-done : (f : ℕ → ℕ) (old cells : List ℕ) (n : ℕ) → DrawingRows (s .columns) (r .x) right (r .y) bottom (λ j i cell. f cell) old cells n → bottom ≤ n
+      → cells ≡ drawn (s .columns) (over r f) old
+  area-done f old cells n d h =
+      rw (right-is, bottom-is, rows-over r f) at (rows-done (s .columns) (r .x) right (r .y) bottom (λ j i cell. f cell) old cells n d h)
+
+pub ruleset drawing-area = (area-starts, area-left, area-right, area-row, area-done)
+
+module _ (r : Rect) (f : ℕ → ℕ) (column row cell : ℕ) where
+  -- a cell inside is changed
+  pub over-inside : contains r column row ≡ true → over r f column row cell ≡ f cell
+  unfolding over
+  over-inside h = rw h
+
+  -- one outside is left as it is
+  pub over-outside : contains r column row ≡ false → over r f column row cell ≡ cell
+  unfolding over
+  over-outside h = rw h
+
+module _ (r : Rect) (d : Drawing) (column row cell : ℕ) where
+  -- a cell inside is spared
+  pub sparing-inside : contains r column row ≡ true → sparing r d column row cell ≡ cell
+  unfolding sparing
+  sparing-inside h = rw h
+
+  -- one outside is drawn
+  pub sparing-outside : contains r column row ≡ false → sparing r d column row cell ≡ d column row cell
+  unfolding sparing
+  sparing-outside h = rw h
+
+-- a drawing that leaves every cell outside a rectangle alone, and one that spares the rectangle, can change places
+pub sparing-commute : (columns : ℕ) (r : Rect) (d e : Drawing) (cells : List ℕ) → 0 < columns
+    → ((column row cell : ℕ) → contains r column row ≡ false → e column row cell ≡ cell)
+    → drawn columns (sparing r d) (drawn columns e cells) ≡ drawn columns e (drawn columns (sparing r d) cells)
+sparing-commute columns r d e cells some alone =
+    drawn-commute columns e (sparing r d) cells some (λ column row. apart column row (contains r column row) refl)
+  where
+    apart : (column row : ℕ) (b : Bool) → contains r column row ≡ b
+        → ((cell : ℕ) → e column row cell ≡ cell) ⊎ ((cell : ℕ) → sparing r d column row cell ≡ cell)
+    apart column row true h = inr (λ cell. sparing-inside r d column row cell h)
+    apart column row false h = inl (λ cell. alone column row cell h)
