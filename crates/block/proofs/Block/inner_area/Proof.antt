@@ -1,0 +1,47 @@
+-- `block::Block::inner_area` meets its contract.
+use Rattle.block.specs.Inner.{innerOf}
+use borrow.Author.Needs.{needs}
+use Rattle.block.proofs.Block.inner_area.Statement.{statement}
+use Rattle.block.proofs.Block.inner_area.Tie as tie
+
+stands-at-top-requires : tie.Need-stands-at-top-requires
+stands-at-top-requires c κs = search needs
+
+stands-at-bottom-requires : tie.Need-stands-at-bottom-requires
+stands-at-bottom-requires c κs = search needs
+
+right-requires : tie.Need-right-requires
+right-requires c κs = search needs
+
+inner-start-requires : tie.Need-inner-start-requires
+inner-start-requires c κs = search needs
+
+bottom-requires : tie.Need-bottom-requires
+bottom-requires c κs = search needs
+
+inner-start-requires-2 : tie.Need-inner-start-requires-2
+inner-start-requires-2 c κs = search needs
+
+inner-size-requires : tie.Need-inner-size-requires
+inner-size-requires c κs = search needs
+
+inner-size-requires-2 : tie.Need-inner-size-requires-2
+inner-size-requires-2 c κs = search needs
+
+returns : tie.Need-returns
+unfolding innerOf
+returns c = cc
+
+pub inner-area-spec : {M : Type 1} → statement M
+inner-area-spec =
+    tie.close
+    (tie.spec
+    stands-at-top-requires
+    stands-at-bottom-requires
+    right-requires
+    inner-start-requires
+    bottom-requires
+    inner-start-requires-2
+    inner-size-requires
+    inner-size-requires-2
+    returns)

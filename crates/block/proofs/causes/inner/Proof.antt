@@ -1,0 +1,38 @@
+-- `block::causes::inner` meets its contract.
+use Rattle.block.proofs.Verdicts.{answered}
+use borrow.Author.Needs.{needs}
+use Rattle.block.proofs.causes.inner.Statement.{statement}
+use Rattle.block.proofs.causes.inner.Tie as tie
+
+accepted-requires : tie.Need-accepted-requires
+accepted-requires c κs = search needs
+
+inner-verdict-requires : tie.Need-inner-verdict-requires
+inner-verdict-requires c κs = search needs
+
+enum-known-why : tie.Need-enum-known-why
+enum-known-why c = search needs
+
+returns : tie.Need-returns
+returns c = search answered
+
+enum-told : tie.Need-enum-told
+enum-told c = search needs
+
+inner-area-requires : tie.Need-inner-area-requires
+inner-area-requires c κs = search needs
+
+returns-2 : tie.Need-returns-2
+returns-2 c = search answered
+
+pub inner-spec : {M : Type 1} → statement M
+inner-spec =
+    tie.close
+    (tie.spec
+    accepted-requires
+    inner-verdict-requires
+    enum-known-why
+    returns
+    enum-told
+    inner-area-requires
+    returns-2)

@@ -1,0 +1,64 @@
+-- Document 01, 'Why a call is refused', 6 and 7: what a block gives, and the call `inner`.
+use Prim.Native.Nat.{ℕ}
+use mathlib.Core.List.{List, [], _∷_, _++_}
+use Rattle.layout.specs.declared.Rect.{Rect}
+use Rattle.refuse.specs.declared.Ceilings.{Ceilings}
+use Rattle.refuse.specs.declared.Refusal.the-variants.{Titles, Symbol}
+use Rattle.refuse.specs.declared.Verdict.{Verdict}
+use Rattle.refuse.specs.declared.Verdict.the-variants.{Accepted, Refused as RefusedFor}
+use Rattle.refuse.specs.Refusal.{Cause, _if_, firstCause, refusalNumber}
+use Rattle.refuse.specs.Causes.{titlesWrong, symbolsWrong}
+use Rattle.block.specs.declared.Block.{Block}
+use Rattle.block.specs.declared.BorderSet.{BorderSet}
+use Rattle.block.specs.declared.Effect.{Effect}
+use Rattle.block.specs.declared.Effect.the-variants.{Overlay, Symbol as SymbolEffect}
+use Rattle.block.specs.declared.Shadow.{Shadow}
+use Rattle.block.specs.declared.Shadow.the-variants.{Absent, Present}
+use Rattle.block.specs.declared.InnerArea.{InnerArea}
+use Rattle.block.specs.declared.InnerArea.the-variants.{Area, Refused}
+
+-- the style numbers of a block's settings; an absent shadow has none
+abbrev pub shadowStyles : Shadow → List ℕ
+shadowStyles Absent = []
+shadowStyles (Present effect style x y) = style ∷ []
+
+unfoldable pub blockStyles : Block → List ℕ
+blockStyles b = b .«border_style» ∷ b .style ∷ b .«titles_style» ∷ shadowStyles (b .shadow)
+
+-- its border symbols, also of sides that aren't drawn, and its shadow's; an overlay has none
+abbrev pub effectSymbols : Effect → List ℕ
+effectSymbols Overlay = []
+effectSymbols (SymbolEffect symbol) = symbol ∷ []
+
+abbrev pub shadowSymbols : Shadow → List ℕ
+shadowSymbols Absent = []
+shadowSymbols (Present effect style x y) = effectSymbols effect
+
+unfoldable pub borderSymbols : BorderSet → List ℕ
+borderSymbols s =
+    s .«top_left» ∷ s .«top_right» ∷ s .«bottom_left» ∷ s .«bottom_right»
+    ∷ s .«vertical_left» ∷ s .«vertical_right» ∷ s .«horizontal_top» ∷ s .«horizontal_bottom» ∷ []
+
+unfoldable pub blockSymbols : Block → List ℕ
+blockSymbols b = borderSymbols (b .«border_set») ++ shadowSymbols (b .shadow)
+
+-- the causes of the call `inner`: 5, 7
+unfoldable pub innerCauses : Ceilings → List ℕ → Block → List Cause
+innerCauses most titles b = Titles if titlesWrong most titles ∷ Symbol if symbolsWrong (blockSymbols b) ∷ []
+
+unfoldable pub innerVerdict : Ceilings → List ℕ → Block → Verdict
+innerVerdict most titles b = firstCause (innerCauses most titles b)
+
+-- its answer: the inner area, or why there is none
+abbrev pub innerAnswer : Verdict → Rect → InnerArea
+innerAnswer Accepted area = Area area
+innerAnswer (RefusedFor why) area = Refused why
+
+-- the table's number, 0 where the call is accepted, and the area, four zeros where it is refused
+abbrev pub innerNumber : InnerArea → ℕ
+innerNumber (Area area) = 0
+innerNumber (Refused why) = refusalNumber why
+
+abbrev pub innerRect : InnerArea → Rect
+innerRect (Area area) = area
+innerRect (Refused why) = record { x = 0; y = 0; width = 0; height = 0 }

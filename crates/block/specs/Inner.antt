@@ -1,0 +1,72 @@
+-- Document 01, 'Inner area and frame (block.rs, padding.rs)': the inner area, and the space that a frame takes.
+use Prim.Native.Nat.{ℕ, _+_, _-_, min}
+use mathlib.Core.Bool.{Bool, true, false, cond, _||_}
+use mathlib.Core.List.{List}
+use Rattle.num.specs.Held.{held}
+use Rattle.text.specs.declared.TitlePosition.{TitlePosition}
+use Rattle.text.specs.declared.TitlePosition.the-variants.{Top, Bottom}
+use Rattle.text.specs.Record.{positionOf}
+use Rattle.text.specs.Alignment.{resolvedPosition}
+use Rattle.text.specs.Line.{TextLine, linesFrom}
+use Rattle.layout.specs.declared.Rect.{Rect}
+use Rattle.layout.specs.Rect.{rightOf, bottomOf}
+use Rattle.refuse.specs.Causes.{some}
+use Rattle.block.specs.declared.Block.{Block}
+use Rattle.block.specs.declared.Space.{Space}
+
+-- two positions are the same
+abbrev pub isAt : TitlePosition → TitlePosition → Bool
+isAt Top Top = true
+isAt Top Bottom = false
+isAt Bottom Top = false
+isAt Bottom Bottom = true
+
+-- a title's position: the one that its head gives, or the block's
+abbrev pub titleIsAt : Block → TitlePosition → TextLine → Bool
+titleIsAt b position title = isAt (resolvedPosition (positionOf (title .head)) (b .«titles_position»)) position
+
+-- a block has a title at a position
+unfoldable pub hasTitleAt : Block → List ℕ → TitlePosition → Bool
+hasTitleAt b titles position = some (titleIsAt b position) (linesFrom 0 titles)
+
+-- what stands at the four sides: "a top border or top title", "bottom border or title"
+abbrev pub atLeft : Block → Bool
+atLeft b = b .borders .left
+
+abbrev pub atTop : Block → List ℕ → Bool
+atTop b titles = b .borders .top || hasTitleAt b titles Top
+
+abbrev pub atRight : Block → Bool
+atRight b = b .borders .right
+
+abbrev pub atBottom : Block → List ℕ → Bool
+atBottom b titles = b .borders .bottom || hasTitleAt b titles Bottom
+
+-- "a left border moves x by 1, not past right"; "a top border or top title does so for y"
+abbrev pub movedIn : Bool → ℕ → ℕ → ℕ
+movedIn stands place end = cond stands (min (held (place + 1)) end) place
+
+-- 1 is taken where something stands
+abbrev pub taken : Bool → ℕ
+taken stands = cond stands 1 0
+
+-- "then x, y gain the left and top padding and the sizes lose both sums"
+unfoldable pub innerOf : Block → List ℕ → Rect → Rect
+innerOf b titles area =
+    record {
+      x = held (movedIn (atLeft b) (area .x) (rightOf area) + b .padding .left);
+      y = held (movedIn (atTop b titles) (area .y) (bottomOf area) + b .padding .top);
+      width = area .width - taken (atLeft b) - taken (atRight b) - held (b .padding .left + b .padding .right);
+      height = area .height - taken (atTop b titles) - taken (atBottom b titles) - held (b .padding .top + b .padding .bottom);
+    }
+
+-- `horizontal_space` and `vertical_space`: at each end the padding, and 1 for what stands there
+abbrev pub spaceOf : Bool → Bool → ℕ → ℕ → Space
+spaceOf before after paddingBefore paddingAfter =
+    record { before = held (paddingBefore + taken before); after = held (paddingAfter + taken after) }
+
+unfoldable pub horizontalSpace : Block → Space
+horizontalSpace b = spaceOf (atLeft b) (atRight b) (b .padding .left) (b .padding .right)
+
+unfoldable pub verticalSpace : Block → List ℕ → Space
+verticalSpace b titles = spaceOf (atTop b titles) (atBottom b titles) (b .padding .top) (b .padding .bottom)

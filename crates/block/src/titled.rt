@@ -1,0 +1,44 @@
+// Whether a block has a title at the top or at the bottom.
+use crate::Block;
+use text::TitlePosition;
+use text::head;
+ghost use mathlib.Core.Path.{_≡_};
+ghost use Rattle.text.specs.declared.TitlePosition.the-variants.{Top};
+ghost use Rattle.block.specs.Inner.{isAt, hasTitleAt};
+
+fn is_top(position: TitlePosition) -> bool
+    ensures { λ r. ⌜ r ≡ isAt Top position ⌝ }
+{
+    match position {
+        TitlePosition::Top => true,
+        TitlePosition::Bottom => false,
+    }
+}
+
+fn is_at(position: TitlePosition, wanted: TitlePosition) -> bool
+    ensures { λ r. ⌜ r ≡ isAt position wanted ⌝ }
+{
+    match position {
+        TitlePosition::Top => is_top(wanted),
+        TitlePosition::Bottom => !is_top(wanted),
+    }
+}
+
+impl Block {
+    // Whether one of the titles stands at a position.
+    pub fn has_title_at_position(self, titles: &[u32], position: TitlePosition) -> bool
+        ensures { λ r. ⌜ r ≡ hasTitleAt self (now (titles .entry)) position ⌝ }
+    {
+        let own = self.titles_position;
+        let mut i = 0;
+        while i < titles.len() {
+            if head::is_head(titles[i]) {
+                if is_at(head::resolve_position(titles[i], own), position) {
+                    return true;
+                }
+            }
+            i += 1;
+        }
+        false
+    }
+}
