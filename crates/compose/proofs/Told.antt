@@ -1,8 +1,8 @@
 -- What is told of a run of one text line: the same glyphs, numbered over the whole text.
-use Prim.Native.Nat.{ℕ, zero, suc, _+_, _-_, _≤_, _<_}
+use Prim.Native.Nat.{ℕ, zero, suc, _+_, _-_, _≤_}
 use mathlib.Core.Path.{_≡_, refl, sym, ap, _∙_}
 use mathlib.Core.Bool.{Bool, true, false, cond}
-use mathlib.Core.List.{List, [], _∷_, _++_, map}
+use mathlib.Core.List.{List, [], _∷_, map}
 use native.Mathlib.Omega.{arith}
 use borrow.Author.Tests.{eq-eqb, ne-eqb, eqb-true, eqb-false}
 use lib.Dec.{eqb, ltb}
@@ -12,13 +12,12 @@ use Rattle.text.specs.declared.Alignment.{Alignment}
 use Rattle.text.specs.Line.{Glyph, numbered}
 use Rattle.reflow.specs.declared.Run.{Run}
 use Rattle.reflow.specs.declared.Rule.{Rule}
-use Rattle.reflow.specs.Wrapping.{total, overWide, notOverWide}
-use Rattle.reflow.specs.Runs.{emptyRun, endFrom, runOf, glyphsIn}
+use Rattle.reflow.specs.Wrapping.{overWide, notOverWide}
+use Rattle.reflow.specs.Runs.{endFrom, runOf, glyphsIn}
 use Rattle.reflow.specs.Pulls.{Spans}
 use Rattle.reflow.proofs.Renumbering.{renumber, total-map, numbered-from}
 use Rattle.compose.specs.declared.Composed.{Composed}
-use Rattle.compose.specs.declared.Composer.{Composer}
-use Rattle.compose.specs.Lines.{Line, aligned, firstOf, endOf, composedOf}
+use Rattle.compose.specs.Lines.{Line, aligned, endOf, composedOf}
 use Rattle.compose.specs.Composing.{lineAt, part, composedRun, Told}
 
 -- one law for each way through `composed_line`

@@ -1,4 +1,5 @@
--- Document 01, 'Packed fields', 'Wrapping' and 'After the pages': the composed lines of a whole text, and the glyphs that it drops.
+-- Document 01, 'Packed fields', 'Wrapping' and 'After the pages': the composed lines of a whole text, and the glyphs that wrapping
+-- skips and drops.
 use Prim.Native.Nat.{ℕ, _+_}
 use mathlib.Core.List.{List, [], _∷_, _++_, map}
 use Rattle.text.specs.declared.Alignment.{Alignment}
@@ -6,7 +7,7 @@ use Rattle.text.specs.Record.{alignmentOf}
 use Rattle.text.specs.Alignment.{resolved}
 use Rattle.text.specs.Line.{Glyph, TextLine, linesFrom, glyphsOf}
 use Rattle.reflow.specs.declared.Rule.{Rule}
-use Rattle.reflow.specs.Wrapping.{total, wrap}
+use Rattle.reflow.specs.Wrapping.{total, wrap, overWides}
 use Rattle.reflow.specs.Truncation.{truncate}
 use Rattle.compose.specs.declared.Method.{Method}
 use Rattle.compose.specs.declared.Method.the-variants.{Wrapped, Truncated}
@@ -40,7 +41,15 @@ allLines u method own (line ∷ rest) = lineLines u method own line ++ allLines 
 unfoldable pub lines : Rule → Method → Alignment → List ℕ → List Line
 lines u method own text = allLines u method own (linesFrom 0 text)
 
--- the glyphs that wrapping drops, of text lines and of a text
+-- where a text is wrapped: the glyphs that step 1 skips, of text lines and of a text
+abbrev pub allSkipped : Rule → List TextLine → List Glyph
+allSkipped u [] = []
+allSkipped u (line ∷ rest) = overWides u (glyphsOf line) ++ allSkipped u rest
+
+unfoldable pub skipped : Rule → List ℕ → List Glyph
+skipped u text = allSkipped u (linesFrom 0 text)
+
+-- and the glyphs that are dropped
 abbrev pub allDropped : Rule → List TextLine → List Glyph
 allDropped u [] = []
 allDropped u (line ∷ rest) = wrap u (glyphsOf line) .dropped ++ allDropped u rest
@@ -48,7 +57,8 @@ allDropped u (line ∷ rest) = wrap u (glyphsOf line) .dropped ++ allDropped u r
 unfoldable pub dropped : Rule → List ℕ → List Glyph
 dropped u text = allDropped u (linesFrom 0 text)
 
--- "First and end are record numbers, end one past, both 0 where the line holds no glyph."
+-- "First and end are record numbers, end one past, both 0 where the line holds no glyph." That a line's glyphs can be read back from
+-- them is the theorem `read-back`.
 abbrev pub firstOf : List Glyph → ℕ
 firstOf [] = 0
 firstOf (g ∷ gs) = g .number

@@ -19,7 +19,7 @@ use Rattle.nothing_lost.proofs.Lists.{cases, glyphs-append}
 use Rattle.nothing_lost.proofs.Solid.{solids-append, dropped-whitespace}
 use Rattle.nothing_lost.proofs.Accounted.{accounted-lengths}
 use Rattle.compose.specs.declared.Method.the-variants.{Wrapped}
-use Rattle.compose.specs.Lines.{Line, aligned, linesOf, lineLines, allLines, lines, allDropped}
+use Rattle.compose.specs.Lines.{Line, aligned, linesOf, lineLines, allLines, lines, allSkipped, allDropped}
 use Rattle.compose.specs.Places.{startsFrom, starts}
 
 -- the lines' glyphs, without their alignments
@@ -93,12 +93,17 @@ over-append u (g ∷ a) b = go (overWide u g) (over-append u a b)
     go true e = omega arith
     go false e = e
 
+-- the over-wide glyphs of all lines are those of each
+pub skipped-length : (u : Rule) (ls : List TextLine) → length (overWides u (lineGlyphs ls)) ≡ length (allSkipped u ls)
+skipped-length u [] = refl
+skipped-length u (line ∷ rest) = simp (over-append, length-append) (omega (arith, skipped-length u rest))
+
 -- at a limit above 0 every glyph of text lines is emitted, dropped or over-wide
 pub all-accounted : (u : Rule) (ls : List TextLine) → 0 < u .limit
-    → length (glyphsOfAll (wrapped u ls)) + length (allDropped u ls) + length (overWides u (lineGlyphs ls)) ≡ length (lineGlyphs ls)
+    → length (glyphsOfAll (wrapped u ls)) + length (allDropped u ls) + length (allSkipped u ls) ≡ length (lineGlyphs ls)
 all-accounted u [] h = refl
 all-accounted u (line ∷ rest) h =
-    simp (glyphs-append, length-append, over-append) (omega (arith, accounted-lengths u (glyphsOf line) h, all-accounted u rest h))
+    simp (glyphs-append, length-append) (omega (arith, accounted-lengths u (glyphsOf line) h, all-accounted u rest h))
 
 -- and every glyph that is dropped is whitespace
 pub all-blank : (u : Rule) (ls : List TextLine) → solids (allDropped u ls) ≡ []

@@ -14,7 +14,7 @@ use Rattle.lines.specs.declared.LineCounts.{LineCounts}
 use Rattle.lines.specs.declared.GlyphCounts.{GlyphCounts}
 use Rattle.lines.specs.Tally.{noCounts, composed, tallyOf}
 use Rattle.lines.specs.Tallying.{lineCounts, glyphCounts}
-use Rattle.lines.proofs.TallyCounts.{counts}
+use Rattle.lines.proofs.TallyCounts.{skipped-glyphs, counts}
 
 module _ (u : Rule) (text : List ℕ) where
   -- "all 0 at limit 0"
@@ -27,7 +27,7 @@ module _ (u : Rule) (text : List ℕ) where
     -- what the lines and the glyphs came to, and those dropped, are all glyphs
     parts : l .placed + l .clipped + l .«zero_width» + g .«over_wide» + length (dropped u text) ≡ g .glyphs
     unfolding tallyOf lineCounts glyphCounts
-    parts = rw (e, f) (rw (ne-eqb (u .limit) 0 n) at (counts u text o (omega arith)))
+    parts = rw (e, f, skipped-glyphs u text o) (rw (ne-eqb (u .limit) 0 n) at (counts u text o (omega arith)))
 
     pub over-wide-part : g .«over_wide» ≤ g .glyphs
     over-wide-part = omega (arith, parts)
@@ -54,6 +54,6 @@ module _ (u : Rule) (text : List ℕ) where
     unfolding tallyOf lineCounts glyphCounts
     all-parts =
         let d : g .glyphs - g .«over_wide» - l .placed - l .clipped - l .«zero_width» ≡ length (dropped u text) = omega (arith, parts) in
-        rw (d, e, f, ne-eqb (u .limit) 0 n)
+        rw (d, e, f, skipped-glyphs u text o, ne-eqb (u .limit) 0 n)
 
 pub ruleset rest = (limit-none, over-wide-part, placed-part, clipped-part, zero-width-part, all-parts)

@@ -37,13 +37,13 @@ startCounts limit ss =
 
 -- a glyph may be counted first, or with those after it
 sum-with : (limit : ℕ) (c : LineCounts) (s : Start) (ss : List Start)
-    → sum (withGlyph limit c (s .column) (s .glyph .width)) (startCounts limit ss) ≡ sum c (startCounts limit (s ∷ ss))
+    → sum (withGlyph limit c (s .start) (s .glyph .width)) (startCounts limit ss) ≡ sum c (startCounts limit (s ∷ ss))
 unfolding sum startCounts
 sum-with limit c s ss =
     ways limit s _
-    (λ e b. simp (← with-zero limit c (s .column) (s .glyph .width) e, b .of-zero-width, b .of-placed, b .of-clipped, zero-add, add-assoc))
-    (λ n f b. simp (← with-placed limit c (s .column) (s .glyph .width) n f, b .of-zero-width, b .of-placed, b .of-clipped, zero-add, add-assoc))
-    (λ n f b. simp (← with-clipped limit c (s .column) (s .glyph .width) n f, b .of-zero-width, b .of-placed, b .of-clipped, zero-add, add-assoc))
+    (λ e b. simp (← with-zero limit c (s .start) (s .glyph .width) e, b .of-zero-width, b .of-placed, b .of-clipped, zero-add, add-assoc))
+    (λ n f b. simp (← with-placed limit c (s .start) (s .glyph .width) n f, b .of-zero-width, b .of-placed, b .of-clipped, zero-add, add-assoc))
+    (λ n f b. simp (← with-clipped limit c (s .start) (s .glyph .width) n f, b .of-zero-width, b .of-placed, b .of-clipped, zero-add, add-assoc))
 
 -- sums
 pub sum-none : (c : LineCounts) → sum c (emptyLines 0) ≡ c
@@ -129,7 +129,7 @@ module _ (u : Rule) (text : List ℕ) (first end : ℕ) where
       placing-goes h d f =
           record {
             within = omega arith;
-            same = rw (f, e) (sum-with (u .limit) c (record { column = column; glyph = here }) _ ∙ rw (kept h) at (p .same));
+            same = rw (f, e) (sum-with (u .limit) c (record { start = column; glyph = here }) _ ∙ rw (kept h) at (p .same));
             few = omega (arith, p .few, with-more (u .limit) c column w d f);
             near = omega (arith, p .near, small);
           }

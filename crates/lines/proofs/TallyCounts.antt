@@ -19,9 +19,10 @@ use Rattle.refuse.specs.declared.Verdict.{Verdict}
 use Rattle.refuse.specs.declared.Verdict.the-variants.{Accepted, Refused as RefusedFor}
 use Rattle.refuse.specs.Causes.{mostAccepted, notOpening}
 use Rattle.reflow.specs.declared.Rule.{Rule}
+use Rattle.reflow.specs.Wrapping.{overWides}
 use Rattle.nothing_lost.specs.Glyphs.{solids}
 use Rattle.compose.specs.declared.Method.the-variants.{Wrapped}
-use Rattle.compose.specs.Lines.{Line, aligned, lines, dropped}
+use Rattle.compose.specs.Lines.{Line, aligned, lines, skipped, dropped}
 use Rattle.compose.specs.Places.{starts}
 use Rattle.lines.specs.declared.Counts.{Counts}
 use Rattle.lines.specs.declared.Tallied.the-variants.{Counted}
@@ -31,17 +32,22 @@ use Rattle.lines.specs.Tally.{composed, tallyOf, tallyAnswer}
 use Rattle.lines.specs.Tallying.{lineCounts}
 use Rattle.lines.proofs.Verdicts.{text-opens}
 use Rattle.lines.proofs.Ways.{all-counted}
-use Rattle.lines.proofs.Emitted.{lists, lines-wrapped, emitted-length, all-accounted, all-blank}
+use Rattle.lines.proofs.Emitted.{lists, lines-wrapped, emitted-length, skipped-length, all-accounted, all-blank}
 
 -- a text that opens with a head has no glyph before it
 opens-none : (text : List ℕ) → notOpening text ≡ false → untilHead text ≡ []
 opens-none [] o = refl
 opens-none (r ∷ rs) o = rw (not-false (isHead r) o)
 
+-- so the over-wide glyphs of its lines are those of its records
+pub skipped-glyphs : (u : Rule) (text : List ℕ) → notOpening text ≡ false → length (overWides u (glyphsFrom 0 text)) ≡ length (skipped u text)
+unfolding skipped
+skipped-glyphs u text o = rw (all-glyphs 0 text (opens-none text o)) at (skipped-length u (linesFrom 0 text))
+
 pub counts : (u : Rule) (text : List ℕ) → notOpening text ≡ false → 0 < u .limit →
     let c = tallyOf u text in
     c .placed + c .clipped + c .«zero_width» + c .«over_wide» + c .dropped ≡ length (glyphsFrom 0 text)
-unfolding tallyOf dropped
+unfolding tallyOf skipped dropped
 counts u text o h =
     rw (ne-eqb (u .limit) 0 (λ (e : u .limit ≡ 0). omega arith))
     (omega (

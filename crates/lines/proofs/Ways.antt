@@ -35,12 +35,12 @@ module _ (limit : ℕ) (s : Start) where
     has-cells : ltb 0 (s .glyph .width) ≡ true
     has-cells = lt-ltb 0 (s .glyph .width) (omega arith)
 
-    becomes-placed : s .column < limit → Becomes limit s false true false
+    becomes-placed : s .start < limit → Becomes limit s false true false
     unfolding placed clipped zeroWidth
     becomes-placed b =
         record { of-zero-width = not-zero; of-placed = rw has-cells (lt-ltb _ _ b); of-clipped = rw has-cells (lt-leb _ _ b) }
 
-    becomes-clipped : limit ≤ s .column → Becomes limit s false false true
+    becomes-clipped : limit ≤ s .start → Becomes limit s false false true
     unfolding placed clipped zeroWidth
     becomes-clipped b =
         record { of-zero-width = not-zero; of-placed = rw has-cells (le-ltb _ _ b); of-clipped = rw has-cells (le-leb _ _ b) }
@@ -48,17 +48,17 @@ module _ (limit : ℕ) (s : Start) where
   -- one of the three
   pub ways : (P : Type 0)
       → (s .glyph .width ≡ 0 → Becomes limit s true false false → P)
-      → ((s .glyph .width ≡ 0 → ⊥) → s .column < limit → Becomes limit s false true false → P)
-      → ((s .glyph .width ≡ 0 → ⊥) → limit ≤ s .column → Becomes limit s false false true → P)
+      → ((s .glyph .width ≡ 0 → ⊥) → s .start < limit → Becomes limit s false true false → P)
+      → ((s .glyph .width ≡ 0 → ⊥) → limit ≤ s .start → Becomes limit s false false true → P)
       → P
   ways P zero in-front past =
       cases (λ _. P) (eqb (s .glyph .width) 0)
       (λ e. let z = eqb-true (s .glyph .width) 0 e in zero z (becomes-zero z))
       (λ e.
       let n = eqb-false (s .glyph .width) 0 e in
-      cases (λ _. P) (ltb (s .column) limit)
-      (λ f. let b = ltb-true (s .column) limit f in in-front n b (becomes-placed n b))
-      (λ f. let b = ltb-false (s .column) limit f in past n b (becomes-clipped n b)))
+      cases (λ _. P) (ltb (s .start) limit)
+      (λ f. let b = ltb-true (s .start) limit f in in-front n b (becomes-placed n b))
+      (λ f. let b = ltb-false (s .start) limit f in past n b (becomes-clipped n b)))
 
 -- so the counts of the three are together as many as the glyphs
 pub all-counted : (limit : ℕ) (ss : List Start) → countOf (placed limit) ss + countOf (clipped limit) ss + countOf zeroWidth ss ≡ length ss

@@ -6,14 +6,12 @@ use lib.Dec.{eqb}
 use lib.ListN.{length}
 use Rattle.text.specs.declared.Alignment.the-variants.{Left}
 use Rattle.text.specs.Lists.{countOf}
-use Rattle.text.specs.Line.{glyphsFrom}
 use Rattle.refuse.specs.declared.Verdict.{Verdict}
 use Rattle.refuse.specs.declared.Verdict.the-variants.{Accepted, Refused as RefusedFor}
 use Rattle.refuse.specs.Refusal.{refusalNumber}
 use Rattle.reflow.specs.declared.Rule.{Rule}
-use Rattle.reflow.specs.Wrapping.{overWides}
 use Rattle.compose.specs.declared.Method.the-variants.{Wrapped}
-use Rattle.compose.specs.Lines.{Line, lines, dropped}
+use Rattle.compose.specs.Lines.{Line, lines, skipped, dropped}
 use Rattle.compose.specs.Places.{starts, placed, clipped, zeroWidth}
 use Rattle.lines.specs.declared.Counts.{Counts}
 use Rattle.lines.specs.declared.Tallied.{Tallied}
@@ -22,7 +20,8 @@ use Rattle.lines.specs.declared.Tallied.the-variants.{Counted, Refused}
 abbrev pub noCounts : Counts
 noCounts = record { lines = 0; placed = 0; clipped = 0; «zero_width» = 0; «over_wide» = 0; dropped = 0 }
 
--- the composed lines. The text's own alignment changes no count (`own-alignment` in proofs/), so left will do.
+-- the composed lines. A tally has no notice, and the notice's own alignment would change no count (`own-alignment` in proofs/): it is
+-- taken as left.
 abbrev pub composed : Rule → List ℕ → List Line
 composed u text = lines u Wrapped Left text
 
@@ -37,7 +36,7 @@ tallyOf u text =
       placed = countOf (placed (u .limit)) (starts (composed u text));
       clipped = countOf (clipped (u .limit)) (starts (composed u text));
       «zero_width» = countOf zeroWidth (starts (composed u text));
-      «over_wide» = length (overWides u (glyphsFrom 0 text));
+      «over_wide» = length (skipped u text);
       dropped = length (dropped u text);
     })
 
@@ -46,7 +45,8 @@ abbrev pub tallyAnswer : Verdict → Counts → Tallied
 tallyAnswer Accepted counts = Counted counts
 tallyAnswer (RefusedFor why) counts = Refused why
 
--- the table's number, 0 where the call is accepted, and the counts, all 0 where it is refused
+-- what the answer says: the table's number, or 0 for none, and the counts, "number, counts 0" where the call is refused. Theorems
+-- `tally-number` and `refused-counts` say so of the call's answer.
 abbrev pub talliedNumber : Tallied → ℕ
 talliedNumber (Counted counts) = 0
 talliedNumber (Refused why) = refusalNumber why

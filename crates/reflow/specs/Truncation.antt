@@ -9,7 +9,7 @@ use Rattle.text.specs.Line.{Glyph}
 use Rattle.reflow.specs.declared.Rule.{Rule}
 use Rattle.reflow.specs.Wrapping.{overWide}
 
--- "Left lines only": the offset of a line in a text that is scrolled to the right by so many columns
+-- "Left lines only": the offset of a line where the notice is scrolled to the right by so many columns
 unfoldable pub offsetOf : ℕ → Alignment → ℕ
 offsetOf column Left = column
 offsetOf column Center = 0
@@ -19,7 +19,7 @@ offsetOf column Right = 0
 unfoldable pub ends : Rule → ℕ → Glyph → Bool
 ends u shown g = ltb (u .limit) (shown + g .width)
 
--- "the offset swallows glyphs up to its size", one of width 0 as long as there is offset left
+-- "the offset swallows glyphs up to its size". One of width 0 it swallows as long as any is left, as `next_line` does in the Rust.
 unfoldable pub swallows : ℕ → Glyph → Bool
 swallows offset g = ltb 0 offset && leb (g .width) offset
 
@@ -33,6 +33,6 @@ shownFrom u offset shown (g ∷ gs) =
     (cond (swallows offset g) (shownFrom u (offset - g .width) shown gs)
     (g ∷ shownFrom u 0 (shown + g .width) gs)))
 
--- the line of a text line. Limit 0 gives no line.
+-- the line of a text line. Limit 0 gives no line, as in wrapping. A line all of whose glyphs are swallowed is an empty line.
 unfoldable pub truncate : Rule → ℕ → Alignment → List Glyph → List (List Glyph)
 truncate u column alignment gs = cond (eqb (u .limit) 0) [] (shownFrom u (offsetOf column alignment) 0 gs ∷ [])

@@ -153,7 +153,7 @@ wrapFrom u emitted s (g ∷ gs) =
 unfoldable pub wrap : Rule → List Glyph → Wrapped
 wrap u gs = cond (eqb (u .limit) 0) (record { lines = []; dropped = [] }) (wrapFrom u false start gs)
 
--- the glyphs of a text line that step 1 skips, and the others; where the limit is 0 there is no step
+-- the glyphs of a text line that step 1 skips, and the others; at limit 0 no step is taken, and these say nothing
 abbrev pub overWides : Rule → List Glyph → List Glyph
 overWides u [] = []
 overWides u (g ∷ gs) = cond (overWide u g) (g ∷ overWides u gs) (overWides u gs)

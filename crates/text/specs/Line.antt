@@ -43,7 +43,7 @@ linesFrom number (r ∷ rs) =
 abbrev pub glyphsOf : TextLine → List Glyph
 glyphsOf line = numbered (line .first) (line .records)
 
--- "glyphs are the records that aren't heads": those of records, the first of which has the number given
+-- 'Rows, pages, tally': "glyphs are the records that aren't heads": those of records, the first of which has the number given
 abbrev pub glyphsFrom : ℕ → List ℕ → List Glyph
 glyphsFrom number [] = []
 glyphsFrom number (r ∷ rs) = cond (isHead r) (glyphsFrom (suc number) rs) (glyphFrom number r ∷ glyphsFrom (suc number) rs)
