@@ -7,6 +7,7 @@ use borrow.Author.Tests.{ltb-false}
 use lib.Dec.{ltb}
 use lib.ListN.{length, drop, length-map}
 use Rattle.text.specs.declared.Alignment.{Alignment}
+use Rattle.text.proofs.Bools.{neither}
 use Rattle.refuse.specs.declared.Ceilings.{Ceilings}
 use Rattle.refuse.specs.declared.Refusal.{Refusal}
 use Rattle.refuse.specs.declared.Refusal.the-variants.{TextLength, TextHeads, Limit, ListLength}
@@ -14,7 +15,7 @@ use Rattle.refuse.specs.declared.Verdict.{Verdict}
 use Rattle.refuse.specs.declared.Verdict.the-variants.{Accepted, Refused as RefusedFor}
 use Rattle.refuse.specs.Refusal.{Cause, _if_, firstCause}
 use Rattle.refuse.specs.Causes.{textTooLong, notOpening, textHeadWrong, textHeadsWrong, limitWrong, listTooShort, some}
-use Rattle.refuse.proofs.Calls.{passed, neither, early-refused, early-accepted}
+use Rattle.refuse.proofs.Calls.{passed, early-refused, early-accepted}
 use Rattle.compose.specs.declared.Method.the-variants.{Wrapped}
 use Rattle.compose.specs.Lines.{Line, lines}
 use Rattle.lines.specs.declared.Listed.the-variants.{Written, Refused}

@@ -1,7 +1,7 @@
 -- What an input holds: one law for each way through the tests, and the records in their places.
 use Prim.Native.Nat.{ℕ, zero, suc, _+_, _-_, _*_, _/_, _%_, _<_, _≤_}
 use mathlib.Core.Path.{_≡_, refl, sym, _∙_}
-use mathlib.Core.Bool.{Bool, true, false, not, _||_}
+use mathlib.Core.Bool.{Bool, true, false, not}
 use mathlib.Core.List.{List, [], _∷_, _++_}
 use native.Mathlib.Nat.{zero-add, add-assoc}
 use native.Mathlib.Numerals.{add-one, unary-clauses}
@@ -10,6 +10,7 @@ use borrow.Author.Tests.{lt-ltb, le-ltb, ltb-false}
 use lib.Dec.{eqb, ltb}
 use lib.ListN.{length, getD, set, take, drop, length-append, length-take, length-drop}
 use lib.Seq.{paste-suc, take-length, getD-drop}
+use Rattle.text.proofs.Bools.{neither}
 use Rattle.listing.specs.declared.Parsed.the-variants.{Refused, Text}
 use Rattle.listing.specs.Program.{limitOf, trimOf, numberAt, recordsFrom, recordsOf, mostRecords, incomplete, trimWrong, parsedOf}
 
@@ -86,10 +87,6 @@ module _ (input text₀ : List ℕ) (count : ℕ) (counted : count ≡ length (r
 
 pub ruleset storing = (storing-starts, storing-length, storing-reads, storing-writes, storing-goes, storing-ends)
 
-or-left : (x y : Bool) → (x || y) ≡ false → x ≡ false
-or-left true y e = e
-or-left false y e = refl
-
 -- what the tests come to, in their order
 module _ (input : List ℕ) (b : Bool) (e : b ≡ incomplete input) where
   pub parse-incomplete : b ≡ true → Refused 0 ≡ parsedOf input
@@ -99,7 +96,7 @@ module _ (input : List ℕ) (b : Bool) (e : b ≡ incomplete input) where
   module _ (f : b ≡ false) where
     pub three-bytes : 3 ≤ length input
     unfolding incomplete
-    three-bytes = ltb-false (length input) 3 (or-left (ltb (length input) 3) (not (eqb ((length input - 3) % 4) 0)) (sym e ∙ f))
+    three-bytes = ltb-false (length input) 3 (neither (ltb (length input) 3) (not (eqb ((length input - 3) % 4) 0)) (sym e ∙ f) .0)
 
     module _ (t : Bool) (p : t ≡ trimWrong input) where
       pub parse-trim : t ≡ true → Refused 0 ≡ parsedOf input

@@ -9,6 +9,7 @@ use native.Mathlib.Omega.{arith}
 use borrow.Author.Tests.{ltb-true, ltb-false, leb-false, lt-ltb}
 use lib.Dec.{eqb, leb, ltb}
 use Rattle.text.specs.Line.{Glyph, glyphFrom, numbered}
+use Rattle.text.proofs.Bools.{neither}
 use Rattle.reflow.specs.declared.Rule.{Rule}
 use Rattle.reflow.specs.Wrapping.{Pending, Step, Wrapped, empty, total, start, overWide, mustJoin, takesSpaces, gathered, joined, full, fitting, afterFitting, emptied, appended, filled, joining, step, lastLines, finish, wrapFrom, wrap}
 use Rattle.nothing_lost.specs.Glyphs.{Widths, NoWider, none, one}
@@ -44,36 +45,27 @@ least-total : {least most : ℕ} (gs : List Glyph) → empty gs ≡ false → Wi
 least-total [] e z = absurd (true≢false e)
 least-total (g ∷ gs) e (one l m z) = omega arith
 
--- what a test that came out false says
-or-left : (a b : Bool) → (a || b) ≡ false → a ≡ false
-or-left true b e = e
-or-left false b e = refl
-
-or-right : (a b : Bool) → (a || b) ≡ false → b ≡ false
-or-right true b e = absurd (true≢false e)
-or-right false b e = e
-
 module _ (u : Rule) (s : Pending) (g : Glyph) where
   not-full : full u s g ≡ false →
       (total (s .row) < u .limit) × (0 < g .width → total (s .row) + total (s .spaces) + total (s .word) < u .limit)
   unfolding full
   not-full e = (
-    leb-false (u .limit) (total (s .row)) (or-left _ _ e),
+    leb-false (u .limit) (total (s .row)) (neither _ _ e .0),
     λ h.
         leb-false (u .limit) (total (s .row) + total (s .spaces) + total (s .word))
-        (rw (lt-ltb 0 (g .width) h) at (or-right (leb (u .limit) (total (s .row))) _ e)),
+        (rw (lt-ltb 0 (g .width) h) at (neither (leb (u .limit) (total (s .row))) _ e .1)),
   )
 
   not-joined : mustJoin u s g ≡ false → empty (s .row) ≡ true →
       (total (s .word) + g .width ≤ u .limit) × (u .trim ≡ false → total (s .spaces) + total (s .word) + g .width ≤ u .limit)
   unfolding mustJoin
-  not-joined j e = go (u .trim) (rw e at (or-right (g .whitespace && s .solid) _ j))
+  not-joined j e = go (u .trim) (rw e at (neither (g .whitespace && s .solid) _ j .1))
     where
       go : (trim : Bool) →
           cond trim (ltb (u .limit) (total (s .word) + g .width) || ltb (u .limit) (total (s .spaces) + g .width))
           (ltb (u .limit) (total (s .word) + total (s .spaces) + g .width)) ≡ false →
           (total (s .word) + g .width ≤ u .limit) × (trim ≡ false → total (s .spaces) + total (s .word) + g .width ≤ u .limit)
-      go true f = (ltb-false (u .limit) (total (s .word) + g .width) (or-left _ _ f), λ h. absurd (true≢false h))
+      go true f = (ltb-false (u .limit) (total (s .word) + g .width) (neither _ _ f .0), λ h. absurd (true≢false h))
       go false f = let h = ltb-false (u .limit) (total (s .word) + total (s .spaces) + g .width) f in (omega arith, λ _. omega arith)
 
 -- Where row isn't empty, row, spaces and word have at most `tight` cells: below the limit one more glyph may come. A line has

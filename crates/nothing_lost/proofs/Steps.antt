@@ -1,7 +1,7 @@
 -- The ways through a step of the rules, and what a line's end emits.
 use Prim.Native.Nat.{_-_, _<_}
 use mathlib.Core.Path.{_≡_, refl, _∙_}
-use mathlib.Core.Bool.{Bool, true, false, cond, not, _&&_, _||_}
+use mathlib.Core.Bool.{Bool, true, false, cond, not, _&&_, _||_, and-eq-true-iff}
 use mathlib.Core.List.{List, [], _∷_, _++_, append-nil}
 use native.Mathlib.Omega.{arith}
 use borrow.Author.Tests.{ne-eqb}
@@ -11,7 +11,6 @@ use Rattle.reflow.specs.Wrapping.{Pending, Step, empty, total, start, overWide,
 use Rattle.nothing_lost.specs.Glyphs.{glyphsOfAll}
 use Rattle.nothing_lost.proofs.Lists.{cases}
 use Rattle.reflow.proofs.RunLaws.{cond-cases}
-use Rattle.reflow.proofs.Simulation.{and-left}
 
 -- step 4 appends a glyph to spaces or word
 abbrev pub spaced : Pending → Glyph → Pending
@@ -45,7 +44,7 @@ module _ (u : Rule) (s : Pending) (g : Glyph) (P : Step → Type 0) where
       (λ e.
       cases (λ (b : Bool). P (emits u s (cond b (g ∷ []) []) (cond b (emptied u s) (appended (emptied u s) g))))
       (drops (emptied u s) g)
-      (λ d. drop e (and-left (g .whitespace) _ d))
+      (λ d. drop e (and-eq-true-iff (g .whitespace) _ .0 d .0))
       (λ _. emit e))
       append
 

@@ -1,11 +1,12 @@
 -- A step of the wrapper on runs does what the rules' step does on lists.
 use Prim.Native.Nat.{ℕ, _+_, _<_}
 use mathlib.Core.Path.{_≡_, refl, sym, ap, _∙_}
-use mathlib.Core.Bool.{Bool, true, false, cond, not, _&&_, _||_, true≢false, or-true, or-false}
+use mathlib.Core.Bool.{Bool, true, false, cond, not, _&&_, _||_, true≢false, or-true, or-false, and-eq-true-iff}
 use mathlib.Core.List.{List, [], _∷_, map}
 use lib.Dec.{eqb}
 use lib.ListN.{length, getD}
 use Rattle.text.specs.Line.{Glyph, glyphFrom}
+use Rattle.text.proofs.Bools.{neither}
 use Rattle.reflow.specs.declared.Run.{Run}
 use Rattle.reflow.specs.declared.Rule.{Rule}
 use Rattle.reflow.specs.declared.Wrapper.{Wrapper}
@@ -17,18 +18,6 @@ use Rattle.reflow.specs.Pulls.{Shows, emittedOf, nextOf}
 use Rattle.reflow.proofs.RunLaws.{cond-cases}
 use Rattle.reflow.proofs.ListRuns.{Read}
 use Rattle.reflow.proofs.States.{row-read, spaces-empty, joins-is, full-is, join-shows, emptied-shows, wide-shows, dropped-shows, appended-shows}
-
-pub and-left : (a b : Bool) → (a && b) ≡ true → a ≡ true
-and-left true b e = refl
-and-left false b e = e
-
-and-right : (a b : Bool) → (a && b) ≡ true → b ≡ true
-and-right true b e = e
-and-right false b e = absurd (true≢false (sym e))
-
-or-left : (a b : Bool) → (a || b) ≡ false → a ≡ false
-or-left true b e = e
-or-left false b e = refl
 
 empty-is : (l : List Glyph) → empty l ≡ true → l ≡ []
 empty-is [] e = refl
@@ -72,7 +61,7 @@ module _ (u : Rule) (records : List ℕ) (s : Wrapper) (t : Pending) (h : Shows 
   unfolding restRun drops
   rest-shows r =
       rw (spaces-empty u records s t h)
-      (both (g .whitespace && empty (t .spaces)) (and-left _ _) (λ b. empty-is (t .spaces) (and-right (g .whitespace) _ b)))
+      (both (g .whitespace && empty (t .spaces)) (λ b. and-eq-true-iff (g .whitespace) _ .0 b .0) (λ b. empty-is (t .spaces) (and-eq-true-iff (g .whitespace) _ .0 b .1)))
     where
       both : (b : Bool) → (b ≡ true → g .whitespace ≡ true) → (b ≡ true → t .spaces ≡ [])
           → Shows u records (cond b (passedRun s) (appendedRun s (g .width) (g .whitespace))) (cond b t (appended t g))
@@ -120,7 +109,7 @@ module _ (u : Rule) (records : List ℕ) (s : Wrapper) (t : Pending) (h : Shows 
     unfolding mustJoin
     joined-matches o true j = joining-matches o
     joined-matches o false j =
-        filled-matches u records s t h g k e o (λ w. h .wordless (or-left (t .solid) _ (rw w at j)))
+        filled-matches u records s t h g k e o (λ w. h .wordless (neither (t .solid) _ (rw w at j) .0))
 
     by-width : (b : Bool) → overWide u g ≡ b →
         Matches u records s (cond b (Went (passedRun s)) (filledRun u records (joinedRun u s (g .width) (g .whitespace)) (g .width) (g .whitespace)))

@@ -1,6 +1,6 @@
 -- How a call goes down its list of causes: a check that holds ends the list, one that doesn't leaves it to the others.
 use mathlib.Core.Path.{_≡_, refl}
-use mathlib.Core.Bool.{Bool, true, false, cond, _||_, true≢false}
+use mathlib.Core.Bool.{Bool, true, false, cond}
 use mathlib.Core.List.{List, [], _∷_, _++_}
 use native.Mathlib.Omega.{arith}
 use Prim.Native.Nat.{ℕ}
@@ -22,10 +22,6 @@ pub ruleset causes = (stop, pass)
 pub passed : (why : Refusal) (holds : Bool) (others : Verdict) → cond holds (Refused why) others ≡ Accepted → (holds ≡ false) × (others ≡ Accepted)
 passed why true others e = absurd (let z : _≡_ {A = ℕ} 0 1 = cc in omega arith)
 passed why false others e = (refl, e)
-
-pub neither : (a b : Bool) → (a || b) ≡ false → (a ≡ false) × (b ≡ false)
-neither true b e = absurd (true≢false e)
-neither false b e = (refl, e)
 
 -- a list of causes in two stages: the second matters only where the first accepts
 module _ (later : List Cause) where

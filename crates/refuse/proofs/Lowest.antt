@@ -1,14 +1,14 @@
 -- "Lowest number first": of a list in the table's order, the first cause that holds is the lowest.
 use Prim.Native.Nat.{ℕ, _<_, _≤_}
 use mathlib.Core.Path.{_≡_, refl, ap, sym, _∙_}
-use mathlib.Core.Bool.{Bool, true, false, cond, _&&_}
+use mathlib.Core.Bool.{Bool, true, false, cond, _&&_, and-eq-true-iff}
 use mathlib.Core.List.{List, [], _∷_}
 use native.Mathlib.Omega.{arith}
 use borrow.Author.Tests.{ltb-true}
 use lib.Dec.{ltb}
 use Rattle.refuse.specs.declared.Refusal.{Refusal}
 use Rattle.refuse.specs.declared.Verdict.{Verdict}
-use Rattle.refuse.specs.declared.Verdict.the-variants.{Accepted, Refused}
+use Rattle.refuse.specs.declared.Verdict.the-variants.{Refused}
 use Rattle.refuse.specs.Refusal.{Cause, firstCause, refusalNumber, verdictNumber}
 
 -- the causes' numbers rise, from above n
@@ -24,16 +24,12 @@ pub data Holds (why : Refusal) : List Cause → Type 0 where
 false-true : (b : Bool) → b ≡ false → b ≡ true → ⊥
 false-true b f t = let z : _≡_ {A = ℕ} 0 1 = ap (λ (x : Bool). cond x 1 0) (sym f ∙ t) in omega arith
 
-and-parts : (a b : Bool) → (a && b) ≡ true → (a ≡ true) × (b ≡ true)
-and-parts true b e = (refl, e)
-and-parts false b e = absurd (false-true false refl e)
-
 above : (n : ℕ) (causes : List Cause) (why : Refusal) → ascending n causes ≡ true → Holds why causes → n < refusalNumber why
 above n (cause ∷ causes) why up (here e h) =
-    let p = ltb-true n (refusalNumber (cause .why)) (and-parts (ltb n (refusalNumber (cause .why))) _ up .0) in
+    let p = ltb-true n (refusalNumber (cause .why)) (and-eq-true-iff (ltb n (refusalNumber (cause .why))) _ .0 up .0) in
     rw (ap refusalNumber e) at p
 above n (cause ∷ causes) why up (there h) =
-    let q = and-parts (ltb n (refusalNumber (cause .why))) (ascending (refusalNumber (cause .why)) causes) up in
+    let q = and-eq-true-iff (ltb n (refusalNumber (cause .why))) (ascending (refusalNumber (cause .why)) causes) .0 up in
     let p = ltb-true n (refusalNumber (cause .why)) (q .0) in
     let m = above (refusalNumber (cause .why)) causes why (q .1) h in
     omega arith
@@ -53,7 +49,7 @@ step false cause causes why e z up rest (there h) = rest h
 pub lowest : (n : ℕ) (causes : List Cause) (why : Refusal) → ascending n causes ≡ true → Holds why causes
     → (0 < verdictNumber (firstCause causes)) × (verdictNumber (firstCause causes) ≤ refusalNumber why)
 lowest n (cause ∷ causes) why up h =
-    let q = and-parts (ltb n (refusalNumber (cause .why))) (ascending (refusalNumber (cause .why)) causes) up in
+    let q = and-eq-true-iff (ltb n (refusalNumber (cause .why))) (ascending (refusalNumber (cause .why)) causes) .0 up in
     let p = ltb-true n (refusalNumber (cause .why)) (q .0) in
     step (cause .holds) cause causes why refl (omega arith)
     (above (refusalNumber (cause .why)) causes why (q .1))

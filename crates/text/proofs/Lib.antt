@@ -2,3 +2,4 @@ pub mod Resolving
 pub mod TextLines
 pub mod LineGlyphs
 pub mod Lists
+pub mod Bools
