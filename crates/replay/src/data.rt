@@ -1,6 +1,16 @@
-// The oracle's sums, one for each case in order, 4 bytes each, high byte first.
+// The oracle's sums: a file for each question, with a sum for each case in order, 4 bytes each, high byte first.
+use answers::Question;
 ghost use mathlib.Core.Path.{_≡_};
 ghost use Prim.Native.Nat.{_<_};
+
+// Opens a question's file.
+pub fn open(question: Question) -> i32 {
+    match question {
+        Question::Wrapped => os::open_read(b"wrapped"),
+        Question::Tally => os::open_read(b"tally"),
+        Question::Truncated => os::open_read(b"truncated"),
+    }
+}
 
 fn wide(byte: u8) -> u32
     ensures { λ r. ⌜ r ≡ byte ⌝ }
@@ -9,25 +19,9 @@ fn wide(byte: u8) -> u32
     byte as u32
 }
 
-// The sum at a place of some bytes, or 0 past their end.
-fn sum_at(data: &[u8], place: usize) -> u32 {
-    if data.len() / 4 <= place {
-        return 0;
-    }
-    let at = place * 4;
-    wide(data[at]) * 16777216
-        + wide(data[at + 1]) * 65536
-        + wide(data[at + 2]) * 256
-        + wide(data[at + 3])
-}
-
-// The sum of a case, where the cases are asked in order: every 16,384 of them, which is what
-// `data` holds, are read at the first.
-pub fn sum_of(fd: i32, data: &mut [u8], case: usize) -> u32 {
-    let place = case % 16384;
-    if place == 0 {
-        io::read_full(fd, data);
-        return sum_at(data, 0);
-    }
-    sum_at(data, place)
+// The next sum of a file, or 0 past its end.
+pub fn next_sum(fd: i32) -> u32 {
+    let mut bytes = [0u8; 4];
+    io::read_full(fd, &mut bytes);
+    wide(bytes[0]) * 16777216 + wide(bytes[1]) * 65536 + wide(bytes[2]) * 256 + wide(bytes[3])
 }

@@ -1,16 +1,7 @@
-// Replays what the original Rust answered: data/wrapped has a sum of its composed lines for each case.
-mod cases;
+// Replays what the original Rust answered: data/wrapped, data/tally and data/truncated have a sum of its answer to each case.
 mod data;
-mod long;
-mod numbers;
-mod parts;
-mod random;
-mod records;
 mod replaying;
 mod report;
-mod several;
-mod short;
-mod sums;
 
 fn main() {
     replaying::replay();

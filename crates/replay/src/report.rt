@@ -1,45 +1,63 @@
 // What the replay prints.
-use crate::cases::Case;
-use crate::parts::Part;
+use answers::Question;
+use cases::Case;
+use cases::parts::Part;
 use libc::STDOUT_FILENO;
+
+fn print_question(question: Question) -> bool {
+    match question {
+        Question::Wrapped => io::write_all(STDOUT_FILENO, b"wrapped"),
+        Question::Tally => io::write_all(STDOUT_FILENO, b"tally"),
+        Question::Truncated => io::write_all(STDOUT_FILENO, b"truncated"),
+    }
+}
 
 fn print_part(part: Part) -> bool {
     match part {
-        Part::Short => io::write_all(STDOUT_FILENO, b"short lines"),
-        Part::Several => io::write_all(STDOUT_FILENO, b"several lines"),
-        Part::Long => io::write_all(STDOUT_FILENO, b"long texts"),
+        Part::Short => io::write_all(STDOUT_FILENO, b", short lines: "),
+        Part::Several => io::write_all(STDOUT_FILENO, b", several lines: "),
+        Part::Long => io::write_all(STDOUT_FILENO, b", long texts: "),
     }
 }
 
-fn print_trim(trim: bool) {
-    if trim {
-        io::write_all(STDOUT_FILENO, b", trimmed\n");
-    } else {
-        io::write_all(STDOUT_FILENO, b", not trimmed\n");
-    }
-}
-
-// A case whose answers differ.
-pub fn print_case(part: Part, number: u32, case: Case) {
-    print_part(part);
-    io::write_all(STDOUT_FILENO, b": case ");
+// A number, and what comes after it.
+fn print_number(number: u32, after: &[u8]) {
     io::print_decimal(STDOUT_FILENO, number as u64);
-    io::write_all(STDOUT_FILENO, b" differs, limit ");
-    io::print_decimal(STDOUT_FILENO, case.limit as u64);
-    print_trim(case.trim);
+    io::write_all(STDOUT_FILENO, after);
+}
+
+// What a case asks.
+fn print_asked(case: Case) {
+    print_number(case.limit as u32, b", column ");
+    if case.trim {
+        return print_number(case.column, b", trimmed\n");
+    }
+    print_number(case.column, b", not trimmed\n");
+}
+
+// A case whose answers differ, if it is among the first ten of its part.
+pub fn print_case(question: Question, part: Part, number: u32, case: Case, before: u32) {
+    if 10 <= before {
+        return;
+    }
+    print_question(question);
+    print_part(part);
+    io::write_all(STDOUT_FILENO, b"case ");
+    print_number(number, b" differs, limit ");
+    print_asked(case);
 }
 
 // The end of a part.
-pub fn print_counts(part: Part, compared: u32, differ: u32) {
+pub fn print_counts(question: Question, part: Part, compared: u32, differ: u32) {
+    print_question(question);
     print_part(part);
-    io::write_all(STDOUT_FILENO, b": ");
-    io::print_decimal(STDOUT_FILENO, compared as u64);
-    io::write_all(STDOUT_FILENO, b" cases compared, ");
-    io::print_decimal(STDOUT_FILENO, differ as u64);
-    io::write_all(STDOUT_FILENO, b" differ\n");
+    print_number(compared, b" cases compared, ");
+    print_number(differ, b" differ\n");
 }
 
 // No file to read.
-pub fn print_no_data() {
-    io::write_all(STDOUT_FILENO, b"data/wrapped can't be opened\n");
+pub fn print_no_data(question: Question) {
+    io::write_all(STDOUT_FILENO, b"data/");
+    print_question(question);
+    io::write_all(STDOUT_FILENO, b" can't be opened\n");
 }

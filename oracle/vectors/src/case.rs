@@ -1,15 +1,18 @@
-//! What a case asks, and random texts.
+//! What a case asks about, and random texts.
 
 use oracle::Alignment;
 
 use crate::random::{below, next};
 use crate::records;
 
+/// A text, and how its lines are made: trimmed or not where they are wrapped, and scrolled to the
+/// right by `column` where they are truncated.
 pub struct Case {
     pub text: Vec<u32>,
     pub own: Alignment,
     pub limit: u16,
     pub trim: bool,
+    pub column: u16,
 }
 
 /// What a random text is like: one record in `heads` is a head, widths are below `widths`, and one

@@ -1,11 +1,13 @@
 //! Writes what the Rust answered for `crates/replay`, which makes the same cases and compares.
 //!
-//! Usage: `vectors [FILE]`, from the repository's root. The file gets a sum of the composed lines
-//! of each case, 4 bytes each, high byte first: the short lines' cases, then those of several
-//! lines, then those of long texts. A panic of the Rust ends it with exit status 1.
+//! Usage: `vectors [FOLDER]`, from the repository's root. The folder gets a file for each question:
+//! `wrapped`, `tally` and `truncated`. A file has a sum of the answer to each case, 4 bytes each,
+//! high byte first: the short lines' cases, then those of several lines, then those of long texts.
+//! A panic of the Rust ends it with exit status 1.
 
 mod case;
 mod long;
+mod questions;
 mod random;
 mod records;
 mod several;
@@ -13,12 +15,14 @@ mod short;
 mod sums;
 
 use std::fs;
+use std::path::Path;
 use std::process::ExitCode;
 
 use case::Case;
 use oracle::Outcome;
+use questions::{QUESTIONS, Question};
 
-/// A part of the replay: how many cases it has, and the case of a number.
+/// A part of the cases: how many it has, and the case of a number.
 struct Part {
     name: &'static str,
     count: u32,
@@ -33,34 +37,35 @@ const PARTS: [Part; 3] = [
 ];
 
 fn main() -> ExitCode {
-    let path = std::env::args().nth(1);
-    let path = path.as_deref().unwrap_or("crates/replay/data/wrapped");
-    match vectors().and_then(|data| fs::write(path, data).map_err(|error| error.to_string())) {
-        Ok(()) => ExitCode::SUCCESS,
-        Err(message) => {
-            eprintln!("{path}: {message}");
-            ExitCode::FAILURE
+    let folder = std::env::args().nth(1);
+    let folder = Path::new(folder.as_deref().unwrap_or("crates/replay/data"));
+    for question in QUESTIONS {
+        if let Err(message) = write(folder, &question) {
+            eprintln!("{}: {message}", question.name);
+            return ExitCode::FAILURE;
         }
     }
+    ExitCode::SUCCESS
 }
 
-fn vectors() -> Result<Vec<u8>, String> {
+/// Writes the file of a question.
+fn write(folder: &Path, question: &Question) -> Result<(), String> {
     let mut data = Vec::new();
-    for Part { name, count, case } in PARTS {
-        for number in 0..count {
-            let sum = answer(case(number));
-            let sum = sum.map_err(|message| format!("{name}: case {number}: {message}"))?;
+    for part in PARTS {
+        for number in 0..part.count {
+            let sum = answer(question, &(part.case)(number));
+            let sum = sum.map_err(|message| format!("{}: case {number}: {message}", part.name))?;
             data.extend(sum.to_be_bytes());
         }
-        println!("{name}: {count} cases");
+        println!("{}, {}: {} cases", question.name, part.name, part.count);
     }
-    Ok(data)
+    fs::write(folder.join(question.name), data).map_err(|error| error.to_string())
 }
 
-/// The sum of the Rust's lines.
-fn answer(case: Case) -> Result<u32, String> {
-    match oracle::wrapped_lines(&case.text, case.own, case.limit, case.trim) {
-        Outcome::Value(lines) => Ok(sums::sum_lines(&lines)),
+/// The sum of the Rust's answer.
+fn answer(question: &Question, case: &Case) -> Result<u32, String> {
+    match (question.ask)(case) {
+        Outcome::Value(sum) => Ok(sum),
         Outcome::Panicked(message) => Err(message),
     }
 }

@@ -1,4 +1,4 @@
-//! Numbers that look random and come again: `crates/replay` makes the same.
+//! Numbers that look random and come again: `crates/cases` makes the same.
 
 /// The first number of a case.
 pub fn seed(number: u32) -> u32 {

@@ -5,13 +5,14 @@ use oracle::Alignment;
 use crate::case::Case;
 use crate::records;
 
-/// The case of a number: ten for each text line.
+/// The case of a number: ten for each text line, at the columns 0 to 9.
 pub fn case(number: u32) -> Case {
     Case {
         text: line(number / 10),
         own: Alignment::Left,
         limit: (1 + number % 10 / 2) as u16,
         trim: number.is_multiple_of(2),
+        column: ((number % 10 + number / 10) % 10) as u16,
     }
 }
 

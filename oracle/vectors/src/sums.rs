@@ -1,14 +1,34 @@
-//! The sum by which two lists of composed lines are compared.
+//! The sums by which answers are compared.
 
-use oracle::ComposedLine;
+use oracle::{ComposedLine, Tally};
 
-/// Odd, so that an entry that differs in one half from another always gives another sum.
+/// Odd, so that two answers that differ in one number, or in one half of an entry, have different
+/// sums.
 const ODD: u32 = 2_654_435_769;
 
-/// The sum of composed lines: of their number, then of each entry's upper and lower half.
-pub fn sum_lines(lines: &[ComposedLine]) -> u32 {
+/// The sum with one number more.
+fn with_number(sum: u32, number: u32) -> u32 {
+    sum.wrapping_mul(ODD).wrapping_add(number)
+}
+
+/// The sum of the entries of composed lines: of their number, then of each one's upper and lower
+/// half.
+pub fn sum_entries(lines: &[ComposedLine]) -> u32 {
     lines.iter().map(ComposedLine::packed).fold(lines.len() as u32, |sum, entry| {
-        let upper = sum.wrapping_mul(ODD).wrapping_add((entry >> 32) as u32);
-        upper.wrapping_mul(ODD).wrapping_add(entry as u32)
+        with_number(with_number(sum, (entry >> 32) as u32), entry as u32)
     })
+}
+
+/// The sum of a tally's six counts.
+pub fn sum_counts(tally: Tally) -> u32 {
+    let Tally { lines, placed, clipped, zero_width, over_wide, dropped } = tally;
+    [lines, placed, clipped, zero_width, over_wide, dropped].into_iter().fold(0, with_number)
+}
+
+/// The sum of composed lines: of what is told of each, then of their number.
+pub fn sum_lines(lines: &[ComposedLine]) -> u32 {
+    let told = lines.iter().flat_map(|line| {
+        [line.first(), line.end(), u32::from(line.width), line.alignment_number()]
+    });
+    with_number(told.fold(0, with_number), lines.len() as u32)
 }

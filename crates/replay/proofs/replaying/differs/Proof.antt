@@ -1,6 +1,6 @@
 -- `replay::replaying::differs` meets its contract.
-use native.Mathlib.Omega.{arith}
 use borrow.Author.Needs.{needs}
+use native.Mathlib.Omega.{arith}
 use lib.ListN.{length-take}
 use Rattle.replay.proofs.replaying.differs.Statement.{statement}
 use Rattle.replay.proofs.replaying.differs.Tie as tie
@@ -38,15 +38,6 @@ same-length-4 c = search needs
 returns-2 : tie.Need-returns-2
 returns-2 c = search needs
 
-same-length-5 : tie.Need-same-length-5
-same-length-5 c = search needs
-
-same-length-6 : tie.Need-same-length-6
-same-length-6 c = search needs
-
-returns-3 : tie.Need-returns-3
-returns-3 c = search needs
-
 pub differs-spec : {M : Type 1} → statement M
 differs-spec =
     tie.close
@@ -61,7 +52,4 @@ differs-spec =
     print-case-requires
     same-length-3
     same-length-4
-    returns-2
-    same-length-5
-    same-length-6
-    returns-3)
+    returns-2)

@@ -7,29 +7,20 @@ use Rattle.replay.proofs.replaying.replay_part.Statement.{statement}
 use Rattle.replay.proofs.replaying.replay_part.Tie as tie
 
 abbrev Inv-loop : tie.InvT-loop
-Inv-loop part fd data₀ text₀ list₀ count start number₀ differ₀ «data» text list number differ =
-    (number ≤ count) × (differ ≤ number) × (length «data» ≡ length data₀) × (length text ≡ length text₀) × (length list ≡ length list₀)
+Inv-loop question part fd text₀ list₀ count number₀ differ₀ text list number differ =
+    (number ≤ count) × (differ ≤ number) × (length text ≡ length text₀) × (length list ≡ length list₀)
 
 abbrev μ-loop : tie.MeasureT-loop
-μ-loop part fd data₀ text₀ list₀ count start number₀ differ₀ «data» text list number differ = count - number
+μ-loop question part fd text₀ list₀ count number₀ differ₀ text list number differ = count - number
 
 count-requires : tie.Need-count-requires Inv-loop μ-loop
 count-requires c κs = search needs
 
-start-requires : tie.Need-start-requires Inv-loop μ-loop
-start-requires c κs = search needs
-
 loop-holds : tie.Need-loop-holds Inv-loop μ-loop
 loop-holds c = search needs
 
-cast-sum-of : tie.Need-cast-sum-of Inv-loop μ-loop
-cast-sum-of c = search needs
-
-add-sum-of : tie.Need-add-sum-of Inv-loop μ-loop
-add-sum-of c = search needs
-
-sum-of-requires : tie.Need-sum-of-requires Inv-loop μ-loop
-sum-of-requires c κs = search needs
+next-sum-requires : tie.Need-next-sum-requires Inv-loop μ-loop
+next-sum-requires c κs = search needs
 
 differs-requires : tie.Need-differs-requires Inv-loop μ-loop
 differs-requires c κs = search needs
@@ -55,9 +46,6 @@ same-length c = search needs
 same-length-2 : tie.Need-same-length-2 Inv-loop μ-loop
 same-length-2 c = search needs
 
-same-length-3 : tie.Need-same-length-3 Inv-loop μ-loop
-same-length-3 c = search needs
-
 returns : tie.Need-returns Inv-loop μ-loop
 returns c = search needs
 
@@ -68,11 +56,8 @@ replay-part-spec =
     Inv-loop
     μ-loop
     count-requires
-    start-requires
     loop-holds
-    cast-sum-of
-    add-sum-of
-    sum-of-requires
+    next-sum-requires
     differs-requires
     add-differ
     add-number
@@ -81,5 +66,4 @@ replay-part-spec =
     print-counts-requires
     same-length
     same-length-2
-    same-length-3
     returns)

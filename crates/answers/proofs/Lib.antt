@@ -1,0 +1,5 @@
+pub mod Summing
+pub mod Few
+pub mod Pulling
+pub mod Telling
+pub mod Accepting

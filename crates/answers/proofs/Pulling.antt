@@ -1,0 +1,73 @@
+-- Truncated lines, pulled and summed: the sum so far, with the lines that are left, comes to the sum of all.
+use Prim.Native.Nat.{ℕ, _+_, _^_, _<_}
+use mathlib.Core.Path.{_≡_, ap, _∙_}
+use mathlib.Core.List.{List, [], _∷_}
+use native.Mathlib.Omega.{arith}
+use mir.Val.{Fits}
+use mir.Syntax.{w32}
+use lib.ListN.{length}
+use Rattle.text.specs.declared.Alignment.{Alignment}
+use Rattle.reflow.specs.declared.Rule.{Rule}
+use Rattle.compose.specs.declared.Composed.{Composed}
+use Rattle.compose.specs.declared.Composer.{Composer}
+use Rattle.compose.specs.declared.Pull.{Pull}
+use Rattle.compose.specs.declared.Pull.the-variants.{Line as PulledLine, Done}
+use Rattle.compose.specs.declared.Method.the-variants.{Truncated}
+use Rattle.compose.specs.Lines.{lines, composedOf}
+use Rattle.compose.specs.Composing.{left, lineAt, Ready, Started, Told, Pulled}
+use Rattle.answers.specs.Sums.{withNumber, withLine, withLines, linesSum}
+use Rattle.answers.proofs.Few.{lines-few}
+
+-- so many lines were pulled and summed, and the composer has the others
+pub record Pulling (u : Rule) (column : ℕ) (own : Alignment) (text : List ℕ) (c : Composer) (sum count : ℕ) : Type 0 where
+  pub ready : Ready u text c
+  pub counted : count + length (left u own text c) ≡ length (lines u (Truncated column) own text)
+  pub same : withLines sum (left u own text c) ≡ withLines 0 (lines u (Truncated column) own text)
+
+module _ (u : Rule) (column : ℕ) (own : Alignment) (text : List ℕ) (c : Composer) where
+  pub pulling-starts : Started u (Truncated column) text c → Pulling u column own text c 0 0
+  pulling-starts s =
+      record {
+        ready = s .ready;
+        counted = omega (arith, ap length (s .lines-left own));
+        same = ap (withLines 0) (s .lines-left own);
+      }
+
+  module _ (sum count : ℕ) (k : Pulling u column own text c sum count) (o : Pull) (p : Pulled u own text c o) where
+    module _ (line : Composed) (d : Composer) (e : o ≡ PulledLine line d) where
+      pulled-left : left u own text c ≡ lineAt u text line ∷ left u own text d
+      pulled-left = rw e at (p .pulled-lines)
+
+      told : Told u text line
+      told = (rw e at (p .ready)) .1
+
+      pub first-fits : length text < 2 ^ 28 → line .first < 2 ^ 32
+      first-fits h = omega (arith, told .ordered, told .within)
+
+      pub end-fits : length text < 2 ^ 28 → line .end < 2 ^ 32
+      end-fits h = omega (arith, told .within)
+
+      pub count-fits : length text < 2 ^ 28 → Fits w32 (count + 1)
+      count-fits h = record { fits = omega (arith, k .counted, ap length pulled-left, lines-few u column own text) }
+
+      pub pulling-less : length (left u own text d) < length (left u own text c)
+      pulling-less = omega (arith, ap length pulled-left)
+
+      pub pulling-goes : (next : ℕ) → next ≡ withLine sum line → Pulling u column own text d next (count + 1)
+      pulling-goes next f =
+          let next-is : next ≡ withLine sum (composedOf (lineAt u text line)) = f ∙ ap (withLine sum) (told .is) in
+          record {
+            ready = (rw e at (p .ready)) .0;
+            counted = omega (arith, k .counted, ap length pulled-left);
+            same = rw next-is (rw pulled-left at (k .same));
+          }
+
+    pub pulling-ends : (r : ℕ) → o ≡ Done → r ≡ withNumber sum count → r ≡ linesSum (lines u (Truncated column) own text)
+    unfolding linesSum
+    pulling-ends r e f =
+        let z : left u own text c ≡ [] = rw e at (p .pulled-lines) in
+        let same : sum ≡ withLines 0 (lines u (Truncated column) own text) = rw z at (k .same) in
+        let counted : count ≡ length (lines u (Truncated column) own text) = omega (arith, k .counted, ap length z) in
+        cc
+
+pub ruleset pulling = (pulling-starts, first-fits, end-fits, count-fits, pulling-less, pulling-goes, pulling-ends)

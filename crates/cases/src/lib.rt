@@ -1,0 +1,21 @@
+// Texts to ask about, each made from its number: a program that wants other answers to the same texts makes them again.
+mod long;
+pub mod numbers;
+pub mod parts;
+mod random;
+mod records;
+mod several;
+mod short;
+mod texts;
+
+use text::Alignment;
+
+// What a case asks about: its text is the first `length` records of those that its part wrote. Lines are trimmed or not where they
+// are wrapped, and scrolled to the right by `column` where they are truncated.
+pub struct Case {
+    pub length: usize,
+    pub own: Alignment,
+    pub limit: u16,
+    pub trim: bool,
+    pub column: u32,
+}
