@@ -1,0 +1,79 @@
+-- What a shadow leaves as it is: the block's own cells, and every cell where its area is empty.
+use Prim.Native.Nat.{ℕ, _+_}
+use mathlib.Core.Path.{_≡_, refl, _∙_}
+use mathlib.Core.Bool.{Bool, true, false, and-false}
+use mathlib.Core.Logic.{dite}
+use mathlib.Core.List.{List}
+use native.Mathlib.Decide.{decLt}
+use native.Mathlib.Omega.{arith}
+use borrow.Author.Tests.{eqb-true}
+use lib.Dec.{eqb}
+use lib.IntN.{ℤ}
+use Rattle.num.specs.Held.{held}
+use Rattle.cell.specs.Cell.{withSymbol}
+use Rattle.layout.specs.declared.Rect.{Rect}
+use Rattle.layout.specs.Rect.{isEmpty, within, contains}
+use Rattle.block.specs.declared.Effect.{Effect}
+use Rattle.block.specs.declared.Effect.the-variants.{Overlay, Symbol}
+use Rattle.block.specs.declared.Shadow.{Shadow}
+use Rattle.block.specs.declared.Shadow.the-variants.{Absent, Present}
+use Rattle.buffer.specs.declared.Screen.{Screen}
+use Rattle.buffer.specs.Drawing.{Drawing, over, sparing}
+use Rattle.buffer.proofs.Within.{within-before, within-past}
+use Rattle.buffer.proofs.Over.{over-outside, sparing-inside, sparing-outside}
+use Rattle.shadow.specs.Shadow.{shadowArea, besides, effectOf, shadowOf}
+
+-- no number lies in a part of size 0
+within-none : (first size n : ℕ) → size ≡ 0 → within first (held (first + size)) n ≡ false
+within-none first size n e = dite (decLt n first) (within-before first _ n) (λ p. within-past first _ n (omega (arith, p)))
+
+-- an empty rectangle has no cells
+contains-none : (r : Rect) (column row : ℕ) → isEmpty r ≡ true → contains r column row ≡ false
+contains-none r column row h = go (eqb (r .width) 0) refl
+  where
+    go : (b : Bool) → eqb (r .width) 0 ≡ b → contains r column row ≡ false
+    go true e = rw (within-none (r .x) (r .width) column (eqb-true (r .width) 0 e))
+    go false e = rw (within-none (r .y) (r .height) row (eqb-true (r .height) 0 (rw e at h)), and-false)
+
+-- what is drawn over an empty rectangle leaves every cell
+pub over-empty : (r : Rect) (f : ℕ → ℕ) (column row cell : ℕ) → isEmpty r ≡ true → over r f column row cell ≡ cell
+over-empty r f column row cell h = over-outside r f column row cell (contains-none r column row h)
+
+-- a cell that a drawing leaves is left by it where it spares a rectangle
+sparing-leaves : (r : Rect) (d : Drawing) (column row cell : ℕ) → d column row cell ≡ cell → sparing r d column row cell ≡ cell
+sparing-leaves r d column row cell h = go (contains r column row) refl
+  where
+    go : (b : Bool) → contains r column row ≡ b → sparing r d column row cell ≡ cell
+    go true e = sparing-inside r d column row cell e
+    go false e = sparing-outside r d column row cell e ∙ h
+
+-- a cell that is left whatever is put on a shadow's cells
+abbrev Left : Rect → Rect → ℕ → ℕ → Type 0
+Left base area column row = (f : ℕ → ℕ) (cell : ℕ) → besides base area f column row cell ≡ cell
+
+-- is left by its effect
+effect-leaves : (base area : Rect) (effect : Effect) (column row cell : ℕ) → Left base area column row → effectOf base area effect column row cell ≡ cell
+effect-leaves base area Overlay column row cell h = refl
+effect-leaves base area (Symbol symbol) column row cell h = h (withSymbol symbol) cell
+
+-- and by the shadow
+present-leaves : (styles : List ℕ) (screen : Screen) (base : Rect) (effect : Effect) (style : ℕ) (x y : ℤ) (column row cell : ℕ)
+    → Left base (shadowArea screen base x y) column row → shadowOf styles screen base (Present effect style x y) column row cell ≡ cell
+unfolding shadowOf
+present-leaves styles screen base effect style x y column row cell h =
+    effect-leaves base (shadowArea screen base x y) effect column row _ h ∙ h _ cell
+
+-- a shadow leaves the block's own cells as they are
+pub shadow-spares : (styles : List ℕ) (screen : Screen) (base : Rect) (shadow : Shadow) (column row cell : ℕ) → contains base column row ≡ true
+    → shadowOf styles screen base shadow column row cell ≡ cell
+unfolding shadowOf
+shadow-spares styles screen base Absent column row cell h = refl
+shadow-spares styles screen base (Present effect style x y) column row cell h =
+    present-leaves styles screen base effect style x y column row cell (λ f c. sparing-inside base _ column row c h)
+
+-- one whose area is empty leaves every cell
+pub shadow-empty : (styles : List ℕ) (screen : Screen) (base : Rect) (effect : Effect) (style : ℕ) (x y : ℤ) (column row cell : ℕ)
+    → isEmpty (shadowArea screen base x y) ≡ true → shadowOf styles screen base (Present effect style x y) column row cell ≡ cell
+shadow-empty styles screen base effect style x y column row cell h =
+    present-leaves styles screen base effect style x y column row cell
+    (λ f c. sparing-leaves base _ column row c (over-empty (shadowArea screen base x y) f column row c h))

@@ -1,0 +1,5 @@
+pub mod Around
+pub mod Parts
+pub mod Painted
+pub mod Keeps
+pub mod Effects

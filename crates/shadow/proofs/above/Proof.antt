@@ -1,0 +1,25 @@
+-- `shadow::above` meets its contract.
+use Rattle.shadow.specs.Around.{above}
+use borrow.Author.Needs.{needs}
+use Rattle.shadow.proofs.above.Statement.{statement}
+use Rattle.shadow.proofs.above.Tie as tie
+
+right-requires : tie.Need-right-requires
+right-requires c κs = search needs
+
+bottom-requires : tie.Need-bottom-requires
+bottom-requires c κs = search needs
+
+min-requires : tie.Need-min-requires
+min-requires c κs = search needs
+
+between-requires : tie.Need-between-requires
+between-requires c κs = search needs
+
+returns : tie.Need-returns
+unfolding above
+returns c = cc
+
+pub above-spec : {M : Type 1} → statement M
+above-spec =
+    tie.close (tie.spec right-requires bottom-requires min-requires between-requires returns)

@@ -1,0 +1,16 @@
+-- `shadow::between` meets its contract.
+use borrow.Author.Needs.{needs}
+use Rattle.shadow.proofs.between.Statement.{statement}
+use Rattle.shadow.proofs.between.Tie as tie
+
+saturating-sub-requires : tie.Need-saturating-sub-requires
+saturating-sub-requires c κs = search needs
+
+saturating-sub-requires-2 : tie.Need-saturating-sub-requires-2
+saturating-sub-requires-2 c κs = search needs
+
+returns : tie.Need-returns
+returns c = cc
+
+pub between-spec : {M : Type 1} → statement M
+between-spec = tie.close (tie.spec saturating-sub-requires saturating-sub-requires-2 returns)

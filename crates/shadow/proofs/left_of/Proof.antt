@@ -1,0 +1,43 @@
+-- `shadow::left_of` meets its contract.
+use Rattle.shadow.specs.Around.{leftOf}
+use borrow.Author.Needs.{needs}
+use Rattle.shadow.proofs.left_of.Statement.{statement}
+use Rattle.shadow.proofs.left_of.Tie as tie
+
+max-requires : tie.Need-max-requires
+max-requires c κs = search needs
+
+bottom-requires : tie.Need-bottom-requires
+bottom-requires c κs = search needs
+
+bottom-requires-2 : tie.Need-bottom-requires-2
+bottom-requires-2 c κs = search needs
+
+min-requires : tie.Need-min-requires
+min-requires c κs = search needs
+
+right-requires : tie.Need-right-requires
+right-requires c κs = search needs
+
+min-requires-2 : tie.Need-min-requires-2
+min-requires-2 c κs = search needs
+
+between-requires : tie.Need-between-requires
+between-requires c κs = search needs
+
+returns : tie.Need-returns
+unfolding leftOf
+returns c = cc
+
+pub left-of-spec : {M : Type 1} → statement M
+left-of-spec =
+    tie.close
+    (tie.spec
+    max-requires
+    bottom-requires
+    bottom-requires-2
+    min-requires
+    right-requires
+    min-requires-2
+    between-requires
+    returns)

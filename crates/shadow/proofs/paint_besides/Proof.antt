@@ -1,0 +1,21 @@
+-- `shadow::paint_besides` meets its contract.
+use Rattle.shadow.proofs.Painted.{painted}
+use borrow.Author.Needs.{needs}
+use Rattle.shadow.proofs.paint_besides.Statement.{statement}
+use Rattle.shadow.proofs.paint_besides.Tie as tie
+
+paint-other-rows-requires : tie.Need-paint-other-rows-requires
+paint-other-rows-requires c κs = search needs
+
+paint-same-rows-requires : tie.Need-paint-same-rows-requires
+paint-same-rows-requires c κs = search needs
+
+same-length : tie.Need-same-length
+same-length c = search needs
+
+returns : tie.Need-returns
+returns c = search painted
+
+pub paint-besides-spec : {M : Type 1} → statement M
+paint-besides-spec =
+    tie.close (tie.spec paint-other-rows-requires paint-same-rows-requires same-length returns)

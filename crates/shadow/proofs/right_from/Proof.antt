@@ -1,0 +1,47 @@
+-- `shadow::right_from` meets its contract.
+use Rattle.shadow.specs.Around.{rightFrom}
+use borrow.Author.Needs.{needs}
+use Rattle.shadow.proofs.right_from.Statement.{statement}
+use Rattle.shadow.proofs.right_from.Tie as tie
+
+max-requires : tie.Need-max-requires
+max-requires c κs = search needs
+
+bottom-requires : tie.Need-bottom-requires
+bottom-requires c κs = search needs
+
+bottom-requires-2 : tie.Need-bottom-requires-2
+bottom-requires-2 c κs = search needs
+
+min-requires : tie.Need-min-requires
+min-requires c κs = search needs
+
+right-requires : tie.Need-right-requires
+right-requires c κs = search needs
+
+max-requires-2 : tie.Need-max-requires-2
+max-requires-2 c κs = search needs
+
+right-requires-2 : tie.Need-right-requires-2
+right-requires-2 c κs = search needs
+
+between-requires : tie.Need-between-requires
+between-requires c κs = search needs
+
+returns : tie.Need-returns
+unfolding rightFrom
+returns c = cc
+
+pub right-from-spec : {M : Type 1} → statement M
+right-from-spec =
+    tie.close
+    (tie.spec
+    max-requires
+    bottom-requires
+    bottom-requires-2
+    min-requires
+    right-requires
+    max-requires-2
+    right-requires-2
+    between-requires
+    returns)
