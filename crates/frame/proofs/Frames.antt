@@ -1,0 +1,60 @@
+-- The whole frame, and the block on the cells that its area and the screen share: one law for each way through the code.
+use Prim.Native.Nat.{ℕ, _<_}
+use mathlib.Core.Path.{_≡_, refl, sym, _∙_}
+use mathlib.Core.Bool.{Bool, true, false, not}
+use mathlib.Core.List.{List, [], _∷_}
+use Rattle.layout.specs.declared.Rect.{Rect}
+use Rattle.layout.specs.Rect.{meet, isEmpty}
+use Rattle.block.specs.declared.Block.{Block}
+use Rattle.buffer.specs.declared.Screen.{Screen}
+use Rattle.buffer.specs.declared.Ink.the-variants.{Style}
+use Rattle.buffer.specs.Drawing.{drawn, over, inOrder, areaOf, styleAt}
+use Rattle.buffer.specs.Ink.{inked}
+use Rattle.buffer.specs.Parts.{OnScreen}
+use Rattle.buffer.proofs.Drawn.{drawn-also}
+use Rattle.buffer.proofs.OnScreen.{meeting-on-screen}
+use Rattle.buffer.proofs.Order.{first-then, only-drawn, only-spared}
+use Rattle.shadow.specs.Shadow.{shadowOf}
+use Rattle.frame.specs.Frame.{sides, corners, frame, blockOf}
+use Rattle.frame.specs.Fitting.{HasCells}
+
+module _ (columns : ℕ) (styles : List ℕ) (screen : Screen) (b : Block) (cells : List ℕ) where
+  -- style, sides and corners, shadow
+  pub frame-drawn : (met : Rect) (style : ℕ) (first second last : List ℕ) → style ≡ styleAt styles (b .style)
+      → first ≡ drawn columns (over met (inked (Style style))) cells
+      → second ≡ drawn columns (inOrder (sides styles b met ∷ corners styles b met ∷ [])) first
+      → last ≡ drawn columns (shadowOf styles screen met (b .shadow)) second
+      → last ≡ drawn columns (frame styles screen b met) cells
+  unfolding frame inked
+  frame-drawn met style first second last e p q r =
+      first-then columns _ (sides styles b met ∷ corners styles b met ∷ shadowOf styles screen met (b .shadow) ∷ []) cells first last
+      (rw e at p) (drawn-also columns _ (shadowOf styles screen met (b .shadow)) first second last q r)
+
+  module _ (area all met : Rect) (a : all ≡ areaOf screen) (m : met ≡ meet area all) (empty : Bool) (f : empty ≡ isEmpty met) (some : 0 < columns) where
+    met-is : met ≡ meet area (areaOf screen)
+    met-is = rw a at m
+
+    -- an empty meeting draws no cell
+    pub block-left : empty ≡ true → cells ≡ drawn columns (blockOf styles screen b area) cells
+    unfolding blockOf
+    block-left g =
+        let h : isEmpty (meet area (areaOf screen)) ≡ true = rw met-is at (sym f ∙ g) in
+        only-spared columns (not (isEmpty (meet area (areaOf screen)))) _ cells some (rw h)
+
+    -- any other is drawn over
+    pub block-drawn : empty ≡ false → (next : List ℕ) → next ≡ drawn columns (frame styles screen b met) cells
+        → next ≡ drawn columns (blockOf styles screen b area) cells
+    unfolding blockOf
+    block-drawn g next p =
+        let h : isEmpty (meet area (areaOf screen)) ≡ false = rw met-is at (sym f ∙ g) in
+        only-drawn columns (not (isEmpty (meet area (areaOf screen)))) _ cells some next (rw h) (rw met-is at p)
+
+-- and lies on the screen
+pub met-on-screen : (screen : Screen) (n : ℕ) (area all met : Rect) (empty : Bool) → HasCells screen n → all ≡ areaOf screen → met ≡ meet area all
+    → empty ≡ isEmpty met → empty ≡ false → OnScreen screen n met
+met-on-screen screen n area all met empty h a m f g = meeting-on-screen screen n met (h .columns) (h .size) area (rw a at m) (sym f ∙ g)
+
+pub met-cells : (met : Rect) (empty : Bool) → empty ≡ isEmpty met → empty ≡ false → isEmpty met ≡ false
+met-cells met empty f g = sym f ∙ g
+
+pub ruleset frames = (frame-drawn, block-left, block-drawn, met-on-screen, met-cells)

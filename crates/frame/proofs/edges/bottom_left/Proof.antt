@@ -1,0 +1,13 @@
+-- `frame::edges::bottom_left` meets its contract.
+use borrow.Author.Needs.{needs}
+use Rattle.frame.proofs.edges.bottom_left.Statement.{statement}
+use Rattle.frame.proofs.edges.bottom_left.Tie as tie
+
+last-row-requires : tie.Need-last-row-requires
+last-row-requires c κs = search needs
+
+returns : tie.Need-returns
+returns c = cc
+
+pub bottom-left-spec : {M : Type 1} → statement M
+bottom-left-spec = tie.close (tie.spec last-row-requires returns)

@@ -1,0 +1,179 @@
+// What a block draws: its style, its sides and corners, its shadow.
+
+mod edges;
+
+use block::Block;
+use buffer::Ink;
+use buffer::Screen;
+use layout::Rect;
+ghost use mathlib.Core.Path.{_≡_};
+ghost use mathlib.Core.Bool.{false, _&&_};
+ghost use mathlib.Core.List.{[], _∷_};
+ghost use Prim.Native.Nat.{_<_, _^_};
+ghost use lib.ListN.{length};
+ghost use Rattle.layout.specs.Rect.{isEmpty};
+ghost use Rattle.buffer.specs.Drawing.{drawn, onlyIf, inOrder};
+ghost use Rattle.buffer.specs.Parts.{OnScreen};
+ghost use Rattle.frame.specs.Frame.{border, sides, corners, frame, blockOf};
+ghost use Rattle.frame.specs.Fitting.{SymbolsFit, HasCells};
+
+// Draws a part of the border, a side or a corner, where it stands: its cells get the symbol, then the border style.
+fn draw_border(
+    screen: Screen,
+    cells: &mut [u64],
+    styles: &[u64],
+    block: Block,
+    stands: bool,
+    part: Rect,
+    symbol: u32,
+)
+    requires { ⌜ symbol < 2 ^ 21 ⌝ }
+    requires { ⌜ OnScreen screen (length (now cells)) part ⌝ }
+    ensures { λ _. ⌜ now (cells .exit) ≡ drawn (screen .columns) (onlyIf stands (border (now (styles .entry)) block part symbol)) (now (cells .entry)) ⌝ }
+{
+    if stands {
+        let ink = Ink::Both(symbol as u64, buffer::style_at(styles, block.border_style));
+        buffer::paint_area(screen, cells, part, ink);
+    }
+}
+
+// Draws the sides left, top, right, bottom of a rectangle that isn't empty.
+fn draw_sides(screen: Screen, cells: &mut [u64], styles: &[u64], block: Block, area: Rect)
+    requires { ⌜ SymbolsFit block × (isEmpty area ≡ false) ⌝ }
+    requires { ⌜ OnScreen screen (length (now cells)) area ⌝ }
+    ensures { λ _. ⌜ now (cells .exit) ≡ drawn (screen .columns) (sides (now (styles .entry)) block area) (now (cells .entry)) ⌝ }
+{
+    let on = block.borders;
+    let set = block.border_set;
+    let left = edges::left_side(area);
+    let top = edges::top_side(area);
+    let right = edges::right_side(area);
+    let bottom = edges::bottom_side(area);
+    draw_border(
+        screen,
+        cells,
+        styles,
+        block,
+        on.left,
+        left,
+        set.vertical_left,
+    );
+    draw_border(
+        screen,
+        cells,
+        styles,
+        block,
+        on.top,
+        top,
+        set.horizontal_top,
+    );
+    draw_border(
+        screen,
+        cells,
+        styles,
+        block,
+        on.right,
+        right,
+        set.vertical_right,
+    );
+    draw_border(
+        screen,
+        cells,
+        styles,
+        block,
+        on.bottom,
+        bottom,
+        set.horizontal_bottom,
+    );
+}
+
+// Whether two borders stand.
+fn both(one: bool, other: bool) -> bool
+    ensures { λ r. ⌜ r ≡ (one && other) ⌝ }
+{
+    if one {
+        return other;
+    }
+    false
+}
+
+// Draws the corners bottom right, top right, bottom left, top left, each where both borders stand.
+fn draw_corners(screen: Screen, cells: &mut [u64], styles: &[u64], block: Block, area: Rect)
+    requires { ⌜ SymbolsFit block × (isEmpty area ≡ false) ⌝ }
+    requires { ⌜ OnScreen screen (length (now cells)) area ⌝ }
+    ensures { λ _. ⌜ now (cells .exit) ≡ drawn (screen .columns) (corners (now (styles .entry)) block area) (now (cells .entry)) ⌝ }
+{
+    let on = block.borders;
+    let set = block.border_set;
+    let first = both(on.right, on.bottom);
+    let second = both(on.right, on.top);
+    let third = both(on.left, on.bottom);
+    let fourth = both(on.left, on.top);
+    let bottom_right = edges::bottom_right(area);
+    let top_right = edges::top_right(area);
+    let bottom_left = edges::bottom_left(area);
+    let top_left = edges::top_left(area);
+    draw_border(
+        screen,
+        cells,
+        styles,
+        block,
+        first,
+        bottom_right,
+        set.bottom_right,
+    );
+    draw_border(
+        screen,
+        cells,
+        styles,
+        block,
+        second,
+        top_right,
+        set.top_right,
+    );
+    draw_border(
+        screen,
+        cells,
+        styles,
+        block,
+        third,
+        bottom_left,
+        set.bottom_left,
+    );
+    draw_border(screen, cells, styles, block, fourth, top_left, set.top_left);
+}
+
+// Draws the sides, then the corners, of a rectangle that isn't empty.
+fn draw_borders(screen: Screen, cells: &mut [u64], styles: &[u64], block: Block, area: Rect)
+    requires { ⌜ SymbolsFit block × (isEmpty area ≡ false) ⌝ }
+    requires { ⌜ OnScreen screen (length (now cells)) area ⌝ }
+    ensures { λ _. ⌜ now (cells .exit) ≡ drawn (screen .columns) (inOrder (sides (now (styles .entry)) block area ∷ corners (now (styles .entry)) block area ∷ [])) (now (cells .entry)) ⌝ }
+{
+    draw_sides(screen, cells, styles, block, area);
+    draw_corners(screen, cells, styles, block, area);
+}
+
+// Draws the frame over a rectangle that lies on the screen and isn't empty.
+fn draw_frame(screen: Screen, cells: &mut [u64], styles: &[u64], block: Block, met: Rect)
+    requires { ⌜ SymbolsFit block × (isEmpty met ≡ false) ⌝ }
+    requires { ⌜ OnScreen screen (length (now cells)) met ⌝ }
+    ensures { λ _. ⌜ now (cells .exit) ≡ drawn (screen .columns) (frame (now (styles .entry)) screen block met) (now (cells .entry)) ⌝ }
+{
+    let shadow = block.shadow;
+    let ink = Ink::Style(buffer::style_at(styles, block.style));
+    buffer::paint_area(screen, cells, met, ink);
+    draw_borders(screen, cells, styles, block, met);
+    shadow::draw_shadow(screen, cells, styles, met, shadow);
+}
+
+// Draws a block on the cells that its area and the screen share, if there are any.
+pub fn draw_on(screen: Screen, cells: &mut [u64], styles: &[u64], block: Block, area: Rect)
+    requires { ⌜ SymbolsFit block × HasCells screen (length (now cells)) ⌝ }
+    ensures { λ _. ⌜ now (cells .exit) ≡ drawn (screen .columns) (blockOf (now (styles .entry)) screen block area) (now (cells .entry)) ⌝ }
+{
+    let met = area.intersection(screen.area());
+    if met.is_empty() {
+        return;
+    }
+    draw_frame(screen, cells, styles, block, met);
+}
