@@ -1,6 +1,6 @@
 -- Laws of a cell's fields: packing a cell loses none, and what a symbol and a style leave as it was.
 use Prim.Native.Nat.{ℕ, _+_, _-_, _*_, _/_, _%_, _^_, _<_}
-use mathlib.Core.Path.{_≡_, ap}
+use mathlib.Core.Path.{_≡_, sym, ap, _∙_}
 use mathlib.Core.Bool.{Bool, true, false, cond}
 use native.Mathlib.Nat.{div-div-eq-div-mul, lt-of-le-of-lt}
 use native.Mathlib.Omega.{arith}
@@ -100,3 +100,10 @@ symbol-fields symbol cell =
 
 pub symbol-set : (symbol cell : ℕ) → cellFrom (withSymbol symbol cell) .symbol ≡ symbol
 symbol-set symbol cell = ap (λ (c : Cell). c .symbol) (symbol-fields symbol cell)
+
+-- so symbol and style may come in either order
+pub either-order : (symbol style cell : ℕ) → styled style (withSymbol symbol cell) ≡ withSymbol symbol (styled style cell)
+unfolding styled withSymbol
+either-order symbol style cell =
+    ap (λ (c : Cell). packed (applied (styleFrom style) c)) (symbol-fields symbol cell)
+    ∙ sym (ap (λ (c : Cell). packed (record { symbol = symbol; foreground = c .foreground; background = c .background; modifiers = c .modifiers; untouched = c .untouched })) (styled-fields style cell))
