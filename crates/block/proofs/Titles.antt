@@ -10,7 +10,7 @@ use Rattle.text.specs.Alignment.{resolvedPosition}
 use Rattle.text.specs.Line.{TextLine, untilHead, linesFrom}
 use Rattle.refuse.specs.Causes.{some}
 use Rattle.block.specs.declared.Block.{Block}
-use Rattle.block.specs.Inner.{isAt, hasTitleAt}
+use Rattle.block.specs.Inner.{samePosition, hasTitleAt}
 
 abbrev pub ofHead : (ℕ → Bool) → TextLine → Bool
 ofHead test line = test (line .head)
@@ -30,7 +30,7 @@ heads-tested test number (r ∷ rs) = go (isHead r) (heads-tested test (suc numb
 
 -- the title that a head opens stands at the position
 abbrev pub headIsAt : TitlePosition → TitlePosition → ℕ → Bool
-headIsAt own position r = isAt (resolvedPosition (positionOf r) own) position
+headIsAt own position r = samePosition (resolvedPosition (positionOf r) own) position
 
 pub titles-tested : (b : Block) (titles : List ℕ) (position : TitlePosition) (x : Bool)
     → x ≡ some (ofRecord (headIsAt (b .«titles_position») position)) titles → x ≡ hasTitleAt b titles position
@@ -42,12 +42,12 @@ module _ (own position : TitlePosition) (r : ℕ) (b : Bool) (e : b ≡ isHead r
   pub no-title : b ≡ false → b ≡ ofRecord (headIsAt own position) r
   no-title f = f ∙ rw (← e, f)
 
-  pub title-is : (given : TitlePosition) (x : Bool) → b ≡ true → given ≡ resolvedPosition (positionOf r) own → x ≡ isAt given position → x ≡ ofRecord (headIsAt own position) r
+  pub title-is : (given : TitlePosition) (x : Bool) → b ≡ true → given ≡ resolvedPosition (positionOf r) own → x ≡ samePosition given position → x ≡ ofRecord (headIsAt own position) r
   title-is given x t p q = rw (← e, t, ← p) q
 
 pub ruleset titled = (titles-tested, no-title, title-is)
 
 -- what isn't at the top is at the bottom
-pub bottom-is : (position wanted : TitlePosition) (x : Bool) → position ≡ Bottom → x ≡ isAt Top wanted → not x ≡ isAt position wanted
+pub bottom-is : (position wanted : TitlePosition) (x : Bool) → position ≡ Bottom → x ≡ samePosition Top wanted → not x ≡ samePosition position wanted
 bottom-is position Top x e p = rw (e, p)
 bottom-is position Bottom x e p = rw (e, p)

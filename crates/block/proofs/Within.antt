@@ -52,7 +52,7 @@ pub record Inside (b : Block) (titles : List ℕ) (area : Rect) : Type 0 where
   pub right : rightOf (innerOf b titles area) + taken (atRight b) ≤ rightOf area
   pub bottom : bottomOf (innerOf b titles area) + taken (atBottom b titles) ≤ bottomOf area
 
--- for every rectangle whose right and bottom aren't held
+-- for every rectangle whose right and bottom aren't held and whose inner area has a cell
 pub inside : (b : Block) (titles : List ℕ) (area : Rect) → area .x + area .width ≤ 65535 → area .y + area .height ≤ 65535
     → 0 < innerOf b titles area .width → 0 < innerOf b titles area .height → Inside b titles area
 unfolding innerOf

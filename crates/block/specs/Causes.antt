@@ -1,4 +1,4 @@
--- Document 01, 'Why a call is refused', 6 and 7: what a block gives, and the call `inner`.
+-- Document 01, 'Why a call is refused': the style numbers and symbols that a block gives, for 6 and 7, and the call `inner`.
 use Prim.Native.Nat.{ℕ}
 use mathlib.Core.List.{List, [], _∷_, _++_}
 use Rattle.layout.specs.declared.Rect.{Rect}
@@ -17,15 +17,16 @@ use Rattle.block.specs.declared.Shadow.the-variants.{Absent, Present}
 use Rattle.block.specs.declared.InnerArea.{InnerArea}
 use Rattle.block.specs.declared.InnerArea.the-variants.{Area, Refused}
 
--- the style numbers of a block's settings; an absent shadow has none
+-- the style numbers of a shadow; an absent one has none
 abbrev pub shadowStyles : Shadow → List ℕ
 shadowStyles Absent = []
 shadowStyles (Present effect style x y) = style ∷ []
 
+-- those of a block's settings
 unfoldable pub blockStyles : Block → List ℕ
 blockStyles b = b .«border_style» ∷ b .style ∷ b .«titles_style» ∷ shadowStyles (b .shadow)
 
--- its border symbols, also of sides that aren't drawn, and its shadow's; an overlay has none
+-- the symbols of a shadow; an overlay has none, and an absent shadow neither
 abbrev pub effectSymbols : Effect → List ℕ
 effectSymbols Overlay = []
 effectSymbols (SymbolEffect symbol) = symbol ∷ []
@@ -34,6 +35,7 @@ abbrev pub shadowSymbols : Shadow → List ℕ
 shadowSymbols Absent = []
 shadowSymbols (Present effect style x y) = effectSymbols effect
 
+-- those of a block's borders, also of sides that aren't drawn, and of its shadow
 unfoldable pub borderSymbols : BorderSet → List ℕ
 borderSymbols s =
     s .«top_left» ∷ s .«top_right» ∷ s .«bottom_left» ∷ s .«bottom_right»
@@ -54,7 +56,8 @@ abbrev pub innerAnswer : Verdict → Rect → InnerArea
 innerAnswer Accepted area = Area area
 innerAnswer (RefusedFor why) area = Refused why
 
--- the table's number, 0 where the call is accepted, and the area, four zeros where it is refused
+-- what the answer says: the table's number, or 0 for none, and the area, four zeros where the call is refused, as counts are.
+-- Theorems `answer-number` and `refused-rect` say so of the call's answer.
 abbrev pub innerNumber : InnerArea → ℕ
 innerNumber (Area area) = 0
 innerNumber (Refused why) = refusalNumber why

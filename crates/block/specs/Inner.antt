@@ -14,16 +14,16 @@ use Rattle.refuse.specs.Causes.{some}
 use Rattle.block.specs.declared.Block.{Block}
 use Rattle.block.specs.declared.Space.{Space}
 
--- two positions are the same
-abbrev pub isAt : TitlePosition → TitlePosition → Bool
-isAt Top Top = true
-isAt Top Bottom = false
-isAt Bottom Top = false
-isAt Bottom Bottom = true
+-- whether two positions are the same
+abbrev pub samePosition : TitlePosition → TitlePosition → Bool
+samePosition Top Top = true
+samePosition Top Bottom = false
+samePosition Bottom Top = false
+samePosition Bottom Bottom = true
 
 -- a title's position: the one that its head gives, or the block's
 abbrev pub titleIsAt : Block → TitlePosition → TextLine → Bool
-titleIsAt b position title = isAt (resolvedPosition (positionOf (title .head)) (b .«titles_position»)) position
+titleIsAt b position title = samePosition (resolvedPosition (positionOf (title .head)) (b .«titles_position»)) position
 
 -- a block has a title at a position
 unfoldable pub hasTitleAt : Block → List ℕ → TitlePosition → Bool

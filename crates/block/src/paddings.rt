@@ -42,7 +42,7 @@ impl Padding {
         Padding::new(value, value, value, value)
     }
 
-    // A cell is about twice as high as it is wide. Twice the value is held at 65,535.
+    // As wide as it is high to the eye, where a cell is twice as high as wide. Twice the value is a sum, held at 65,535.
     pub fn proportional(value: u16) -> Padding
         ensures { λ r. ⌜ r ≡ paddingOf (held (2 * value)) (held (2 * value)) value value ⌝ }
     {

@@ -4,10 +4,10 @@ use text::TitlePosition;
 use text::head;
 ghost use mathlib.Core.Path.{_≡_};
 ghost use Rattle.text.specs.declared.TitlePosition.the-variants.{Top};
-ghost use Rattle.block.specs.Inner.{isAt, hasTitleAt};
+ghost use Rattle.block.specs.Inner.{samePosition, hasTitleAt};
 
 fn is_top(position: TitlePosition) -> bool
-    ensures { λ r. ⌜ r ≡ isAt Top position ⌝ }
+    ensures { λ r. ⌜ r ≡ samePosition Top position ⌝ }
 {
     match position {
         TitlePosition::Top => true,
@@ -16,7 +16,7 @@ fn is_top(position: TitlePosition) -> bool
 }
 
 fn is_at(position: TitlePosition, wanted: TitlePosition) -> bool
-    ensures { λ r. ⌜ r ≡ isAt position wanted ⌝ }
+    ensures { λ r. ⌜ r ≡ samePosition position wanted ⌝ }
 {
     match position {
         TitlePosition::Top => is_top(wanted),

@@ -1,5 +1,6 @@
--- Theorem `block-keeps`: where the inner area of the met area has a cell, everything that a block draws keeps the cell's symbol. Its
--- style keeps all symbols, its sides and corners lie outside the inner area, and its shadow spares the block's own cells.
+-- Theorem `block-keeps`: where the inner area of the met area has a cell, all that a block draws so far (style, sides, corners and
+-- shadow; titles are to come) keeps the cell's symbol. A style keeps all symbols; the sides and corners that are drawn lie outside
+-- the inner area, which lies in the met area; and the shadow spares the met area's own cells.
 use Prim.Native.Nat.{ℕ, _+_, _-_, _<_, _≤_, min}
 use mathlib.Core.Path.{_≡_, refl, ap, _∙_}
 use mathlib.Core.Bool.{Bool, true, false, cond, not, _&&_, and-eq-true-iff}

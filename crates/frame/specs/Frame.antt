@@ -40,7 +40,7 @@ topLeft r = record { x = r .x; y = r .y; width = 1; height = 1 }
 unfoldable pub border : List ℕ → Block → Rect → ℕ → Drawing
 border styles b part symbol = over part (λ cell. styled (styleAt styles (b .«border_style»)) (withSymbol symbol cell))
 
--- "sides left, top, right, bottom"
+-- "sides left, top, right, bottom", of a rectangle that isn't empty
 unfoldable pub sides : List ℕ → Block → Rect → Drawing
 sides styles b r =
     inOrder
@@ -50,7 +50,7 @@ sides styles b r =
     ∷ onlyIf (b .borders .bottom) (border styles b (bottomSide r) (b .«border_set» .«horizontal_bottom»))
     ∷ [])
 
--- "corners (bottom right, top right, bottom left, top left, each where both borders stand)"
+-- "corners (bottom right, top right, bottom left, top left, each where both borders stand)", likewise
 unfoldable pub corners : List ℕ → Block → Rect → Drawing
 corners styles b r =
     inOrder
@@ -60,7 +60,8 @@ corners styles b r =
     ∷ onlyIf (b .borders .left && b .borders .top) (border styles b (topLeft r) (b .«border_set» .«top_left»))
     ∷ [])
 
--- "over the met area": "block style, sides …, corners …", "shadow"; titles are to come between corners and shadow
+-- "over the met area": "block style, sides …, corners …", "shadow"; titles are to come between corners and shadow, and
+-- before the block style the paragraph style of a notice
 unfoldable pub frame : List ℕ → Screen → Block → Rect → Drawing
 frame styles screen b met =
     inOrder
