@@ -15,7 +15,8 @@ use Rattle.compose.specs.declared.Pull.the-variants.{Line as PulledLine, Done}
 use Rattle.compose.specs.declared.Method.the-variants.{Truncated}
 use Rattle.compose.specs.Lines.{lines, composedOf}
 use Rattle.compose.specs.Composing.{left, lineAt, Ready, Started, Told, Pulled}
-use Rattle.answers.specs.Sums.{withNumber, withLine, withLines, linesSum}
+use Rattle.checksum.specs.Sums.{withNumber}
+use Rattle.answers.specs.Sums.{withLine, withLines, linesSum}
 use Rattle.answers.proofs.Few.{lines-few}
 
 -- so many lines were pulled and summed, and the composer has the others

@@ -3,7 +3,8 @@ use Prim.Native.Nat.{ℕ}
 use mathlib.Core.Path.{_≡_}
 use Rattle.text.specs.Alignment.{alignmentNumber}
 use Rattle.compose.specs.declared.Composed.{Composed}
-use Rattle.answers.specs.Sums.{withNumber, withLine}
+use Rattle.checksum.specs.Sums.{withNumber}
+use Rattle.answers.specs.Sums.{withLine}
 
 -- a sum that was made in these steps is that with the line
 pub line-told : (line : Composed) (sum first end width alignment all : ℕ)

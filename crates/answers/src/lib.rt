@@ -29,7 +29,7 @@ fn wrapped_lines(case: Case, text: &[u32], list: &mut [u64]) -> Answer {
     if list.len() < n {
         return Answer::Refused;
     }
-    Answer::Sum(sums::sum_entries(&list[..n]))
+    Answer::Sum(checksum::sum_entries(&list[..n]))
 }
 
 fn counts(case: Case, text: &[u32]) -> Answer {

@@ -1,5 +1,5 @@
-// The sums by which answers are compared.
-use cases::numbers::step;
+// The sums of counts and of lines.
+use checksum::with_number;
 use compose::Composed;
 use compose::Composer;
 use compose::Method;
@@ -14,36 +14,7 @@ ghost use lib.ListN.{length};
 ghost use Rattle.refuse.specs.Causes.{notOpening};
 ghost use Rattle.compose.specs.declared.Method.the-variants.{Truncated};
 ghost use Rattle.compose.specs.Lines.{lines};
-ghost use Rattle.answers.specs.Sums.{withNumber, withEntry, entriesSum, countsSum, withLine, linesSum};
-
-// The sum with one number more.
-fn with_number(sum: u32, number: u32) -> u32
-    ensures { λ r. ⌜ r ≡ withNumber sum number ⌝ }
-{
-    step(sum, 2654435769, number)
-}
-
-// The sum with one entry more: its upper half, then its lower.
-fn with_entry(sum: u32, entry: u64) -> u32
-    ensures { λ r. ⌜ r ≡ withEntry sum entry ⌝ }
-{
-    let upper = (entry / 4294967296) as u32;
-    let lower = (entry % 4294967296) as u32;
-    with_number(with_number(sum, upper), lower)
-}
-
-// The sum of the entries of composed lines: of their number, then of each.
-pub fn sum_entries(entries: &[u64]) -> u32
-    ensures { λ r. ⌜ r ≡ entriesSum (now (entries .entry)) ⌝ }
-{
-    let mut sum = (entries.len() % 4294967296) as u32;
-    let mut i = 0;
-    while i < entries.len() {
-        sum = with_entry(sum, entries[i]);
-        i += 1;
-    }
-    sum
-}
+ghost use Rattle.answers.specs.Sums.{countsSum, withLine, linesSum};
 
 // The sum of a tally's six counts.
 pub fn sum_counts(counts: Counts) -> u32

@@ -2,7 +2,7 @@
 mod long;
 pub mod numbers;
 pub mod parts;
-mod random;
+pub mod random;
 mod records;
 mod several;
 mod short;

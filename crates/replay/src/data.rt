@@ -1,7 +1,5 @@
-// The oracle's sums: a file for each question, with a sum for each case in order, 4 bytes each, high byte first.
+// The oracle's sums: a file for each question.
 use answers::Question;
-ghost use mathlib.Core.Path.{_≡_};
-ghost use Prim.Native.Nat.{_<_};
 
 // Opens a question's file.
 pub fn open(question: Question) -> i32 {
@@ -10,18 +8,4 @@ pub fn open(question: Question) -> i32 {
         Question::Tally => os::open_read(b"tally"),
         Question::Truncated => os::open_read(b"truncated"),
     }
-}
-
-fn wide(byte: u8) -> u32
-    ensures { λ r. ⌜ r ≡ byte ⌝ }
-    ensures { λ r. ⌜ r < 256 ⌝ }
-{
-    byte as u32
-}
-
-// The next sum of a file, or 0 past its end.
-pub fn next_sum(fd: i32) -> u32 {
-    let mut bytes = [0u8; 4];
-    io::read_full(fd, &mut bytes);
-    wide(bytes[0]) * 16777216 + wide(bytes[1]) * 65536 + wide(bytes[2]) * 256 + wide(bytes[3])
 }

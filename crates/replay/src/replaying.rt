@@ -5,6 +5,7 @@ use answers::Question;
 use answers::agrees;
 use cases::parts;
 use cases::parts::Part;
+use checksum::stored;
 ghost use Prim.Native.Nat.{_≤_};
 ghost use lib.ListN.{length};
 
@@ -37,7 +38,7 @@ fn replay_part(question: Question, part: Part, fd: i32, text: &mut [u32], list: 
     let mut number = 0;
     let mut differ = 0;
     while number < count {
-        let sum = data::next_sum(fd);
+        let sum = stored::next_sum(fd);
         differ += differs(question, part, number, text, list, sum, differ);
         number += 1;
     }

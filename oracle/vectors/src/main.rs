@@ -1,69 +1,75 @@
-//! Writes what the Rust answered for `crates/replay`, which makes the same cases and compares.
+//! Writes what the Rust answered for `crates/replay` and `crates/replayblocks`, which make the same
+//! cases and compare.
 //!
-//! Usage: `vectors [FOLDER]`, from the repository's root. The folder gets a file for each question:
-//! `wrapped`, `tally` and `truncated`. A file has a sum of the answer to each case, 4 bytes each,
-//! high byte first: the short lines' cases, then those of several lines, then those of long texts.
-//! A panic of the Rust ends it with exit status 1.
+//! Usage: `vectors [FOLDER]`, from the repository's root; the folder is `crates` where none is
+//! given. It gets a file for each question: `wrapped`, `tally` and `truncated` in `replay/data`,
+//! `inner` and `blocks` in `replayblocks/data`. A file has a sum of the answer to each case, 4
+//! bytes each, high byte first: those of short lines, of several lines and of long texts; those of
+//! inner areas; those of blocks on small screens and on large ones. A panic of the Rust ends it
+//! with exit status 1.
 
-mod case;
-mod long;
-mod questions;
+mod blocks;
 mod random;
-mod records;
-mod several;
-mod short;
 mod sums;
+mod texts;
 
 use std::fs;
 use std::path::Path;
 use std::process::ExitCode;
 
-use case::Case;
 use oracle::Outcome;
-use questions::{QUESTIONS, Question};
 
 /// A part of the cases: how many it has, and the case of a number.
-struct Part {
-    name: &'static str,
-    count: u32,
-    case: fn(u32) -> Case,
+pub struct Part<C> {
+    pub name: &'static str,
+    pub count: u32,
+    pub case: fn(u32) -> C,
 }
 
-/// The parts, in the data's order.
-const PARTS: [Part; 3] = [
-    Part { name: "short lines", count: 196_080, case: short::case },
-    Part { name: "several lines", count: 60_000, case: several::case },
-    Part { name: "long texts", count: 400, case: long::case },
-];
+/// A question: its file, and the sum of the Rust's answer about a case.
+pub struct Question<C> {
+    pub file: &'static str,
+    pub ask: fn(&C) -> Outcome<u32>,
+}
 
 fn main() -> ExitCode {
     let folder = std::env::args().nth(1);
-    let folder = Path::new(folder.as_deref().unwrap_or("crates/replay/data"));
-    for question in QUESTIONS {
-        if let Err(message) = write(folder, &question) {
-            eprintln!("{}: {message}", question.name);
-            return ExitCode::FAILURE;
+    let folder = Path::new(folder.as_deref().unwrap_or("crates"));
+    match write_all(folder) {
+        Ok(()) => ExitCode::SUCCESS,
+        Err(message) => {
+            eprintln!("{message}");
+            ExitCode::FAILURE
         }
     }
-    ExitCode::SUCCESS
 }
 
-/// Writes the file of a question.
-fn write(folder: &Path, question: &Question) -> Result<(), String> {
+/// Writes the file of every question.
+fn write_all(folder: &Path) -> Result<(), String> {
+    for question in &texts::QUESTIONS {
+        write(folder, question, &texts::PARTS)?;
+    }
+    write(folder, &blocks::INNER, &blocks::AREAS)?;
+    write(folder, &blocks::DRAWN, &blocks::SCREENS)
+}
+
+/// Writes the file of a question: the sums of some parts in their order.
+fn write<C>(folder: &Path, question: &Question<C>, parts: &[Part<C>]) -> Result<(), String> {
     let mut data = Vec::new();
-    for part in PARTS {
+    for part in parts {
         for number in 0..part.count {
             let sum = answer(question, &(part.case)(number));
-            let sum = sum.map_err(|message| format!("{}: case {number}: {message}", part.name))?;
-            data.extend(sum.to_be_bytes());
+            let place = || format!("{}, {}, case {number}", question.file, part.name);
+            data.extend(sum.map_err(|message| format!("{}: {message}", place()))?.to_be_bytes());
         }
-        println!("{}, {}: {} cases", question.name, part.name, part.count);
+        println!("{}, {}: {} cases", question.file, part.name, part.count);
     }
-    fs::write(folder.join(question.name), data).map_err(|error| error.to_string())
+    fs::write(folder.join(question.file), data)
+        .map_err(|error| format!("{}: {error}", question.file))
 }
 
 /// The sum of the Rust's answer.
-fn answer(question: &Question, case: &Case) -> Result<u32, String> {
+fn answer<C>(question: &Question<C>, case: &C) -> Result<u32, String> {
     match (question.ask)(case) {
         Outcome::Value(sum) => Ok(sum),
         Outcome::Panicked(message) => Err(message),

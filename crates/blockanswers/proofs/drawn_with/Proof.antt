@@ -1,0 +1,75 @@
+-- `blockanswers::drawn_with` meets its contract.
+use borrow.Author.Needs.{needs}
+use native.Mathlib.Omega.{arith}
+use lib.ListN.{length-take}
+use Rattle.blockanswers.proofs.drawn_with.Statement.{statement}
+use Rattle.blockanswers.proofs.drawn_with.Tie as tie
+
+cast-count : tie.Need-cast-count
+cast-count c = search needs
+
+cells-of-requires : tie.Need-cells-of-requires
+cells-of-requires c κs = search needs
+
+returns : tie.Need-returns
+returns c = search needs
+
+seed-requires : tie.Need-seed-requires
+seed-requires c κs = search needs
+
+write-words-requires : tie.Need-write-words-requires
+write-words-requires c κs = search needs
+
+next-requires : tie.Need-next-requires
+next-requires c κs = search needs
+
+seed-requires-2 : tie.Need-seed-requires-2
+seed-requires-2 c κs = search needs
+
+write-words-requires-2 : tie.Need-write-words-requires-2
+write-words-requires-2 c κs = search needs
+
+slice-relend-prefix-sum-drawn : tie.Need-slice-relend-prefix-sum-drawn
+slice-relend-prefix-sum-drawn c = search needs
+
+slice-aggregate-sum-drawn : tie.Need-slice-aggregate-sum-drawn
+slice-aggregate-sum-drawn c = simp length-take (omega arith)
+
+slice-reshare-prefix-sum-drawn : tie.Need-slice-reshare-prefix-sum-drawn
+slice-reshare-prefix-sum-drawn c = search needs
+
+slice-aggregate-sum-drawn-2 : tie.Need-slice-aggregate-sum-drawn-2
+slice-aggregate-sum-drawn-2 c = simp length-take (omega arith)
+
+sum-drawn-requires : tie.Need-sum-drawn-requires
+sum-drawn-requires c κs = search needs
+
+same-length : tie.Need-same-length
+same-length c = search needs
+
+same-length-2 : tie.Need-same-length-2
+same-length-2 c = search needs
+
+returns-2 : tie.Need-returns-2
+returns-2 c = search needs
+
+pub drawn-with-spec : {M : Type 1} → statement M
+drawn-with-spec =
+    tie.close
+    (tie.spec
+    cast-count
+    cells-of-requires
+    returns
+    seed-requires
+    write-words-requires
+    next-requires
+    seed-requires-2
+    write-words-requires-2
+    slice-relend-prefix-sum-drawn
+    slice-aggregate-sum-drawn
+    slice-reshare-prefix-sum-drawn
+    slice-aggregate-sum-drawn-2
+    sum-drawn-requires
+    same-length
+    same-length-2
+    returns-2)

@@ -1,0 +1,135 @@
+// Our answers about blocks, each told by a sum.
+mod sums;
+
+use block::Block;
+use block::InnerArea;
+use block::causes;
+use blockcases::Case;
+use blockcases::parts::Part;
+use blocksettings::titles;
+use blocksettings::words::write_words;
+use buffer::Screen;
+use cases::random::next;
+use cases::random::seed;
+use layout::Rect;
+use refuse::Ceilings;
+use refuse::screen::screen_wrong;
+ghost use mathlib.Core.Path.{_≡_};
+ghost use Prim.Native.Nat.{_≤_};
+ghost use lib.ListN.{length};
+ghost use Rattle.refuse.specs.Causes.{mostAccepted, screenWrong};
+ghost use Rattle.blockcases.specs.Sizes.{Writable};
+
+// The sum of an answer, or that there is none.
+enum Answer {
+    Sum(u32),
+    Refused,
+}
+
+// The inner area, and what the frame takes at the left, right, top and bottom.
+fn sum_inner(block: Block, titles: &[u32], area: Rect) -> Answer {
+    let InnerArea::Area(inner) = causes::inner(block, titles, area) else {
+        return Answer::Refused;
+    };
+    let across = sums::with_space(sums::sum_area(inner), block.horizontal_space());
+    Answer::Sum(sums::with_space(across, block.vertical_space(titles)))
+}
+
+// Writes the titles of a case, and asks.
+fn inner_with(case: Case, records: &mut [u32]) -> Answer
+    requires { ⌜ Writable case ⌝ }
+    requires { ⌜ 6 ≤ length (now records) ⌝ }
+{
+    let block = case.block;
+    let area = case.area;
+    let n = titles::count(case.titles, case.seed);
+    titles::write_titles(records, case.titles, case.seed);
+    sum_inner(block, &records[..n], area)
+}
+
+fn inner(case: Case) -> Answer
+    requires { ⌜ Writable case ⌝ }
+{
+    let mut records = [0u32; 6];
+    inner_with(case, &mut records)
+}
+
+// Whether a call would refuse a screen with so many cells.
+fn is_refused(screen: Screen, cells: usize) -> bool
+    ensures { λ r. ⌜ r ≡ screenWrong mostAccepted (screen .columns) (screen .rows) cells ⌝ }
+{
+    screen_wrong(
+        Ceilings::accepted(),
+        screen.columns as u32,
+        screen.rows as u32,
+        cells,
+    )
+}
+
+// Every cell of the screen after the drawing. A screen or symbols that a call would refuse are refused here.
+fn sum_drawn(
+    screen: Screen,
+    cells: &mut [u64],
+    styles: &[u64],
+    block: Block,
+    area: Rect,
+) -> Answer {
+    if is_refused(screen, cells.len()) {
+        return Answer::Refused;
+    }
+    if block.symbols_wrong() {
+        return Answer::Refused;
+    }
+    frame::draw_on(screen, cells, styles, block, area);
+    Answer::Sum(checksum::sum_entries(cells))
+}
+
+fn cells_of(columns: u16, rows: u16) -> usize {
+    (columns as usize) * (rows as usize)
+}
+
+// Writes the styles and the cells of a case, and asks.
+fn drawn_with(case: Case, styles: &mut [u64], cells: &mut [u64]) -> Answer
+    requires { ⌜ Writable case ⌝ }
+    requires { ⌜ 8 ≤ length (now styles) ⌝ }
+{
+    let block = case.block;
+    let area = case.area;
+    let screen = case.screen;
+    let count = case.styles as usize;
+    let size = cells_of(screen.columns, screen.rows);
+    if cells.len() < size {
+        return Answer::Refused;
+    }
+    write_words(styles, count, 268435456, seed(case.seed));
+    write_words(cells, size, 1, seed(next(case.seed)));
+    sum_drawn(screen, &mut cells[..size], &styles[..count], block, area)
+}
+
+fn drawn(case: Case, cells: &mut [u64]) -> Answer
+    requires { ⌜ Writable case ⌝ }
+{
+    let mut styles = [0u64; 8];
+    drawn_with(case, &mut styles, cells)
+}
+
+// Our answer to what a part asks. There is room for the cells of any case.
+fn ask(part: Part, case: Case, cells: &mut [u64]) -> Answer
+    requires { ⌜ Writable case ⌝ }
+{
+    match part {
+        Part::Inner => inner(case),
+        Part::Small => drawn(case, cells),
+        Part::Large => drawn(case, cells),
+    }
+}
+
+// Whether our answer has the sum given.
+pub fn agrees(part: Part, case: Case, cells: &mut [u64], sum: u32) -> bool
+    requires { ⌜ Writable case ⌝ }
+{
+    let Answer::Sum(ours) = ask(part, case, cells) else {
+        return false;
+    };
+    ours == sum
+}

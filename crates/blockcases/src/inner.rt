@@ -1,0 +1,77 @@
+// Inner areas: everything that stands along a column, with every kind of titles. What stands along the row is random, and nothing that
+// can stand there is left out.
+use crate::Case;
+use block::Block;
+use block::Borders;
+use block::Padding;
+use block::Shadow;
+use blocksettings::axes::Axis;
+use blocksettings::axes::axis_of;
+use blocksettings::borders;
+use buffer::Screen;
+use cases::random::below;
+use cases::random::seed;
+use layout::Rect;
+use text::Alignment;
+use text::TitlePosition;
+ghost use Rattle.blockcases.specs.Sizes.{Writable};
+
+// The position of a number, 0 or 1.
+fn position(number: u32) -> TitlePosition {
+    if number == 0 {
+        return TitlePosition::Top;
+    }
+    TitlePosition::Bottom
+}
+
+// A block with the symbols of x, whose own titles stand at a position.
+fn block(across: Axis, down: Axis, position: TitlePosition, x: u32) -> Block {
+    let borders = Borders {
+        top: down.before,
+        right: across.after,
+        bottom: down.after,
+        left: across.before,
+    };
+    Block {
+        borders: borders,
+        border_set: borders::border_set(x),
+        border_style: 0,
+        style: 0,
+        padding: Padding::new(
+            across.padding,
+            across.padding_after,
+            down.padding,
+            down.padding_after,
+        ),
+        titles_style: 0,
+        titles_alignment: Alignment::Left,
+        titles_position: position,
+        shadow: Shadow::Absent,
+    }
+}
+
+// The case of a number.
+pub fn case(number: u32) -> Case
+    ensures { λ r. ⌜ Writable r ⌝ }
+{
+    let x = seed(number);
+    let across = axis_of(below(x, 4900));
+    let down = axis_of(number / 10);
+    let area = Rect {
+        x: across.place,
+        y: down.place,
+        width: across.size,
+        height: down.size,
+    };
+    Case {
+        block: block(across, down, position(number / 5 % 2), x),
+        area: area,
+        screen: Screen {
+            columns: 0,
+            rows: 0,
+        },
+        titles: number % 5,
+        styles: 0,
+        seed: x,
+    }
+}

@@ -1,0 +1,31 @@
+// The three parts of the cases, in their order.
+use crate::Case;
+use crate::drawn;
+use crate::inner;
+ghost use Rattle.blockcases.specs.Sizes.{Writable};
+
+pub enum Part {
+    Inner,
+    Small,
+    Large,
+}
+
+// How many cases a part has.
+pub fn count(part: Part) -> u32 {
+    match part {
+        Part::Inner => 49000,
+        Part::Small => 40000,
+        Part::Large => 48,
+    }
+}
+
+// The case of a number.
+pub fn case(part: Part, number: u32) -> Case
+    ensures { λ r. ⌜ Writable r ⌝ }
+{
+    match part {
+        Part::Inner => inner::case(number),
+        Part::Small => drawn::small(number),
+        Part::Large => drawn::large(number),
+    }
+}

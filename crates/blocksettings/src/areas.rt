@@ -1,0 +1,58 @@
+// Areas on a screen, over its edges and outside.
+use crate::words::four_on;
+use buffer::Screen;
+use cases::random::below;
+use cases::random::next;
+use layout::Rect;
+ghost use Prim.Native.Nat.{_<_};
+ghost use Rattle.blocksettings.specs.Screens.{Accepted};
+
+// A place among the cells of a row or a column.
+fn place(x: u32, cells: u16) -> u16
+    requires { ⌜ 0 < cells ⌝ }
+    ensures { λ r. ⌜ r < cells ⌝ }
+{
+    below(x, cells as u32) as u16
+}
+
+// Where an area starts along them.
+fn start(x: u32, cells: u16) -> u16
+    requires { ⌜ 0 < cells ⌝ }
+{
+    match below(x, 16) {
+        0..=3 => 0,
+        4 => cells - 1,
+        5 => cells,
+        6 => 65535,
+        _ => place(next(x), cells),
+    }
+}
+
+// How many cells it has there.
+fn size(x: u32, cells: u16) -> u16
+    requires { ⌜ 0 < cells ⌝ }
+    requires { ⌜ cells < 65535 ⌝ }
+{
+    match below(x, 16) {
+        0 => 0,
+        1..=3 => 1,
+        4 | 5 => 2,
+        6 => cells,
+        7 => cells + 1,
+        8 => 65535,
+        _ => 1 + place(next(x), cells),
+    }
+}
+
+// An area made of x and the seven numbers after it.
+pub fn area(x: u32, screen: Screen) -> Rect
+    requires { ⌜ Accepted screen ⌝ }
+{
+    let y = four_on(x);
+    Rect {
+        x: start(x, screen.columns),
+        y: start(y, screen.rows),
+        width: size(next(next(x)), screen.columns),
+        height: size(next(next(y)), screen.rows),
+    }
+}

@@ -1,0 +1,40 @@
+// The borders of blocks.
+use block::BorderSet;
+use block::Borders;
+use cases::random::next;
+
+// A symbol: the upper 21 bits of x.
+pub fn symbol(x: u32) -> u32 {
+    x / 2048
+}
+
+// The borders of a number from 0 to 15: a bit for each side.
+pub fn borders_of(number: u32) -> Borders {
+    Borders {
+        top: number % 2 == 1,
+        right: number / 2 % 2 == 1,
+        bottom: number / 4 % 2 == 1,
+        left: number / 8 % 2 == 1,
+    }
+}
+
+// The symbols of x and the seven numbers after it.
+pub fn border_set(x: u32) -> BorderSet {
+    let b = next(x);
+    let c = next(b);
+    let d = next(c);
+    let e = next(d);
+    let f = next(e);
+    let g = next(f);
+    let h = next(g);
+    BorderSet {
+        top_left: symbol(x),
+        top_right: symbol(b),
+        bottom_left: symbol(c),
+        bottom_right: symbol(d),
+        vertical_left: symbol(e),
+        vertical_right: symbol(f),
+        horizontal_top: symbol(g),
+        horizontal_bottom: symbol(h),
+    }
+}

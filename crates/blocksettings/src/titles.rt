@@ -1,0 +1,49 @@
+// The titles of blocks: up to two, of up to three records each.
+use cases::random::below;
+use cases::random::next;
+ghost use Prim.Native.Nat.{_<_, _≤_};
+ghost use lib.ListN.{length};
+
+// A head of any alignment.
+fn head(position: u32, x: u32) -> u32
+    requires { ⌜ position < 4 ⌝ }
+{
+    2147483648 + below(x, 4) * 536870912 + position * 134217728
+}
+
+// The record at a place: the first title stands at the top, at the bottom or at the block's own position, the second at the bottom.
+// Any number of 31 bits is a glyph.
+fn record_at(place: usize, kind: u32, x: u32) -> u32
+    requires { ⌜ kind < 5 ⌝ }
+{
+    match place {
+        0 => head((kind + 2) % 3, x),
+        3 => head(1, x),
+        _ => x / 2,
+    }
+}
+
+// How many records the titles of a kind have: of none, of one with up to two glyphs, or of two.
+pub fn count(kind: u32, x: u32) -> usize
+    ensures { λ r. ⌜ r ≤ 6 ⌝ }
+{
+    match kind {
+        0 => 0,
+        1..=3 => (1 + below(x, 3)) as usize,
+        _ => (4 + below(x, 3)) as usize,
+    }
+}
+
+// Writes the records of two titles, of which a kind may have fewer.
+pub fn write_titles(titles: &mut [u32], kind: u32, seed: u32)
+    requires { ⌜ 6 ≤ length (now titles) ⌝ }
+    requires { ⌜ kind < 5 ⌝ }
+{
+    let mut x = seed;
+    let mut i = 0;
+    while i < 6 {
+        titles[i] = record_at(i, kind, x);
+        x = next(x);
+        i += 1;
+    }
+}

@@ -1,0 +1,66 @@
+// What the replay prints.
+use blockcases::Case;
+use blockcases::parts::Part;
+use buffer::Screen;
+use layout::Rect;
+use libc::STDOUT_FILENO;
+
+fn print_part(part: Part) -> bool {
+    match part {
+        Part::Inner => io::write_all(STDOUT_FILENO, b"inner: "),
+        Part::Small => io::write_all(STDOUT_FILENO, b"blocks, small screens: "),
+        Part::Large => io::write_all(STDOUT_FILENO, b"blocks, large screens: "),
+    }
+}
+
+// A number, and what comes after it.
+fn print_number(number: u32, after: &[u8]) {
+    io::print_decimal(STDOUT_FILENO, number as u64);
+    io::write_all(STDOUT_FILENO, after);
+}
+
+fn print_area(area: Rect) {
+    print_number(area.x as u32, b" ");
+    print_number(area.y as u32, b" ");
+    print_number(area.width as u32, b" ");
+    print_number(area.height as u32, b"");
+}
+
+// A screen, if a case has one.
+fn print_screen(screen: Screen) {
+    if screen.columns == 0 {
+        return;
+    }
+    io::write_all(STDOUT_FILENO, b", screen ");
+    print_number(screen.columns as u32, b" ");
+    print_number(screen.rows as u32, b"");
+}
+
+// A case whose answers differ, if it is among the first ten of its part.
+pub fn print_case(part: Part, number: u32, case: Case, before: u32) {
+    if 10 <= before {
+        return;
+    }
+    let area = case.area;
+    let screen = case.screen;
+    print_part(part);
+    io::write_all(STDOUT_FILENO, b"case ");
+    print_number(number, b" differs, area ");
+    print_area(area);
+    print_screen(screen);
+    io::write_all(STDOUT_FILENO, b"\n");
+}
+
+// The end of a part.
+pub fn print_counts(part: Part, compared: u32, differ: u32) {
+    print_part(part);
+    print_number(compared, b" cases compared, ");
+    print_number(differ, b" differ\n");
+}
+
+// No file to read.
+pub fn print_no_data(name: &[u8]) {
+    io::write_all(STDOUT_FILENO, b"data/");
+    io::write_all(STDOUT_FILENO, name);
+    io::write_all(STDOUT_FILENO, b" can't be opened\n");
+}

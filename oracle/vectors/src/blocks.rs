@@ -1,0 +1,56 @@
+//! Blocks, and what is asked about them: `crates/blockcases` makes the same.
+
+mod areas;
+mod drawn;
+mod inner;
+mod settings;
+mod shadows;
+mod titles;
+mod words;
+
+use oracle::{Block, Outcome, Rect};
+
+use crate::sums::{sum_entries, sum_numbers};
+use crate::{Part, Question};
+
+/// What a case asks about. An inner area has no screen, and a block is drawn without titles.
+pub struct Case {
+    pub block: Block,
+    pub area: Rect,
+    pub titles: Vec<u32>,
+    pub columns: u16,
+    pub rows: u16,
+    pub styles: Vec<u64>,
+    pub cells: Vec<u64>,
+}
+
+pub const INNER: Question<Case> = Question { file: "replayblocks/data/inner", ask: inner_area };
+
+pub const AREAS: [Part<Case>; 1] = [Part { name: "areas", count: 49_000, case: inner::case }];
+
+pub const DRAWN: Question<Case> = Question { file: "replayblocks/data/blocks", ask: drawn_cells };
+
+pub const SCREENS: [Part<Case>; 2] = [
+    Part { name: "small screens", count: 40_000, case: drawn::small },
+    Part { name: "large screens", count: 48, case: drawn::large },
+];
+
+/// The inner area, and what the frame takes at the left, right, top and bottom.
+fn inner_area(case: &Case) -> Outcome<u32> {
+    let Case { block, area, ref titles, .. } = *case;
+    oracle::inner(block, titles, area).and_then(|Rect { x, y, width, height }| {
+        oracle::horizontal_space(block, titles).and_then(|(left, right)| {
+            oracle::vertical_space(block, titles).map(|(top, bottom)| {
+                sum_numbers([x, y, width, height, left, right, top, bottom].map(u32::from))
+            })
+        })
+    })
+}
+
+/// Every cell of the screen after the drawing.
+fn drawn_cells(case: &Case) -> Outcome<u32> {
+    let (columns, rows) = (u32::from(case.columns), u32::from(case.rows));
+    let mut cells = case.cells.clone();
+    oracle::draw_block(columns, rows, &mut cells, &case.styles, &[], case.area, case.block)
+        .map(|()| sum_entries(cells.into_iter()))
+}

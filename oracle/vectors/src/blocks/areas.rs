@@ -1,0 +1,41 @@
+//! Areas on a screen, over its edges and outside.
+
+use oracle::Rect;
+
+use super::words::four_on;
+use crate::random::{below, next};
+
+/// An area made of x and the seven numbers after it.
+pub fn area(x: u32, columns: u16, rows: u16) -> Rect {
+    let y = four_on(x);
+    Rect {
+        x: start(x, columns),
+        y: start(y, rows),
+        width: size(next(next(x)), columns),
+        height: size(next(next(y)), rows),
+    }
+}
+
+/// Where an area starts along the cells of a row or a column.
+fn start(x: u32, cells: u16) -> u16 {
+    match below(x, 16) {
+        0..4 => 0,
+        4 => cells - 1,
+        5 => cells,
+        6 => 65_535,
+        _ => below(next(x), u32::from(cells)) as u16,
+    }
+}
+
+/// How many cells it has there.
+fn size(x: u32, cells: u16) -> u16 {
+    match below(x, 16) {
+        0 => 0,
+        1..4 => 1,
+        4..6 => 2,
+        6 => cells,
+        7 => cells + 1,
+        8 => 65_535,
+        _ => 1 + below(next(x), u32::from(cells)) as u16,
+    }
+}

@@ -1,0 +1,52 @@
+//! The settings of blocks.
+
+use oracle::{Alignment, Block, BorderSet, Borders, Padding, Shadow, TitlePosition};
+
+use crate::random::next;
+
+/// A symbol: the upper 21 bits of x.
+pub fn symbol(x: u32) -> u32 {
+    x >> 11
+}
+
+/// The borders of a number from 0 to 15: a bit for each side.
+pub fn borders(number: u32) -> Borders {
+    let bit = |place: u32| number >> place & 1 == 1;
+    Borders { top: bit(0), right: bit(1), bottom: bit(2), left: bit(3) }
+}
+
+/// The symbols of x and the seven numbers after it.
+fn border_set(x: u32) -> BorderSet {
+    let b = next(x);
+    let c = next(b);
+    let d = next(c);
+    let e = next(d);
+    let f = next(e);
+    let g = next(f);
+    let h = next(g);
+    BorderSet {
+        top_left: symbol(x),
+        top_right: symbol(b),
+        bottom_left: symbol(c),
+        bottom_right: symbol(d),
+        vertical_left: symbol(e),
+        vertical_right: symbol(f),
+        horizontal_top: symbol(g),
+        horizontal_bottom: symbol(h),
+    }
+}
+
+/// A block with some borders, the symbols of x, no shadow, and the other settings plain.
+pub fn framed(borders: Borders, x: u32) -> Block {
+    Block {
+        borders,
+        border_set: border_set(x),
+        border_style: 0,
+        style: 0,
+        padding: Padding::uniform(1),
+        titles_style: 0,
+        titles_alignment: Alignment::Left,
+        titles_position: TitlePosition::Top,
+        shadow: Shadow::Absent,
+    }
+}

@@ -1,0 +1,31 @@
+//! The titles of blocks: up to two, of up to three records each.
+
+use std::iter::successors;
+
+use crate::random::{below, next};
+
+/// The titles of a kind: none, one, or two.
+pub fn titles(kind: u32, seed: u32) -> Vec<u32> {
+    let count = match kind {
+        0 => 0,
+        1..4 => 1 + below(seed, 3),
+        _ => 4 + below(seed, 3),
+    };
+    let numbers = successors(Some(seed), |&x| Some(next(x)));
+    (0..count).zip(numbers).map(|(place, x)| record(place, kind, x)).collect()
+}
+
+/// The record at a place: the first title stands at the top, at the bottom or at the block's own
+/// position, the second at the bottom. Any number of 31 bits is a glyph.
+fn record(place: u32, kind: u32, x: u32) -> u32 {
+    match place {
+        0 => head((kind + 2) % 3, x),
+        3 => head(1, x),
+        _ => x >> 1,
+    }
+}
+
+/// A head of any alignment.
+fn head(position: u32, x: u32) -> u32 {
+    1 << 31 | below(x, 4) << 29 | position << 27
+}

@@ -1,0 +1,48 @@
+//! Random texts of up to 16,384 records, at the limits 1 to 20, 80 and 4,096, and columns below
+//! 8,192.
+
+use super::case::{Case, Manner, alignment, text};
+use crate::random::{below, next, seed};
+
+/// How rare heads are.
+const HEADS: [u32; 4] = [3, 20, 300, 16_384];
+
+/// Columns to scroll by come below these, so that longer lines are scrolled further.
+const COLUMNS: [u32; 4] = [8, 64, 1_024, 8_192];
+
+/// The case of a number.
+pub fn case(number: u32) -> Case {
+    let a = seed(number);
+    let b = next(a);
+    let c = next(b);
+    let d = next(c);
+    let e = next(d);
+    let f = next(e);
+    let kind = below(a, 4) as usize;
+    let manner = Manner { heads: HEADS[kind], widths: 1 + below(b, 8), spaces: 1 + below(c, 12) };
+    Case {
+        text: text(length(number, d), &manner, f),
+        own: alignment(number % 3),
+        limit: limit(below(e, 26)),
+        trim: number.is_multiple_of(2),
+        column: column(number, COLUMNS[kind], f),
+    }
+}
+
+/// One text in five isn't scrolled.
+fn column(number: u32, end: u32, x: u32) -> u16 {
+    if number.is_multiple_of(5) { 0 } else { below(x, end) as u16 }
+}
+
+fn limit(number: u32) -> u16 {
+    match number {
+        0..20 => number as u16 + 1,
+        20..23 => 80,
+        _ => 4_096,
+    }
+}
+
+/// One text in eight has all the records that a call accepts.
+fn length(number: u32, x: u32) -> u32 {
+    if (number / 2).is_multiple_of(8) { 16_384 } else { below(x, 16_385) }
+}
