@@ -8,9 +8,11 @@ use borrow.Author.Tests.{eqb-false}
 use lib.Dec.{eqb}
 use Rattle.layout.specs.declared.Rect.{Rect}
 use Rattle.layout.specs.Rect.{rightOf, bottomOf, isEmpty}
+use Rattle.block.specs.declared.Block.{Block}
 use Rattle.buffer.specs.declared.Screen.{Screen}
 use Rattle.buffer.specs.Parts.{OnScreen}
-use Rattle.frame.specs.Frame.{leftSide, topSide, rightSide, bottomSide, bottomRight, topRight, bottomLeft, topLeft}
+use Rattle.frame.specs.declared.Edge.{Edge}
+use Rattle.frame.specs.Edges.{leftEdge, topEdge, rightEdge, bottomEdge, bottomRightEdge, topRightEdge, bottomLeftEdge, topLeftEdge}
 
 -- a rectangle that isn't empty has a column and a row
 pub not-empty : (r : Rect) → isEmpty r ≡ false → (0 < r .width) × (0 < r .height)
@@ -36,30 +38,30 @@ part-on-screen s m n r part on same across down =
     record { columns = on .columns; size = omega (arith, on .size); right = omega (arith, on .right); bottom = omega (arith, on .bottom) }
 
 -- each side and each corner does so
-module _ (s : Screen) (m n : ℕ) (r part : Rect) (on : OnScreen s m r) (some : isEmpty r ≡ false) (same : n ≡ m) where
-  pub left-on-screen : part ≡ leftSide r → OnScreen s n part
-  left-on-screen e = let sizes = not-empty r some in rw e (part-on-screen s m n r (leftSide r) on same (omega arith) (omega arith))
+module _ (s : Screen) (m n : ℕ) (b : Block) (r : Rect) (edge : Edge) (on : OnScreen s m r) (some : isEmpty r ≡ false) (same : n ≡ m) where
+  pub left-on-screen : edge ≡ leftEdge b r → OnScreen s n (edge .part)
+  left-on-screen e = let sizes = not-empty r some in rw e (part-on-screen s m n r _ on same (omega arith) (omega arith))
 
-  pub top-on-screen : part ≡ topSide r → OnScreen s n part
-  top-on-screen e = let sizes = not-empty r some in rw e (part-on-screen s m n r (topSide r) on same (omega arith) (omega arith))
+  pub top-on-screen : edge ≡ topEdge b r → OnScreen s n (edge .part)
+  top-on-screen e = let sizes = not-empty r some in rw e (part-on-screen s m n r _ on same (omega arith) (omega arith))
 
-  pub right-on-screen : part ≡ rightSide r → OnScreen s n part
-  right-on-screen e = let sizes = not-empty r some in rw e (part-on-screen s m n r (rightSide r) on same (omega arith) (omega arith))
+  pub right-on-screen : edge ≡ rightEdge b r → OnScreen s n (edge .part)
+  right-on-screen e = let sizes = not-empty r some in rw e (part-on-screen s m n r _ on same (omega arith) (omega arith))
 
-  pub bottom-on-screen : part ≡ bottomSide r → OnScreen s n part
-  bottom-on-screen e = let sizes = not-empty r some in rw e (part-on-screen s m n r (bottomSide r) on same (omega arith) (omega arith))
+  pub bottom-on-screen : edge ≡ bottomEdge b r → OnScreen s n (edge .part)
+  bottom-on-screen e = let sizes = not-empty r some in rw e (part-on-screen s m n r _ on same (omega arith) (omega arith))
 
-  pub bottom-right-on-screen : part ≡ bottomRight r → OnScreen s n part
-  bottom-right-on-screen e = let sizes = not-empty r some in rw e (part-on-screen s m n r (bottomRight r) on same (omega arith) (omega arith))
+  pub bottom-right-on-screen : edge ≡ bottomRightEdge b r → OnScreen s n (edge .part)
+  bottom-right-on-screen e = let sizes = not-empty r some in rw e (part-on-screen s m n r _ on same (omega arith) (omega arith))
 
-  pub top-right-on-screen : part ≡ topRight r → OnScreen s n part
-  top-right-on-screen e = let sizes = not-empty r some in rw e (part-on-screen s m n r (topRight r) on same (omega arith) (omega arith))
+  pub top-right-on-screen : edge ≡ topRightEdge b r → OnScreen s n (edge .part)
+  top-right-on-screen e = let sizes = not-empty r some in rw e (part-on-screen s m n r _ on same (omega arith) (omega arith))
 
-  pub bottom-left-on-screen : part ≡ bottomLeft r → OnScreen s n part
-  bottom-left-on-screen e = let sizes = not-empty r some in rw e (part-on-screen s m n r (bottomLeft r) on same (omega arith) (omega arith))
+  pub bottom-left-on-screen : edge ≡ bottomLeftEdge b r → OnScreen s n (edge .part)
+  bottom-left-on-screen e = let sizes = not-empty r some in rw e (part-on-screen s m n r _ on same (omega arith) (omega arith))
 
-  pub top-left-on-screen : part ≡ topLeft r → OnScreen s n part
-  top-left-on-screen e = let sizes = not-empty r some in rw e (part-on-screen s m n r (topLeft r) on same (omega arith) (omega arith))
+  pub top-left-on-screen : edge ≡ topLeftEdge b r → OnScreen s n (edge .part)
+  top-left-on-screen e = let sizes = not-empty r some in rw e (part-on-screen s m n r _ on same (omega arith) (omega arith))
 
 pub ruleset parts-on-screen = (
   left-on-screen,

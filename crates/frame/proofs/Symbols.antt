@@ -8,6 +8,7 @@ use borrow.Author.Tests.{leb-false}
 use lib.ListN.{length, getD}
 use Rattle.refuse.specs.Causes.{some, tooLarge, symbolsWrong}
 use Rattle.text.proofs.Bools.{neither}
+use Rattle.layout.specs.declared.Rect.{Rect}
 use Rattle.block.specs.declared.Block.{Block}
 use Rattle.block.specs.declared.Effect.{Effect}
 use Rattle.block.specs.declared.Effect.the-variants.{Overlay, Symbol}
@@ -16,6 +17,8 @@ use Rattle.block.specs.declared.Shadow.the-variants.{Absent, Present}
 use Rattle.block.specs.Causes.{effectSymbols, shadowSymbols, borderSymbols, blockSymbols}
 use Rattle.block.proofs.Either.{some-append}
 use Rattle.shadow.specs.Around.{EffectFits, ShadowFits}
+use Rattle.frame.specs.declared.Edge.{Edge}
+use Rattle.frame.specs.Edges.{leftEdge, topEdge, rightEdge, bottomEdge, bottomRightEdge, topRightEdge, bottomLeftEdge, topLeftEdge}
 use Rattle.frame.specs.Fitting.{SymbolsFit}
 
 -- a test that holds of nothing in a list fails of each of its elements
@@ -49,37 +52,39 @@ module _ (b : Block) (fit : SymbolsFit b) where
   unfolding borderSymbols
   border-fits i h = leb-false 2097152 _ (none-at tooLarge (borderSymbols (b .«border_set»)) i (parts-fit .0) h)
 
-  pub top-left-fits : b .«border_set» .«top_left» < 2 ^ 21
-  unfolding borderSymbols
-  top-left-fits = border-fits 0 (omega arith)
+  -- so the symbol of each side and of each corner does
+  module _ (r : Rect) (edge : Edge) where
+    pub top-left-fits : edge ≡ topLeftEdge b r → edge .symbol < 2 ^ 21
+    unfolding borderSymbols
+    top-left-fits e = rw e (border-fits 0 (omega arith))
 
-  pub top-right-fits : b .«border_set» .«top_right» < 2 ^ 21
-  unfolding borderSymbols
-  top-right-fits = border-fits 1 (omega arith)
+    pub top-right-fits : edge ≡ topRightEdge b r → edge .symbol < 2 ^ 21
+    unfolding borderSymbols
+    top-right-fits e = rw e (border-fits 1 (omega arith))
 
-  pub bottom-left-fits : b .«border_set» .«bottom_left» < 2 ^ 21
-  unfolding borderSymbols
-  bottom-left-fits = border-fits 2 (omega arith)
+    pub bottom-left-fits : edge ≡ bottomLeftEdge b r → edge .symbol < 2 ^ 21
+    unfolding borderSymbols
+    bottom-left-fits e = rw e (border-fits 2 (omega arith))
 
-  pub bottom-right-fits : b .«border_set» .«bottom_right» < 2 ^ 21
-  unfolding borderSymbols
-  bottom-right-fits = border-fits 3 (omega arith)
+    pub bottom-right-fits : edge ≡ bottomRightEdge b r → edge .symbol < 2 ^ 21
+    unfolding borderSymbols
+    bottom-right-fits e = rw e (border-fits 3 (omega arith))
 
-  pub vertical-left-fits : b .«border_set» .«vertical_left» < 2 ^ 21
-  unfolding borderSymbols
-  vertical-left-fits = border-fits 4 (omega arith)
+    pub left-fits : edge ≡ leftEdge b r → edge .symbol < 2 ^ 21
+    unfolding borderSymbols
+    left-fits e = rw e (border-fits 4 (omega arith))
 
-  pub vertical-right-fits : b .«border_set» .«vertical_right» < 2 ^ 21
-  unfolding borderSymbols
-  vertical-right-fits = border-fits 5 (omega arith)
+    pub right-fits : edge ≡ rightEdge b r → edge .symbol < 2 ^ 21
+    unfolding borderSymbols
+    right-fits e = rw e (border-fits 5 (omega arith))
 
-  pub horizontal-top-fits : b .«border_set» .«horizontal_top» < 2 ^ 21
-  unfolding borderSymbols
-  horizontal-top-fits = border-fits 6 (omega arith)
+    pub top-fits : edge ≡ topEdge b r → edge .symbol < 2 ^ 21
+    unfolding borderSymbols
+    top-fits e = rw e (border-fits 6 (omega arith))
 
-  pub horizontal-bottom-fits : b .«border_set» .«horizontal_bottom» < 2 ^ 21
-  unfolding borderSymbols
-  horizontal-bottom-fits = border-fits 7 (omega arith)
+    pub bottom-fits : edge ≡ bottomEdge b r → edge .symbol < 2 ^ 21
+    unfolding borderSymbols
+    bottom-fits e = rw e (border-fits 7 (omega arith))
 
 pub ruleset fitting = (
   shadow-symbol-fits,
@@ -87,8 +92,8 @@ pub ruleset fitting = (
   top-right-fits,
   bottom-left-fits,
   bottom-right-fits,
-  vertical-left-fits,
-  vertical-right-fits,
-  horizontal-top-fits,
-  horizontal-bottom-fits,
+  left-fits,
+  right-fits,
+  top-fits,
+  bottom-fits,
 )

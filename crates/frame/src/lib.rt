@@ -7,7 +7,7 @@ use buffer::Ink;
 use buffer::Screen;
 use layout::Rect;
 ghost use mathlib.Core.Path.{_≡_};
-ghost use mathlib.Core.Bool.{false, _&&_};
+ghost use mathlib.Core.Bool.{false};
 ghost use mathlib.Core.List.{[], _∷_};
 ghost use Prim.Native.Nat.{_<_, _^_};
 ghost use lib.ListN.{length};
@@ -17,23 +17,23 @@ ghost use Rattle.buffer.specs.Parts.{OnScreen};
 ghost use Rattle.frame.specs.Frame.{border, sides, corners, frame, blockOf};
 ghost use Rattle.frame.specs.Fitting.{SymbolsFit, HasCells};
 
-// Draws a part of the border, a side or a corner, where it stands: its cells get the symbol, then the border style.
-fn draw_border(
-    screen: Screen,
-    cells: &mut [u64],
-    styles: &[u64],
-    block: Block,
-    stands: bool,
-    part: Rect,
-    symbol: u32,
-)
-    requires { ⌜ symbol < 2 ^ 21 ⌝ }
-    requires { ⌜ OnScreen screen (length (now cells)) part ⌝ }
-    ensures { λ _. ⌜ now (cells .exit) ≡ drawn (screen .columns) (onlyIf stands (border (now (styles .entry)) block part symbol)) (now (cells .entry)) ⌝ }
+// A side or a corner of a rectangle: whether it stands, its cells and its symbol.
+pub struct Edge {
+    pub stands: bool,
+    pub part: Rect,
+    pub symbol: u32,
+}
+
+// Draws a side or a corner where it stands: its cells get the symbol, then the border style.
+fn draw_border(screen: Screen, cells: &mut [u64], styles: &[u64], block: Block, edge: Edge)
+    requires { ⌜ edge .symbol < 2 ^ 21 ⌝ }
+    requires { ⌜ OnScreen screen (length (now cells)) (edge .part) ⌝ }
+    ensures { λ _. ⌜ now (cells .exit) ≡ drawn (screen .columns) (onlyIf (edge .stands) (border (now (styles .entry)) block (edge .part) (edge .symbol))) (now (cells .entry)) ⌝ }
 {
-    if stands {
-        let ink = Ink::Both(symbol as u64, buffer::style_at(styles, block.border_style));
-        buffer::paint_area(screen, cells, part, ink);
+    if edge.stands {
+        let symbol = edge.symbol as u64;
+        let ink = Ink::Both(symbol, buffer::style_at(styles, block.border_style));
+        buffer::paint_area(screen, cells, edge.part, ink);
     }
 }
 
@@ -43,58 +43,14 @@ fn draw_sides(screen: Screen, cells: &mut [u64], styles: &[u64], block: Block, a
     requires { ⌜ OnScreen screen (length (now cells)) area ⌝ }
     ensures { λ _. ⌜ now (cells .exit) ≡ drawn (screen .columns) (sides (now (styles .entry)) block area) (now (cells .entry)) ⌝ }
 {
-    let on = block.borders;
-    let set = block.border_set;
-    let left = edges::left_side(area);
-    let top = edges::top_side(area);
-    let right = edges::right_side(area);
-    let bottom = edges::bottom_side(area);
-    draw_border(
-        screen,
-        cells,
-        styles,
-        block,
-        on.left,
-        left,
-        set.vertical_left,
-    );
-    draw_border(
-        screen,
-        cells,
-        styles,
-        block,
-        on.top,
-        top,
-        set.horizontal_top,
-    );
-    draw_border(
-        screen,
-        cells,
-        styles,
-        block,
-        on.right,
-        right,
-        set.vertical_right,
-    );
-    draw_border(
-        screen,
-        cells,
-        styles,
-        block,
-        on.bottom,
-        bottom,
-        set.horizontal_bottom,
-    );
-}
-
-// Whether two borders stand.
-fn both(one: bool, other: bool) -> bool
-    ensures { λ r. ⌜ r ≡ (one && other) ⌝ }
-{
-    if one {
-        return other;
-    }
-    false
+    let left = edges::left_side(block, area);
+    let top = edges::top_side(block, area);
+    let right = edges::right_side(block, area);
+    let bottom = edges::bottom_side(block, area);
+    draw_border(screen, cells, styles, block, left);
+    draw_border(screen, cells, styles, block, top);
+    draw_border(screen, cells, styles, block, right);
+    draw_border(screen, cells, styles, block, bottom);
 }
 
 // Draws the corners bottom right, top right, bottom left, top left, each where both borders stand.
@@ -103,44 +59,14 @@ fn draw_corners(screen: Screen, cells: &mut [u64], styles: &[u64], block: Block,
     requires { ⌜ OnScreen screen (length (now cells)) area ⌝ }
     ensures { λ _. ⌜ now (cells .exit) ≡ drawn (screen .columns) (corners (now (styles .entry)) block area) (now (cells .entry)) ⌝ }
 {
-    let on = block.borders;
-    let set = block.border_set;
-    let first = both(on.right, on.bottom);
-    let second = both(on.right, on.top);
-    let third = both(on.left, on.bottom);
-    let fourth = both(on.left, on.top);
-    let bottom_right = edges::bottom_right(area);
-    let top_right = edges::top_right(area);
-    let bottom_left = edges::bottom_left(area);
-    let top_left = edges::top_left(area);
-    draw_border(
-        screen,
-        cells,
-        styles,
-        block,
-        first,
-        bottom_right,
-        set.bottom_right,
-    );
-    draw_border(
-        screen,
-        cells,
-        styles,
-        block,
-        second,
-        top_right,
-        set.top_right,
-    );
-    draw_border(
-        screen,
-        cells,
-        styles,
-        block,
-        third,
-        bottom_left,
-        set.bottom_left,
-    );
-    draw_border(screen, cells, styles, block, fourth, top_left, set.top_left);
+    let bottom_right = edges::bottom_right(block, area);
+    let top_right = edges::top_right(block, area);
+    let bottom_left = edges::bottom_left(block, area);
+    let top_left = edges::top_left(block, area);
+    draw_border(screen, cells, styles, block, bottom_right);
+    draw_border(screen, cells, styles, block, top_right);
+    draw_border(screen, cells, styles, block, bottom_left);
+    draw_border(screen, cells, styles, block, top_left);
 }
 
 // Draws the sides, then the corners, of a rectangle that isn't empty.

@@ -4,6 +4,9 @@ use borrow.Author.Needs.{needs}
 use Rattle.frame.proofs.draw_border.Statement.{statement}
 use Rattle.frame.proofs.draw_border.Tie as tie
 
+cast-symbol : tie.Need-cast-symbol
+cast-symbol c = search needs
+
 style-at-requires : tie.Need-style-at-requires
 style-at-requires c κs = search needs
 
@@ -21,4 +24,4 @@ returns-2 c = search borders
 
 pub draw-border-spec : {M : Type 1} → statement M
 draw-border-spec =
-    tie.close (tie.spec style-at-requires paint-area-requires same-length returns returns-2)
+    tie.close (tie.spec cast-symbol style-at-requires paint-area-requires same-length returns returns-2)

@@ -7,18 +7,6 @@ use borrow.Author.Needs.{needs}
 use Rattle.frame.proofs.draw_corners.Statement.{statement}
 use Rattle.frame.proofs.draw_corners.Tie as tie
 
-both-requires : tie.Need-both-requires
-both-requires c κs = search needs
-
-both-requires-2 : tie.Need-both-requires-2
-both-requires-2 c κs = search needs
-
-both-requires-3 : tie.Need-both-requires-3
-both-requires-3 c κs = search needs
-
-both-requires-4 : tie.Need-both-requires-4
-both-requires-4 c κs = search needs
-
 bottom-right-requires : tie.Need-bottom-right-requires
 bottom-right-requires c κs = search needs
 
@@ -35,19 +23,14 @@ draw-border-requires : tie.Need-draw-border-requires
 draw-border-requires c κs = search (fitting, parts-on-screen)
 
 draw-border-requires-2 : tie.Need-draw-border-requires-2
-draw-border-requires-2 c κs =
-    let first = c .before .before .before in
-    let parts = first .before .before in
-    let pre = parts .before .before .before .before .before .before .before .before .before .before .before .before .pre in
-    let kept = first .draw-border .kept .1 .0 in
-    (search fitting, search parts-on-screen)
+draw-border-requires-2 c κs = search (fitting, parts-on-screen)
 
 draw-border-requires-3 : tie.Need-draw-border-requires-3
 draw-border-requires-3 c κs =
     let second = c .before .before .before in
     let first = second .before .before .before .before in
     let parts = first .before .before in
-    let pre = parts .before .before .before .before .before .before .before .before .before .before .before .before .pre in
+    let pre = parts .before .before .before .before .before .before .pre in
     let kept = second .draw-border2 .kept .1 .0 ∙ first .draw-border .kept .1 .0 in
     (search fitting, search parts-on-screen)
 
@@ -57,7 +40,7 @@ draw-border-requires-4 c κs =
     let second = third .before .before .before .before in
     let first = second .before .before .before .before in
     let parts = first .before .before in
-    let pre = parts .before .before .before .before .before .before .before .before .before .before .before .before .pre in
+    let pre = parts .before .before .before .before .before .before .pre in
     let kept = third .draw-border3 .kept .1 .0 ∙ second .draw-border2 .kept .1 .0 ∙ first .draw-border .kept .1 .0 in
     (search fitting, search parts-on-screen)
 
@@ -65,26 +48,12 @@ same-length : tie.Need-same-length
 same-length c = search needs
 
 returns : tie.Need-returns
-returns c =
-    let fourth = c .before .before in
-    let third = fourth .before .before .before .before in
-    let second = third .before .before .before .before in
-    let first = second .before .before .before .before in
-    let parts = first .before .before in
-    let tests = parts .before .before .before .before in
-    corners-drawn _ _ _ _ _ _ _ _ _ _ _ _ _ _ _ _ _
-    (tests .before .before .before .both .ensures) (tests .before .before .both2 .ensures) (tests .before .both3 .ensures) (tests .both4 .ensures)
-    (parts .before .before .before .bottom-right .ensures) (parts .before .before .top-right .ensures) (parts .before .bottom-left .ensures) (parts .top-left .ensures)
-    (first .draw-border .ensures) (second .draw-border2 .ensures) (third .draw-border3 .ensures) (fourth .draw-border4 .ensures)
+returns c = search corners-drawn
 
 pub draw-corners-spec : {M : Type 1} → statement M
 draw-corners-spec =
     tie.close
     (tie.spec
-    both-requires
-    both-requires-2
-    both-requires-3
-    both-requires-4
     bottom-right-requires
     top-right-requires
     bottom-left-requires

@@ -23,19 +23,14 @@ draw-border-requires : tie.Need-draw-border-requires
 draw-border-requires c κs = search (fitting, parts-on-screen)
 
 draw-border-requires-2 : tie.Need-draw-border-requires-2
-draw-border-requires-2 c κs =
-    let first = c .before .before .before in
-    let parts = first .before .before in
-    let pre = parts .before .before .before .before .before .before .before .before .pre in
-    let kept = first .draw-border .kept .1 .0 in
-    (search fitting, search parts-on-screen)
+draw-border-requires-2 c κs = search (fitting, parts-on-screen)
 
 draw-border-requires-3 : tie.Need-draw-border-requires-3
 draw-border-requires-3 c κs =
     let second = c .before .before .before in
     let first = second .before .before .before .before in
     let parts = first .before .before in
-    let pre = parts .before .before .before .before .before .before .before .before .pre in
+    let pre = parts .before .before .before .before .before .before .pre in
     let kept = second .draw-border2 .kept .1 .0 ∙ first .draw-border .kept .1 .0 in
     (search fitting, search parts-on-screen)
 
@@ -45,7 +40,7 @@ draw-border-requires-4 c κs =
     let second = third .before .before .before .before in
     let first = second .before .before .before .before in
     let parts = first .before .before in
-    let pre = parts .before .before .before .before .before .before .before .before .pre in
+    let pre = parts .before .before .before .before .before .before .pre in
     let kept = third .draw-border3 .kept .1 .0 ∙ second .draw-border2 .kept .1 .0 ∙ first .draw-border .kept .1 .0 in
     (search fitting, search parts-on-screen)
 
@@ -53,15 +48,7 @@ same-length : tie.Need-same-length
 same-length c = search needs
 
 returns : tie.Need-returns
-returns c =
-    let fourth = c .before .before in
-    let third = fourth .before .before .before .before in
-    let second = third .before .before .before .before in
-    let first = second .before .before .before .before in
-    let parts = first .before .before in
-    sides-drawn _ _ _ _ _ _ _ _ _ _ _ _ _
-    (parts .before .before .before .left-side .ensures) (parts .before .before .top-side .ensures) (parts .before .right-side .ensures) (parts .bottom-side .ensures)
-    (first .draw-border .ensures) (second .draw-border2 .ensures) (third .draw-border3 .ensures) (fourth .draw-border4 .ensures)
+returns c = search sides-drawn
 
 pub draw-sides-spec : {M : Type 1} → statement M
 draw-sides-spec =
