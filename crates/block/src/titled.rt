@@ -15,7 +15,8 @@ fn is_top(position: TitlePosition) -> bool
     }
 }
 
-fn is_at(position: TitlePosition, wanted: TitlePosition) -> bool
+// Whether two positions are the same.
+pub fn is_at(position: TitlePosition, wanted: TitlePosition) -> bool
     ensures { λ r. ⌜ r ≡ samePosition position wanted ⌝ }
 {
     match position {

@@ -1,5 +1,5 @@
 -- Document 01, 'Packed fields': "A head opens a line." So in a text, and so in the titles, where each line is a title.
-use Prim.Native.Nat.{ℕ, suc}
+use Prim.Native.Nat.{ℕ, suc, _+_}
 use mathlib.Core.Bool.{Bool, cond}
 use mathlib.Core.List.{List, [], _∷_}
 use Rattle.text.specs.Record.{isHead, symbolOf, widthOf, whitespaceOf, styleOf}
@@ -19,6 +19,22 @@ glyphFrom number r = record { number = number; symbol = symbolOf r; width = widt
 abbrev pub numbered : ℕ → List ℕ → List Glyph
 numbered number [] = []
 numbered number (r ∷ rs) = glyphFrom number r ∷ numbered (suc number) rs
+
+-- 'Wrapping': "A list's width is its sum."
+abbrev pub total : List Glyph → ℕ
+total [] = 0
+total (g ∷ gs) = g .width + total gs
+
+-- a glyph and the column where it starts
+pub record Start : Type 0 where
+  pub start : ℕ
+  pub glyph : Glyph
+
+-- 'Rows, pages, tally': "In a composed line a glyph starts at the sum of the widths of its line's glyphs before it": from 0, or where
+-- "drawing adds the start column", from that. So it does in a title.
+abbrev pub startsFrom : ℕ → List Glyph → List Start
+startsFrom start [] = []
+startsFrom start (g ∷ gs) = record { start = start; glyph = g } ∷ startsFrom (start + g .width) gs
 
 -- the records before the next head
 abbrev pub untilHead : List ℕ → List ℕ

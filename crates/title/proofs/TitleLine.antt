@@ -1,0 +1,72 @@
+-- A title line on its row, and a title in its area.
+use Prim.Native.Nat.{ℕ, _+_, _-_, _*_, _≤_}
+use mathlib.Core.Path.{_≡_}
+use mathlib.Core.List.{List, [], _∷_, _++_}
+use native.Mathlib.Omega.{arith}
+use lib.ListN.{length, take, drop}
+use Rattle.text.specs.declared.Alignment.{Alignment}
+use Rattle.text.specs.declared.Alignment.the-variants.{Left, Center, Right}
+use Rattle.text.specs.Line.{startsFrom}
+use Rattle.layout.specs.declared.Rect.{Rect}
+use Rattle.layout.specs.Rect.{rightOf}
+use Rattle.buffer.specs.declared.Screen.{Screen}
+use Rattle.buffer.specs.declared.Ink.the-variants.{Style}
+use Rattle.buffer.specs.Drawing.{changed, drawn, over, styleAt}
+use Rattle.buffer.specs.Ink.{inked}
+use Rattle.buffer.specs.Parts.{inRow}
+use Rattle.buffer.proofs.Rows.{row-lent, row-fits}
+use Rattle.buffer.proofs.Order.{first-then}
+use Rattle.title.specs.Title.{titleGlyphs, lineWidth, lineStart, hiddenColumns, untilOverrun, glyphsOn, titleLine, titleIn}
+use Rattle.title.specs.Fitting.{TitleArea}
+
+module _ (alignment : Alignment) (t w : ℕ) where
+  -- a right line ends in the last column
+  pub start-right : (r : ℕ) → alignment ≡ Right → r ≡ w - t → r ≡ lineStart alignment t w
+  start-right r e p = rw e p
+
+  -- and hides its first columns where it is wider
+  pub hidden-right : (r : ℕ) → alignment ≡ Right → r ≡ t - w → r ≡ hiddenColumns alignment t w
+  hidden-right r e p = rw e p
+
+-- a line starts in its columns, or just after them
+starts-in : (alignment : Alignment) (t w : ℕ) → lineStart alignment t w ≤ w
+starts-in Left t w = omega arith
+starts-in Center t w = omega arith
+starts-in Right t w = omega arith
+
+pub starts-within : (alignment : Alignment) (t w start hidden n : ℕ) → start ≡ lineStart alignment t w → w ≡ n → start ≤ hidden + n
+starts-within alignment t w start hidden n e p = omega (arith, e, starts-in alignment t w)
+
+-- a line on its row: its glyphs, from where it starts and after the columns that it hides
+pub line-written : (styles : List ℕ) (alignment : Alignment) (w : ℕ) (records row next : List ℕ) (t hidden start : ℕ) → w ≡ length row → t ≡ lineWidth records
+    → hidden ≡ hiddenColumns alignment t w → start ≡ lineStart alignment t w
+    → next ≡ changed (glyphsOn styles hidden (untilOverrun (hidden + length row) (startsFrom start (titleGlyphs records)))) row
+    → next ≡ changed (titleLine styles alignment w records) row
+unfolding titleLine
+line-written styles alignment w records row next t hidden start e p q r h = rw (← p, ← q, ← r, e) h
+
+-- the row of a title's area ends among the cells
+pub row-end : (s : Screen) (n : ℕ) (r : Rect) → TitleArea s n r → r .y * s .columns + rightOf r ≤ n
+row-end s n r a = row-fits (s .columns) (rightOf r) (r .y) (s .rows) n (a .on-screen .right) (a .in-rows) (a .on-screen .size)
+
+module _ (s : Screen) (r : Rect) (styles : List ℕ) (alignment : Alignment) (records cells : List ℕ) where
+  -- the cells of its area, lent, that come back with a line on them
+  pub line-drawn : (right : ℕ) (part : List ℕ) → TitleArea s (length cells) r → right ≡ rightOf r
+      → part ≡ changed (titleLine styles alignment (r .width) records)
+      (take ((r .y * s .columns + right) - (r .y * s .columns + r .x)) (drop (r .y * s .columns + r .x) cells))
+      → take (r .y * s .columns + r .x) cells ++ (part ++ drop ((r .y * s .columns + right) - (r .y * s .columns + r .x)) (drop (r .y * s .columns + r .x) cells))
+      ≡ drawn (s .columns) (inRow (r .x) (rightOf r) (r .y) (titleLine styles alignment (r .width) records)) cells
+  line-drawn right part a e h =
+      rw e (row-lent (s .columns) (r .x) (rightOf r) (r .y) (titleLine styles alignment (r .width) records) cells part
+      (a .on-screen .columns) (omega (arith, a .few-columns, a .on-screen .right)) (a .on-screen .right) (row-end s (length cells) r a) (rw e at h))
+
+  -- the titles style, and then the line
+  pub title-drawn : (number style : ℕ) (next last : List ℕ) → style ≡ styleAt styles number
+      → next ≡ drawn (s .columns) (over r (inked (Style style))) cells
+      → last ≡ drawn (s .columns) (inRow (r .x) (rightOf r) (r .y) (titleLine styles alignment (r .width) records)) next
+      → last ≡ drawn (s .columns) (titleIn styles number r alignment records) cells
+  unfolding titleIn inked
+  title-drawn number style next last e p q =
+      first-then (s .columns) _ (inRow (r .x) (rightOf r) (r .y) (titleLine styles alignment (r .width) records) ∷ []) cells next last (rw e at p) q
+
+pub ruleset title-line = (starts-within, line-written, line-drawn, title-drawn)

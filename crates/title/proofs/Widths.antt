@@ -1,0 +1,48 @@
+-- The width of a title line, added up glyph by glyph and held at every step.
+use Prim.Native.Nat.{ℕ, _+_, _≤_, _<_}
+use mathlib.Core.Path.{_≡_, _∙_}
+use mathlib.Core.List.{List}
+use native.Mathlib.Nat.{zero-add}
+use native.Mathlib.Omega.{arith}
+use lib.ListN.{length, getD, drop}
+use Rattle.num.specs.Held.{held}
+use Rattle.text.specs.Record.{widthOf}
+use Rattle.text.specs.Line.{numbered, total}
+use Rattle.title.specs.Title.{lineWidth}
+use Rattle.title.proofs.Numbered.{glyphs-from, glyphs-end}
+
+-- a sum held twice is held once
+held-twice : (a b c : ℕ) → held (held (a + b) + c) ≡ held (a + (b + c))
+held-twice a b c = omega arith
+
+-- the width of the first i glyphs, and that of the others still to be added
+pub record AddingWidths (records : List ℕ) (width i : ℕ) : Type 0 where
+  pub reached : i ≤ length records
+  pub small : width ≤ 65535
+  pub remaining : held (width + total (numbered i (drop i records))) ≡ lineWidth records
+
+module _ (records : List ℕ) where
+  -- before the first turn nothing is added
+  pub adding-starts : AddingWidths records 0 0
+  unfolding lineWidth
+  adding-starts = record { reached = omega arith; small = omega arith; remaining = rw zero-add }
+
+  module _ (width i : ℕ) (a : AddingWidths records width i) where
+    -- a turn adds the width of glyph i
+    pub adding-goes : (w next : ℕ) → i < length records → w ≡ widthOf (getD records i 0) → next ≡ held (width + w) → AddingWidths records next (i + 1)
+    adding-goes w next h e p =
+        record {
+          reached = omega arith;
+          small = omega (arith, p);
+          remaining =
+              rw (p, e) (held-twice width (widthOf (getD records i 0)) (total (numbered (i + 1) (drop (i + 1) records)))
+              ∙ (rw (glyphs-from records i h) at (a .remaining)));
+        }
+
+    -- at the end all are added
+    pub adding-done : length records ≤ i → width ≡ lineWidth records
+    adding-done h =
+        let e : held (width + 0) ≡ lineWidth records = rw (glyphs-end records i h) at (a .remaining) in
+        omega (arith, e, a .small)
+
+pub ruleset adding = (adding-starts, adding-goes, adding-done)

@@ -1,0 +1,77 @@
+-- The glyphs of a title line, written on its row one after another.
+use Prim.Native.Nat.{ℕ, _+_, _≤_, _<_}
+use mathlib.Core.Path.{_≡_, refl, sym, ap, _∙_}
+use mathlib.Core.Bool.{cond}
+use mathlib.Core.List.{List, [], _∷_}
+use native.Mathlib.Omega.{arith}
+use borrow.Author.Tests.{lt-ltb, le-ltb}
+use lib.Dec.{ltb}
+use lib.ListN.{length, getD, drop}
+use Rattle.text.specs.Record.{widthOf}
+use Rattle.text.specs.Line.{Start, numbered, startsFrom}
+use Rattle.buffer.specs.Drawing.{changed}
+use Rattle.buffer.proofs.Changed.{length-changed, changed-same, changed-none, changed-then}
+use Rattle.title.specs.Title.{titleGlyphs, untilOverrun, glyphOn, glyphsOn}
+use Rattle.title.proofs.Numbered.{glyphs-from, glyphs-end}
+use Rattle.title.proofs.OneGlyph.{startOf, number-unread}
+
+-- the glyphs from number i on, of which the first starts in a column, up to the first that overruns an end
+abbrev pub fitting : ℕ → ℕ → ℕ → List ℕ → List Start
+fitting end column i records = untilOverrun end (startsFrom column (numbered i (drop i records)))
+
+-- a row on which the glyphs before number i are written: what the others still make of it is what all make of the first row
+pub record Writing (styles : List ℕ) (hidden start : ℕ) (records old row : List ℕ) (column i : ℕ) : Type 0 where
+  pub reached : i ≤ length records
+  pub same-length : length row ≡ length old
+  pub room : column ≤ hidden + length old
+  pub remaining : changed (glyphsOn styles hidden (fitting (hidden + length old) column i records)) row
+      ≡ changed (glyphsOn styles hidden (untilOverrun (hidden + length old) (startsFrom start (titleGlyphs records)))) old
+
+module _ (styles : List ℕ) (hidden start : ℕ) (records old : List ℕ) where
+  -- before the first turn none is written
+  pub writing-starts : start ≤ hidden + length old → Writing styles hidden start records old old start 0
+  writing-starts h = record { reached = omega arith; same-length = refl; room = h; remaining = refl }
+
+  module _ (row : List ℕ) (column i : ℕ) (r : Writing styles hidden start records old row column i) where
+    abbrev end : ℕ
+    end = hidden + length old
+
+    abbrev Done : Type 0
+    Done = row ≡ changed (glyphsOn styles hidden (untilOverrun end (startsFrom start (titleGlyphs records)))) old
+
+    none-left : fitting end column i records ≡ [] → Done
+    none-left e = sym (changed-none row) ∙ (rw e at (r .remaining))
+
+    -- after the last turn all are
+    pub writing-done : length records ≤ i → Done
+    writing-done h = none-left (ap (λ gs. untilOverrun end (startsFrom column gs)) (glyphs-end records i h))
+
+    module _ (h : i < length records) (width : ℕ) (e : width ≡ widthOf (getD records i 0)) where
+      -- glyph i, if it doesn't overrun the end, and those after it
+      next-fitting : fitting end column i records
+          ≡ cond (ltb end (column + width)) [] (startOf i column (getD records i 0) ∷ fitting end (column + width) (i + 1) records)
+      next-fitting = rw (e, glyphs-from records i h)
+
+      -- at a glyph that overruns the end writing stops
+      pub writing-stops : end < column + width → Done
+      writing-stops over = none-left (next-fitting ∙ rw (lt-ltb end (column + width) over))
+
+      -- a turn writes glyph i
+      pub writing-goes : (next : List ℕ) → column + width ≤ end → next ≡ changed (glyphOn styles hidden (startOf 0 column (getD records i 0))) row
+          → Writing styles hidden start records old next (column + width) (i + 1)
+      writing-goes next fits p =
+          let others : List Start = fitting end (column + width) (i + 1) records in
+          let more : fitting end column i records ≡ startOf i column (getD records i 0) ∷ others =
+          next-fitting ∙ rw (le-ltb end (column + width) fits) in
+          record {
+            reached = omega arith;
+            same-length = rw p (length-changed _ row ∙ r .same-length);
+            room = fits;
+            remaining =
+                rw p (changed-then _ _ row)
+                ∙ changed-same _ _ row
+                (λ j cell _. ap (glyphsOn styles hidden others j) (sym (number-unread styles hidden i column (getD records i 0) j cell)))
+                ∙ (rw more at (r .remaining));
+          }
+
+pub ruleset writing = (writing-starts, writing-done, writing-stops, writing-goes)

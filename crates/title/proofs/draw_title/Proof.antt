@@ -1,0 +1,25 @@
+-- `title::draw_title` meets its contract.
+use Rattle.title.proofs.TitleLine.{title-line}
+use borrow.Author.Needs.{needs}
+use Rattle.title.proofs.draw_title.Statement.{statement}
+use Rattle.title.proofs.draw_title.Tie as tie
+
+style-at-requires : tie.Need-style-at-requires
+style-at-requires c κs = search needs
+
+paint-area-requires : tie.Need-paint-area-requires
+paint-area-requires c κs = search needs
+
+draw-line-requires : tie.Need-draw-line-requires
+draw-line-requires c κs = search needs
+
+same-length : tie.Need-same-length
+same-length c = search needs
+
+returns : tie.Need-returns
+returns c = search title-line
+
+pub draw-title-spec : {M : Type 1} → statement M
+draw-title-spec =
+    tie.close
+    (tie.spec style-at-requires paint-area-requires draw-line-requires same-length returns)

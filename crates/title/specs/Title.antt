@@ -1,0 +1,70 @@
+-- Document 01, 'Inner area and frame (block.rs, padding.rs)': one title in its area. Sums are held in 16 bits, as all there.
+use Prim.Native.Nat.{ℕ, _+_, _-_}
+use mathlib.Core.Bool.{Bool, cond, _&&_}
+use mathlib.Core.List.{List, [], _∷_}
+use lib.Dec.{eqb, leb, ltb}
+use Rattle.num.specs.Held.{held}
+use Rattle.text.specs.declared.Alignment.{Alignment}
+use Rattle.text.specs.declared.Alignment.the-variants.{Left, Center, Right}
+use Rattle.text.specs.Line.{Glyph, Start, numbered, total, startsFrom}
+use Rattle.cell.specs.Cell.{withSymbol, styled}
+use Rattle.layout.specs.declared.Rect.{Rect}
+use Rattle.layout.specs.Rect.{rightOf}
+use Rattle.buffer.specs.Drawing.{Drawing, over, inOrder, styleAt}
+use Rattle.buffer.specs.Parts.{inRow}
+
+-- the glyphs of a title's records; their numbers play no part in drawing
+abbrev pub titleGlyphs : List ℕ → List Glyph
+titleGlyphs records = numbered 0 records
+
+-- the width of a title line: `line_width_u16`
+unfoldable pub lineWidth : List ℕ → ℕ
+lineWidth records = held (total (titleGlyphs records))
+
+-- "A title line of width t in w columns: t ≤ w starts at 0, w - t if right"
+abbrev pub lineStart : Alignment → ℕ → ℕ → ℕ
+lineStart Left t w = 0
+lineStart Center t w = 0
+lineStart Right t w = w - t
+
+-- "t > w hides the first t - w columns if right, else none."
+abbrev pub hiddenColumns : Alignment → ℕ → ℕ → ℕ
+hiddenColumns Left t w = 0
+hiddenColumns Center t w = 0
+hiddenColumns Right t w = t - w
+
+-- "drawing stops at the first that overruns w": the glyphs before the first that runs past an end
+abbrev pub untilOverrun : ℕ → List Start → List Start
+untilOverrun end [] = []
+untilOverrun end (s ∷ ss) = cond (ltb end (s .start + s .glyph .width)) [] (s ∷ untilOverrun end ss)
+
+-- "Glyphs starting in hidden columns or of width 0 aren't drawn"
+unfoldable pub isDrawn : ℕ → Start → Bool
+isDrawn hidden s = leb hidden (s .start) && ltb 0 (s .glyph .width)
+
+-- a drawn glyph gets "its symbol and style in its first cell": what becomes of the cell in a column after the hidden ones
+unfoldable pub glyphOn : List ℕ → ℕ → Start → ℕ → ℕ → ℕ
+glyphOn styles hidden s column cell =
+    cond (isDrawn hidden s && eqb (hidden + column) (s .start))
+    (styled (styleAt styles (s .glyph .style)) (withSymbol (s .glyph .symbol) cell))
+    cell
+
+abbrev pub glyphsOn : List ℕ → ℕ → List Start → ℕ → ℕ → ℕ
+glyphsOn styles hidden [] column cell = cell
+glyphsOn styles hidden (s ∷ ss) column cell = glyphsOn styles hidden ss column (glyphOn styles hidden s column cell)
+
+-- a title line in w columns: what becomes of the cell in one of them
+unfoldable pub titleLine : List ℕ → Alignment → ℕ → List ℕ → ℕ → ℕ → ℕ
+titleLine styles alignment w records =
+    let t = lineWidth records in
+    let hidden = hiddenColumns alignment t w in
+    glyphsOn styles hidden (untilOverrun (hidden + w) (startsFrom (lineStart alignment t w) (titleGlyphs records)))
+
+-- a title in its area, which is one row high: "A title's area gets the titles style, then each drawn glyph its symbol and style in its
+-- first cell."
+unfoldable pub titleIn : List ℕ → ℕ → Rect → Alignment → List ℕ → Drawing
+titleIn styles style area alignment records =
+    inOrder
+    (over area (styled (styleAt styles style))
+    ∷ inRow (area .x) (rightOf area) (area .y) (titleLine styles alignment (area .width) records)
+    ∷ [])
