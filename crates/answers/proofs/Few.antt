@@ -10,7 +10,7 @@ use Rattle.text.specs.Record.{isHead, alignmentOf}
 use Rattle.text.specs.Alignment.{resolved}
 use Rattle.text.specs.Line.{Glyph, TextLine, untilHead, linesFrom, glyphsOf}
 use Rattle.reflow.specs.declared.Rule.{Rule}
-use Rattle.reflow.specs.Truncation.{truncate, offsetOf, shownFrom}
+use Rattle.truncate.specs.Truncation.{truncate, offsetOf, shownFrom}
 use Rattle.compose.specs.declared.Method.the-variants.{Truncated}
 use Rattle.compose.specs.Lines.{aligned, linesOf, lineLines, allLines, lines}
 

@@ -1,5 +1,5 @@
--- Whichever composer is at work: from the start of a text line it has the lines of the rules, each of them is what the records of
--- its run give, and glyphs may be renumbered before or after.
+-- Wrapped or truncated: from the start of a text line the lines are those of the rules, each of them is what the records of its run
+-- give, and glyphs may be renumbered before or after.
 use Prim.Native.Nat.{ℕ}
 use mathlib.Core.Path.{_≡_, refl}
 use mathlib.Core.Bool.{Bool, true, false, cond, not}
@@ -8,33 +8,26 @@ use lib.Dec.{eqb}
 use Rattle.text.specs.declared.Alignment.{Alignment}
 use Rattle.text.specs.Line.{Glyph, numbered}
 use Rattle.reflow.specs.declared.Rule.{Rule}
-use Rattle.reflow.specs.Truncation.{offsetOf, shownFrom, truncate}
-use Rattle.reflow.specs.Runs.{runOf}
-use Rattle.reflow.specs.Truncating.{closedTruncator}
+use Rattle.reflow.specs.declared.Wrapper.{Wrapper}
+use Rattle.reflow.specs.Runs.{runOf, startRun, closedRun}
 use Rattle.reflow.proofs.Simulation.{ReadAll}
 use Rattle.reflow.proofs.WholeLine.{start-sound, start-runs, wrap-read}
 use Rattle.reflow.proofs.Pulling.{sound-closed, closed-runs}
 use Rattle.reflow.proofs.Renumbering.{renumber, lines-renumbered}
-use Rattle.reflow.proofs.Truncated.{truncated-read, truncated-renumbered}
+use Rattle.truncate.specs.Truncation.{offsetOf, shownFrom, truncate}
+use Rattle.truncate.proofs.Truncated.{truncated-read, truncated-renumbered}
 use Rattle.compose.specs.declared.Method.{Method}
 use Rattle.compose.specs.declared.Method.the-variants.{Wrapped, Truncated}
-use Rattle.compose.specs.declared.LineComposer.{LineComposer}
-use Rattle.compose.specs.declared.LineComposer.the-variants.{Wrapping, Truncating}
 use Rattle.compose.specs.Lines.{linesOf}
-use Rattle.compose.specs.Composers.{methodOf, startLine, closedLine, lineRuns, SoundLine}
+use Rattle.compose.specs.Composers.{lineRuns, SoundLine}
 
-module _ (u : Rule) where
-  pub method-starts : (method : Method) → methodOf (startLine u method) ≡ method
-  method-starts Wrapped = refl
-  method-starts (Truncated column) = refl
-
-  pub starts-sound : (method : Method) (records : List ℕ) → SoundLine u records (startLine u method)
-  starts-sound Wrapped records = start-sound u records
-  starts-sound (Truncated column) records = tt
+pub starts-sound : (u : Rule) (method : Method) (records : List ℕ) → SoundLine u method records (startRun u)
+starts-sound u Wrapped records = start-sound u records
+starts-sound u (Truncated column) records = tt
 
 module _ (u : Rule) (alignment : Alignment) where
   pub starts-runs : (method : Method) (records : List ℕ) →
-      lineRuns u alignment records (startLine u method) ≡ map runOf (linesOf u method alignment (numbered 0 records))
+      lineRuns u method alignment records (startRun u) ≡ map runOf (linesOf u method alignment (numbered 0 records))
   unfolding lineRuns linesOf truncate
   starts-runs Wrapped records = start-runs u records
   starts-runs (Truncated column) records = go (eqb (u .limit) 0) (shownFrom u (offsetOf column alignment) 0 (numbered 0 records))
@@ -54,18 +47,13 @@ module _ (u : Rule) (alignment : Alignment) where
   linesOf-renumbered Wrapped k gs = lines-renumbered u k gs
   linesOf-renumbered (Truncated column) k gs = truncated-renumbered u column alignment k gs
 
--- a composer that is closed
-module _ (u : Rule) (alignment : Alignment) (records : List ℕ) where
-  pub closed-none : (s : LineComposer) → lineRuns u alignment records (closedLine s) ≡ []
-  unfolding lineRuns closedTruncator
-  closed-none (Wrapping w) = closed-runs u records w
-  closed-none (Truncating t) = refl
+-- a wrapper that is closed
+module _ (u : Rule) (records : List ℕ) (w : Wrapper) where
+  pub closed-none : (method : Method) (alignment : Alignment) → lineRuns u method alignment records (closedRun w) ≡ []
+  unfolding lineRuns closedRun
+  closed-none Wrapped alignment = closed-runs u records w
+  closed-none (Truncated column) alignment = refl
 
-  pub closed-sound : (s : LineComposer) → SoundLine u records s → SoundLine u records (closedLine s)
-  closed-sound (Wrapping w) h = sound-closed u records w h
-  closed-sound (Truncating t) h = tt
-
-  pub closed-method : (s : LineComposer) → methodOf (closedLine s) ≡ methodOf s
-  unfolding closedTruncator
-  closed-method (Wrapping w) = refl
-  closed-method (Truncating t) = refl
+  pub closed-sound : (method : Method) → SoundLine u method records w → SoundLine u method records (closedRun w)
+  closed-sound Wrapped h = sound-closed u records w h
+  closed-sound (Truncated column) h = tt

@@ -12,16 +12,16 @@ use Rattle.text.specs.Line.{Glyph, TextLine, numbered, untilHead, linesFrom}
 use Rattle.text.proofs.TextLines.{Opens, rest, rest-is, end-within, until-take, next-opens, line-first}
 use Rattle.reflow.specs.declared.Run.{Run}
 use Rattle.reflow.specs.declared.Rule.{Rule}
-use Rattle.reflow.specs.Runs.{runOf}
+use Rattle.reflow.specs.declared.Wrapper.{Wrapper}
+use Rattle.reflow.specs.Runs.{runOf, startRun}
 use Rattle.reflow.proofs.Simulation.{ReadAll}
 use Rattle.reflow.proofs.Renumbering.{renumber, numbered-from}
 use Rattle.compose.specs.declared.Composer.{Composer}
-use Rattle.compose.specs.declared.LineComposer.{LineComposer}
 use Rattle.compose.specs.declared.Method.{Method}
 use Rattle.compose.specs.Lines.{aligned, linesOf, lineLines, allLines}
-use Rattle.compose.specs.Composers.{methodOf, startLine, lineRuns}
+use Rattle.compose.specs.Composers.{lineRuns}
 use Rattle.compose.specs.Composing.{lineAt, part, composedRun, left, Ready, Opened}
-use Rattle.compose.proofs.Methods.{method-starts, starts-sound, starts-runs, lines-read, linesOf-renumbered}
+use Rattle.compose.proofs.Methods.{starts-sound, starts-runs, lines-read, linesOf-renumbered}
 use Rattle.compose.proofs.Told.{told-line}
 
 -- the runs of lines, told of the text, are the lines numbered over the text
@@ -47,7 +47,7 @@ module _ (u : Rule) (text : List ℕ) (from to : ℕ) (a : Alignment) where
         ∙ rw z
 
     -- from the start of a text line
-    started-lines : map (λ (run : Run). lineAt u text (composedRun from a run)) (lineRuns u a records (startLine u method)) ≡ map (aligned a) (linesOf u method a (numbered from records))
+    started-lines : map (λ (run : Run). lineAt u text (composedRun from a run)) (lineRuns u method a records (startRun u)) ≡ map (aligned a) (linesOf u method a (numbered from records))
     started-lines =
         ap (map (λ (run : Run). lineAt u text (composedRun from a run))) (starts-runs u a method records)
         ∙ told-lines (linesOf u method a (numbered 0 records)) (lines-read u a method records)
@@ -69,7 +69,7 @@ module _ (u : Rule) (method : Method) (own : Alignment) (text : List ℕ) (at : 
       record {
         from-to = omega (arith, p .from, p .to);
         to-end = omega (arith, p .to, end-within text at k);
-        sound = rw (p .lines) (starts-sound u method (part text c));
+        sound = rw (p .composes, p .wrapper) (starts-sound u method (part text c));
         head = rw (p .to) (next .head);
       }
 
@@ -77,28 +77,25 @@ module _ (u : Rule) (method : Method) (own : Alignment) (text : List ℕ) (at : 
   line = record { head = getD text at 0; first = suc at; records = untilHead (drop (at + 1) text) }
 
   opened-lines :
-      map (λ (run : Run). lineAt u text (composedRun (c .from) (c .alignment) run)) (lineRuns u (c .alignment) (part text c) (c .lines))
+      map (λ (run : Run). lineAt u text (composedRun (c .from) (c .alignment) run)) (lineRuns u (c .method) (c .alignment) (part text c) (c .wrapper))
       ≡ lineLines u method own line
   unfolding lineLines
   opened-lines =
       let f : c .from ≡ suc at = p .from ∙ add-one at in
-      ap (λ (s : LineComposer). map (λ (run : Run). lineAt u text (composedRun (c .from) (c .alignment) run)) (lineRuns u (c .alignment) (part text c) s)) (p .lines)
-      ∙ started-lines u text (c .from) (c .to) (c .alignment) method
+      rw (p .composes, p .wrapper)
+      (started-lines u text (c .from) (c .to) (c .alignment) method
       ∙ ap (λ (rs : List ℕ). map (aligned (c .alignment)) (linesOf u method (c .alignment) (numbered (c .from) rs))) opened-part
-      ∙ rw (f, p .alignment)
-
-  pub opened-method : methodOf (c .lines) ≡ method
-  opened-method = ap methodOf (p .lines) ∙ method-starts u method
+      ∙ rw (f, p .alignment))
 
   pub opened-left : left u own text c ≡ allLines u method own (linesFrom at (drop at text))
   unfolding left
   opened-left =
       let n = length (untilHead (drop (at + 1) text)) in
-      rw (opened-lines, opened-method, p .to, line-first text at n k h refl)
+      rw (opened-lines, p .composes, p .to, line-first text at n k h refl)
 
 -- what `open` makes
-pub opened : (u : Rule) (method : Method) (own a : Alignment) (text : List ℕ) (at glyphs : ℕ) (s : LineComposer)
-    → glyphs ≡ length (untilHead (rest text (at + 1))) → s ≡ startLine u method → a ≡ resolved (alignmentOf (getD text at 0)) own
-    → Opened u method own text at (record { lines = s; from = at + 1; to = at + 1 + glyphs; alignment = a })
-opened u method own a text at glyphs s e f g =
-    record { lines = f; from = refl; to = rw (e, rest-is text (at + 1)); alignment = g }
+pub opened : (u : Rule) (method : Method) (own a : Alignment) (text : List ℕ) (at glyphs : ℕ) (w : Wrapper)
+    → glyphs ≡ length (untilHead (rest text (at + 1))) → w ≡ startRun u → a ≡ resolved (alignmentOf (getD text at 0)) own
+    → Opened u method own text at (record { method = method; wrapper = w; from = at + 1; to = at + 1 + glyphs; alignment = a })
+opened u method own a text at glyphs w e f g =
+    record { composes = refl; wrapper = f; from = refl; to = rw (e, rest-is text (at + 1)); alignment = g }

@@ -13,18 +13,19 @@ use Rattle.refuse.specs.Causes.{notOpening}
 use Rattle.refuse.proofs.TitleScan.{opens-start}
 use Rattle.reflow.specs.declared.Run.{Run}
 use Rattle.reflow.specs.declared.Rule.{Rule}
+use Rattle.reflow.specs.declared.Wrapper.{Wrapper}
+use Rattle.reflow.specs.declared.Next.{Next}
+use Rattle.reflow.specs.declared.Next.the-variants.{Line, Done as NoLine}
+use Rattle.reflow.specs.Runs.{startRun, closedRun}
 use Rattle.reflow.specs.Pulls.{Spans}
 use Rattle.compose.specs.declared.Method.{Method}
-use Rattle.compose.specs.declared.LineComposer.{LineComposer}
-use Rattle.compose.specs.declared.NextLine.{NextLine}
-use Rattle.compose.specs.declared.NextLine.the-variants.{Line, Done as NoLine}
 use Rattle.compose.specs.declared.Composed.{Composed}
 use Rattle.compose.specs.declared.Composer.{Composer}
 use Rattle.compose.specs.declared.Pull.the-variants.{Line as Pulls, Done}
 use Rattle.compose.specs.Lines.{allLines, lines}
 use Rattle.compose.specs.Composing.{part, composedRun, left, Ready, Opened, Started, Pulled}
-use Rattle.compose.specs.Composers.{methodOf, startLine, closedLine, lineRuns, SoundLine, PulledLine}
-use Rattle.compose.proofs.Methods.{method-starts, starts-sound, closed-none, closed-sound, closed-method}
+use Rattle.compose.specs.Composers.{lineRuns, SoundLine, PulledLine}
+use Rattle.compose.proofs.Methods.{starts-sound, closed-none, closed-sound}
 use Rattle.compose.proofs.Told.{told}
 use Rattle.compose.proofs.Opening.{opened-more, opened-ready, opened-left}
 
@@ -42,13 +43,13 @@ part-length from to text = omega (arith, length-take (to - from) (drop from text
 pub part-short : (from to : ℕ) (text : List ℕ) → length text < 2 ^ 28 → length (take (to - from) (drop from text)) < 2 ^ 28
 part-short from to text h = omega (arith, part-length from to text)
 
-module _ (u : Rule) (own : Alignment) (text : List ℕ) (s c : Composer) (p : Composing u own text s c) (o : NextLine) (q : PulledLine u (c .alignment) (part text c) (c .lines) o) where
-  module _ (run : Run) (n : LineComposer) (e : o ≡ Line run n) where
-    sound : (methodOf n ≡ methodOf (c .lines)) × SoundLine u (part text c) n × Spans u (part text c) run
+module _ (u : Rule) (own : Alignment) (text : List ℕ) (s c : Composer) (p : Composing u own text s c) (o : Next) (q : PulledLine u (c .method) (c .alignment) (part text c) (c .wrapper) o) where
+  module _ (run : Run) (n : Wrapper) (e : o ≡ Line run n) where
+    sound : SoundLine u (c .method) (part text c) n × Spans u (part text c) run
     sound = rw e at (q .sound)
 
     spans : Spans u (part text c) run
-    spans = sound .2
+    spans = sound .1
 
     pub first-fits : length text < 2 ^ 28 → c .from + run .first < 2 ^ 64
     first-fits h = omega (arith, spans .within, spans .ordered, part-length (c .from) (c .to) text, p .ready .from-to, p .ready .to-end)
@@ -57,51 +58,50 @@ module _ (u : Rule) (own : Alignment) (text : List ℕ) (s c : Composer) (p : Co
     end-fits h = omega (arith, spans .within, part-length (c .from) (c .to) text, p .ready .from-to, p .ready .to-end)
 
     pub pull-line : (line : Composed) → line ≡ composedRun (c .from) (c .alignment) run
-        → Pulled u own text s (Pulls line (record { lines = n; from = c .from; to = c .to; alignment = c .alignment }))
+        → Pulled u own text s (Pulls line (record { method = c .method; wrapper = n; from = c .from; to = c .to; alignment = c .alignment }))
     unfolding left
     pull-line line f =
-        let r : lineRuns u (c .alignment) (part text c) (c .lines) ≡ run ∷ lineRuns u (c .alignment) (part text c) n = rw e at (q .lines) in
+        let r : lineRuns u (c .method) (c .alignment) (part text c) (c .wrapper) ≡ run ∷ lineRuns u (c .method) (c .alignment) (part text c) n = rw e at (q .lines) in
         record {
-          pulled-lines = p .same ∙ rw (r, f, sound .0);
+          pulled-lines = p .same ∙ rw (r, f);
           ready = (
-            record { from-to = p .ready .from-to; to-end = p .ready .to-end; sound = sound .1; head = p .ready .head },
+            record { from-to = p .ready .from-to; to-end = p .ready .to-end; sound = sound .0; head = p .ready .head },
             rw f (told u text (c .from) (c .to) (c .alignment) run spans),
           );
         }
 
   module _ (e : o ≡ NoLine) where
-    later-left : left u own text c ≡ allLines u (methodOf (c .lines)) own (linesFrom (c .to) (drop (c .to) text))
+    later-left : left u own text c ≡ allLines u (c .method) own (linesFrom (c .to) (drop (c .to) text))
     unfolding left
-    later-left = let r : lineRuns u (c .alignment) (part text c) (c .lines) ≡ [] = rw e at (q .lines) in rw r
+    later-left = let r : lineRuns u (c .method) (c .alignment) (part text c) (c .wrapper) ≡ [] = rw e at (q .lines) in rw r
 
     pub pull-done : length text ≤ c .to → Pulled u own text s Done
     pull-done h =
-        record { pulled-lines = p .same ∙ later-left ∙ ap (λ (l : List ℕ). allLines u (methodOf (c .lines)) own (linesFrom (c .to) l)) (drop-of-length-le text h); ready = tt }
+        record { pulled-lines = p .same ∙ later-left ∙ ap (λ (l : List ℕ). allLines u (c .method) own (linesFrom (c .to) l)) (drop-of-length-le text h); ready = tt }
 
-    module _ (n : Composer) (k : c .to < length text) (f : Opened u (methodOf (c .lines)) own text (c .to) n) where
+    module _ (n : Composer) (k : c .to < length text) (f : Opened u (c .method) own text (c .to) n) where
       opens : Opens text (c .to)
       opens = record { within = p .ready .to-end; head = p .ready .head }
 
       pub composing-opens : Composing u own text s n
       composing-opens =
           record {
-            ready = opened-ready u (methodOf (c .lines)) own text (c .to) n k opens f;
-            same = p .same ∙ later-left ∙ sym (opened-left u (methodOf (c .lines)) own text (c .to) n k opens f);
+            ready = opened-ready u (c .method) own text (c .to) n k opens f;
+            same = p .same ∙ later-left ∙ sym (opened-left u (c .method) own text (c .to) n k opens f);
           }
 
       pub composing-less : length text - n .to < length text - c .to
-      composing-less = omega (arith, opened-more u (methodOf (c .lines)) own text (c .to) n k opens f)
+      composing-less = omega (arith, opened-more u (c .method) own text (c .to) n k opens f)
 
 pub ruleset composing = (composing-starts, pull-line, pull-done, composing-opens, composing-less)
 
 -- before a text's first line, the composer stands at the end of a text line that has no line left
-pub started : (u : Rule) (method : Method) (text : List ℕ) (s n : LineComposer) → n ≡ startLine u method → s ≡ closedLine n → notOpening text ≡ false
-    → Started u method text (record { lines = s; from = 0; to = 0; alignment = Left })
+pub started : (u : Rule) (method : Method) (text : List ℕ) (w n : Wrapper) → n ≡ startRun u → w ≡ closedRun n → notOpening text ≡ false
+    → Started u method text (record { method = method; wrapper = w; from = 0; to = 0; alignment = Left })
 unfolding left lines
-started u method text s n e f h =
-    let z : lineRuns u Left (take (0 - 0) (drop 0 text)) s ≡ [] = rw f (closed-none u Left _ n) in
-    let m : methodOf s ≡ method = rw (f, closed-method u Left (take (0 - 0) (drop 0 text)) n, e) (method-starts u method) in
+started u method text w n e f h =
+    let z : lineRuns u method Left (take (0 - 0) (drop 0 text)) w ≡ [] = rw f (closed-none u _ n method Left) in
     record {
-      ready = record { from-to = omega arith; to-end = omega arith; sound = rw f (closed-sound u Left _ n (rw e (starts-sound u method _))); head = opens-start text h .head };
-      lines-left = λ own. rw (z, m);
+      ready = record { from-to = omega arith; to-end = omega arith; sound = rw f (closed-sound u _ n method (rw e (starts-sound u method _))); head = opens-start text h .head };
+      lines-left = λ own. rw z;
     }

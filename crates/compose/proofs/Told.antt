@@ -17,7 +17,7 @@ use Rattle.reflow.specs.Runs.{endFrom, runOf, glyphsIn}
 use Rattle.reflow.specs.Pulls.{Spans}
 use Rattle.reflow.proofs.Renumbering.{renumber, total-map, numbered-from}
 use Rattle.compose.specs.declared.Composed.{Composed}
-use Rattle.compose.specs.Lines.{Line, aligned, endOf, composedOf}
+use Rattle.compose.specs.Lines.{aligned, endOf, composedOf}
 use Rattle.compose.specs.Composing.{lineAt, part, composedRun, Told}
 
 -- one law for each way through `composed_line`

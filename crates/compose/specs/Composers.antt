@@ -7,54 +7,37 @@ use Rattle.text.specs.declared.Alignment.{Alignment}
 use Rattle.text.specs.Line.{numbered}
 use Rattle.reflow.specs.declared.Run.{Run}
 use Rattle.reflow.specs.declared.Rule.{Rule}
-use Rattle.reflow.specs.Truncation.{offsetOf, shownFrom}
-use Rattle.reflow.specs.Runs.{runOf, startRun, closedRun}
+use Rattle.reflow.specs.declared.Wrapper.{Wrapper}
+use Rattle.reflow.specs.declared.Next.{Next}
+use Rattle.reflow.specs.declared.Next.the-variants.{Line, Done}
+use Rattle.reflow.specs.Runs.{runOf}
 use Rattle.reflow.specs.Pulls.{Sound, Spans, runs}
-use Rattle.reflow.specs.Truncating.{startTruncator, closedTruncator}
+use Rattle.truncate.specs.Truncation.{offsetOf, shownFrom}
 use Rattle.compose.specs.declared.Method.{Method}
 use Rattle.compose.specs.declared.Method.the-variants.{Wrapped, Truncated}
-use Rattle.compose.specs.declared.LineComposer.{LineComposer}
-use Rattle.compose.specs.declared.LineComposer.the-variants.{Wrapping, Truncating}
-use Rattle.compose.specs.declared.NextLine.{NextLine}
-use Rattle.compose.specs.declared.NextLine.the-variants.{Line, Done}
 
--- how it composes
-abbrev pub methodOf : LineComposer → Method
-methodOf (Wrapping w) = Wrapped
-methodOf (Truncating t) = Truncated (t .column)
-
--- before a text line's first line
-abbrev pub startLine : Rule → Method → LineComposer
-startLine u Wrapped = Wrapping (startRun u)
-startLine u (Truncated column) = Truncating (startTruncator u column)
-
--- with no line left
-abbrev pub closedLine : LineComposer → LineComposer
-closedLine (Wrapping w) = Wrapping (closedRun w)
-closedLine (Truncating t) = Truncating (closedTruncator t)
-
--- the lines that are left, over a text line's records
-unfoldable pub lineRuns : Rule → Alignment → List ℕ → LineComposer → List Run
-lineRuns u alignment records (Wrapping w) = runs u records w
-lineRuns u alignment records (Truncating t) =
-    cond (t .live) (runOf (shownFrom u (offsetOf (t .column) alignment) 0 (numbered 0 records)) ∷ []) []
+-- the lines that are left, over a text line's records. Truncation asks the wrapper only whether its line is still to come.
+unfoldable pub lineRuns : Rule → Method → Alignment → List ℕ → Wrapper → List Run
+lineRuns u Wrapped alignment records w = runs u records w
+lineRuns u (Truncated column) alignment records w =
+    cond (w .live) (runOf (shownFrom u (offsetOf column alignment) 0 (numbered 0 records)) ∷ []) []
 
 -- a state from which lines can be pulled
-abbrev pub SoundLine : Rule → List ℕ → LineComposer → Type 0
-SoundLine u records (Wrapping w) = Sound u records w
-SoundLine u records (Truncating t) = Unit {0}
+abbrev pub SoundLine : Rule → Method → List ℕ → Wrapper → Type 0
+SoundLine u Wrapped records w = Sound u records w
+SoundLine u (Truncated column) records w = Unit {0}
 
 -- what a pull hands over, and what is left after it
-abbrev pub pulledRuns : Rule → Alignment → List ℕ → NextLine → List Run
-pulledRuns u alignment records (Line run s) = run ∷ lineRuns u alignment records s
-pulledRuns u alignment records Done = []
+abbrev pub pulledRuns : Rule → Method → Alignment → List ℕ → Next → List Run
+pulledRuns u method alignment records (Line run w) = run ∷ lineRuns u method alignment records w
+pulledRuns u method alignment records Done = []
 
--- the state after a pull: it composes as before, lines can be pulled from it, and the line lies in the text line
-abbrev pub SoundNext : Rule → List ℕ → LineComposer → NextLine → Type 0
-SoundNext u records s (Line run next) = (methodOf next ≡ methodOf s) × SoundLine u records next × Spans u records run
-SoundNext u records s Done = Unit {0}
+-- the state after a pull: lines can be pulled from it, and the line lies in the text line
+abbrev pub SoundNext : Rule → Method → List ℕ → Next → Type 0
+SoundNext u method records (Line run w) = SoundLine u method records w × Spans u records run
+SoundNext u method records Done = Unit {0}
 
 -- a pull gives the first of the lines that are left, and a state that has the others
-pub record PulledLine (u : Rule) (alignment : Alignment) (records : List ℕ) (s : LineComposer) (next : NextLine) : Type 0 where
-  pub lines : lineRuns u alignment records s ≡ pulledRuns u alignment records next
-  pub sound : SoundNext u records s next
+pub record PulledLine (u : Rule) (method : Method) (alignment : Alignment) (records : List ℕ) (w : Wrapper) (next : Next) : Type 0 where
+  pub lines : lineRuns u method alignment records w ≡ pulledRuns u method alignment records next
+  pub sound : SoundNext u method records next

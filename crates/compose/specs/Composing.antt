@@ -13,12 +13,13 @@ use Rattle.text.specs.Line.{numbered, untilHead, linesFrom}
 use Rattle.reflow.specs.declared.Run.{Run}
 use Rattle.reflow.specs.declared.Rule.{Rule}
 use Rattle.reflow.specs.Wrapping.{notOverWide}
+use Rattle.reflow.specs.Runs.{startRun}
 use Rattle.compose.specs.declared.Composed.{Composed}
 use Rattle.compose.specs.declared.Composer.{Composer}
 use Rattle.compose.specs.declared.Pull.{Pull}
 use Rattle.compose.specs.declared.Pull.the-variants.{Line as PulledLine, Done}
 use Rattle.compose.specs.declared.Method.{Method}
-use Rattle.compose.specs.Composers.{methodOf, startLine, lineRuns, SoundLine}
+use Rattle.compose.specs.Composers.{lineRuns, SoundLine}
 use Rattle.compose.specs.Lines.{Line, allLines, lines, composedOf}
 
 -- "Its glyphs are those from first to end that are no wider than the limit."
@@ -43,19 +44,20 @@ composedRun from alignment run =
 -- the lines that are left: of the text line in hand, and of those after it
 unfoldable pub left : Rule → Alignment → List ℕ → Composer → List Line
 left u own text c =
-    map (λ (run : Run). lineAt u text (composedRun (c .from) (c .alignment) run)) (lineRuns u (c .alignment) (part text c) (c .lines))
-    ++ allLines u (methodOf (c .lines)) own (linesFrom (c .to) (drop (c .to) text))
+    map (λ (run : Run). lineAt u text (composedRun (c .from) (c .alignment) run)) (lineRuns u (c .method) (c .alignment) (part text c) (c .wrapper))
+    ++ allLines u (c .method) own (linesFrom (c .to) (drop (c .to) text))
 
 -- a state from which lines can be pulled
 pub record Ready (u : Rule) (text : List ℕ) (c : Composer) : Type 0 where
   pub from-to : c .from ≤ c .to
   pub to-end : c .to ≤ length text
-  pub sound : SoundLine u (part text c) (c .lines)
+  pub sound : SoundLine u (c .method) (part text c) (c .wrapper)
   pub head : c .to < length text → isHead (getD text (c .to) 0) ≡ true
 
 -- at the start of the text line whose head stands at `at`
 pub record Opened (u : Rule) (method : Method) (own : Alignment) (text : List ℕ) (at : ℕ) (c : Composer) : Type 0 where
-  pub lines : c .lines ≡ startLine u method
+  pub composes : c .method ≡ method
+  pub wrapper : c .wrapper ≡ startRun u
   pub from : c .from ≡ at + 1
   pub to : c .to ≡ at + 1 + length (untilHead (drop (at + 1) text))
   pub alignment : c .alignment ≡ resolved (alignmentOf (getD text at 0)) own

@@ -1,21 +1,12 @@
 -- Document 01, 'Rows, pages, tally': where the glyphs of a composed line start, and what becomes of each.
-use Prim.Native.Nat.{ℕ, _+_}
+use Prim.Native.Nat.{ℕ}
 use mathlib.Core.Bool.{Bool, _&&_}
 use mathlib.Core.List.{List, [], _∷_, _++_}
 use lib.Dec.{eqb, leb, ltb}
-use Rattle.text.specs.Line.{Glyph}
+use Rattle.text.specs.Line.{Start, startsFrom}
 use Rattle.compose.specs.Lines.{Line}
 
--- a glyph and where it starts
-pub record Start : Type 0 where
-  pub start : ℕ
-  pub glyph : Glyph
-
--- "In a composed line a glyph starts at the sum of the widths of its line's glyphs before it": from 0, or where "drawing adds the
--- start column", from that
-abbrev pub startsFrom : ℕ → List Glyph → List Start
-startsFrom start [] = []
-startsFrom start (g ∷ gs) = record { start = start; glyph = g } ∷ startsFrom (start + g .width) gs
+-- "In a composed line a glyph starts at the sum of the widths of its line's glyphs before it": `startsFrom`, with the glyphs in `text`.
 
 -- the glyphs that composed lines emit, each with its start in its line
 abbrev pub starts : List Line → List Start

@@ -1,10 +1,8 @@
 // The composed lines of a whole text, pulled one by one.
 
-mod line_composer;
-
+use reflow::Next;
 use reflow::Rule;
 use reflow::Run;
-use reflow::Truncator;
 use reflow::Wrapper;
 use text::Alignment;
 use text::head;
@@ -14,8 +12,8 @@ ghost use mathlib.Core.Bool.{false};
 ghost use Prim.Native.Nat.{_+_, _^_, _<_};
 ghost use lib.ListN.{length};
 ghost use Rattle.refuse.specs.Causes.{notOpening};
+ghost use Rattle.compose.specs.Composers.{SoundLine, PulledLine};
 ghost use Rattle.compose.specs.Composing.{composedRun, Ready, Opened, Started, Pulled};
-ghost use Rattle.compose.specs.Composers.{methodOf};
 
 // What is told of a composed line: its first record, one past its last, its width and its alignment.
 pub struct Composed {
@@ -31,21 +29,11 @@ pub enum Method {
     Truncated(u32),
 }
 
-// reflow.rs' `LineComposer`: which composer is at work on a text line, and where it stands.
-pub enum LineComposer {
-    Wrapping(Wrapper),
-    Truncating(Truncator),
-}
-
-// The next line of a text line, or none.
-pub enum NextLine {
-    Line(Run, LineComposer),
-    Done,
-}
-
-// Where the composing of a text stands: in the text line whose glyphs are the records from `from` to `to`.
+// Where the composing of a text stands: in the text line whose glyphs are the records from `from` to `to`. A text that is
+// truncated needs of the wrapper only whether a line is left (`live`).
 pub struct Composer {
-    pub lines: LineComposer,
+    pub method: Method,
+    pub wrapper: Wrapper,
     pub from: usize,
     pub to: usize,
     pub alignment: Alignment,
@@ -79,15 +67,40 @@ fn composed_line(from: usize, alignment: Alignment, run: Run) -> Composed
     }
 }
 
+// The next line of the text line whose records are handed on, or none: reflow.rs' `LineComposer::next_line`.
+fn next_line(
+    method: Method,
+    wrapper: Wrapper,
+    rule: Rule,
+    alignment: Alignment,
+    records: &[u32],
+) -> Next
+    requires { ⌜ SoundLine rule method (now records) wrapper ⌝ }
+    requires { ⌜ length (now records) < 2 ^ 28 ⌝ }
+    ensures { λ r. ⌜ PulledLine rule method alignment (now (records .entry)) wrapper r ⌝ }
+{
+    match method {
+        Method::Wrapped => wrapper.next_line(rule, records),
+        Method::Truncated(column) => {
+            if wrapper.live {
+                let line = truncate::line(rule, column, alignment, records);
+                return Next::Line(line, wrapper.closed());
+            }
+            Next::Done
+        }
+    }
+}
+
 impl Composer {
     // Before a text's first line.
     pub fn start(rule: Rule, method: Method, text: &[u32]) -> Composer
         requires { ⌜ notOpening (now text) ≡ false ⌝ }
         ensures { λ c. ⌜ Started rule method (now (text .entry)) c ⌝ }
     {
-        let lines = LineComposer::start(rule, method).closed();
+        let wrapper = Wrapper::start(rule).closed();
         Composer {
-            lines,
+            method,
+            wrapper,
             from: 0,
             to: 0,
             alignment: Alignment::Left,
@@ -97,16 +110,17 @@ impl Composer {
     // At the text line whose head stands at `at`.
     fn open(self, rule: Rule, own: Alignment, text: &[u32], at: usize) -> Composer
         requires { ⌜ at < length (now text) ⌝ }
-        ensures { λ c. ⌜ Opened rule (methodOf (self .lines)) own (now (text .entry)) at c ⌝ }
+        ensures { λ c. ⌜ Opened rule (self .method) own (now (text .entry)) at c ⌝ }
     {
         let from = at + 1;
         let glyphs = line::line_length(&text[from..]);
         let to = from + glyphs;
-        let before = self.lines;
-        let lines = before.restart(rule);
+        let method = self.method;
+        let wrapper = Wrapper::start(rule);
         let alignment = head::resolve(text[at], own);
         Composer {
-            lines,
+            method,
+            wrapper,
             from,
             to,
             alignment,
@@ -124,8 +138,10 @@ impl Composer {
             let from = composer.from;
             let to = composer.to;
             let alignment = composer.alignment;
-            let lines = composer.lines;
-            let NextLine::Line(run, next) = lines.next_line(rule, alignment, &text[from..to]) else {
+            let method = composer.method;
+            let wrapper = composer.wrapper;
+            let Next::Line(run, next) = next_line(method, wrapper, rule, alignment, &text[from..to])
+            else {
                 if text.len() <= to {
                     return Pull::Done;
                 }
@@ -134,7 +150,8 @@ impl Composer {
             };
             let line = composed_line(from, alignment, run);
             let rest = Composer {
-                lines: next,
+                method,
+                wrapper: next,
                 from,
                 to,
                 alignment,

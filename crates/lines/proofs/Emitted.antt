@@ -10,7 +10,7 @@ use lib.ListN.{length, length-append}
 use Rattle.text.specs.declared.Alignment.{Alignment}
 use Rattle.text.specs.Record.{alignmentOf}
 use Rattle.text.specs.Alignment.{resolved}
-use Rattle.text.specs.Line.{Glyph, TextLine, linesFrom, glyphsOf}
+use Rattle.text.specs.Line.{Glyph, TextLine, linesFrom, glyphsOf, startsFrom}
 use Rattle.text.proofs.LineGlyphs.{lineGlyphs, split-glyphs, glyphs-short}
 use Rattle.reflow.specs.declared.Rule.{Rule}
 use Rattle.reflow.specs.Wrapping.{overWide, overWides, wrap}
@@ -20,7 +20,7 @@ use Rattle.nothing_lost.proofs.Solid.{solids-append, dropped-whitespace}
 use Rattle.nothing_lost.proofs.Accounted.{accounted-lengths}
 use Rattle.compose.specs.declared.Method.the-variants.{Wrapped}
 use Rattle.compose.specs.Lines.{Line, aligned, linesOf, lineLines, allLines, lines, allSkipped, allDropped}
-use Rattle.compose.specs.Places.{startsFrom, starts}
+use Rattle.compose.specs.Places.{starts}
 
 -- the lines' glyphs, without their alignments
 abbrev pub lists : List Line → List (List Glyph)

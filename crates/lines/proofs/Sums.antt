@@ -12,7 +12,7 @@ use lib.ListN.{length, getD}
 use lib.Seq.{slice, slice-empty, slice-cons}
 use Rattle.text.specs.Record.{widthOf}
 use Rattle.text.specs.Lists.{countOf}
-use Rattle.text.specs.Line.{Glyph, glyphFrom, numbered}
+use Rattle.text.specs.Line.{Glyph, glyphFrom, numbered, Start, startsFrom}
 use Rattle.text.proofs.Lists.{count-append}
 use Rattle.reflow.specs.declared.Rule.{Rule}
 use Rattle.reflow.specs.Wrapping.{overWide, notOverWide}
@@ -20,7 +20,7 @@ use Rattle.reflow.proofs.RunLaws.{cond-cases}
 use Rattle.compose.specs.declared.Composed.{Composed}
 use Rattle.compose.specs.Lines.{Line}
 use Rattle.compose.specs.Composing.{lineAt}
-use Rattle.compose.specs.Places.{Start, startsFrom, placed, clipped, zeroWidth}
+use Rattle.compose.specs.Places.{placed, clipped, zeroWidth}
 use Rattle.lines.specs.declared.LineCounts.{LineCounts}
 use Rattle.lines.specs.Tallying.{emptyLines, withGlyph, sum, lineCounts}
 use Rattle.lines.proofs.Ways.{ways, with-zero, with-placed, with-clipped}

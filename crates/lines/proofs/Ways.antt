@@ -9,8 +9,9 @@ use borrow.Author.Tests.{eq-eqb, ne-eqb, le-leb, lt-leb, lt-ltb, le-ltb, eqb-tru
 use lib.Dec.{eqb, ltb}
 use lib.ListN.{length}
 use Rattle.text.specs.Lists.{countOf}
+use Rattle.text.specs.Line.{Start}
 use Rattle.nothing_lost.proofs.Lists.{cases}
-use Rattle.compose.specs.Places.{Start, placed, clipped, zeroWidth}
+use Rattle.compose.specs.Places.{placed, clipped, zeroWidth}
 use Rattle.lines.specs.declared.LineCounts.{LineCounts}
 use Rattle.lines.specs.Tallying.{withGlyph}
 

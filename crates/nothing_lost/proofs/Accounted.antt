@@ -9,9 +9,9 @@ use native.Mathlib.Omega.{arith}
 use borrow.Author.Tests.{eqb-true, eqb-false, ne-eqb}
 use lib.Dec.{eqb}
 use lib.ListN.{length}
-use Rattle.text.specs.Line.{Glyph, numbered}
+use Rattle.text.specs.Line.{Glyph, numbered, total}
 use Rattle.reflow.specs.declared.Rule.{Rule}
-use Rattle.reflow.specs.Wrapping.{Pending, Step, empty, total, start, overWide, takesSpaces, gathered, joined, unjoined, emptied, appended, filled, joining, step, wrapFrom, wrap, overWides}
+use Rattle.reflow.specs.Wrapping.{Pending, Step, empty, start, overWide, takesSpaces, gathered, joined, unjoined, emptied, appended, filled, joining, step, wrapFrom, wrap, overWides}
 use Rattle.text.specs.Lists.{countOf}
 use Rattle.text.proofs.Lists.{count-append}
 use Rattle.nothing_lost.specs.Glyphs.{glyphsOfAll}

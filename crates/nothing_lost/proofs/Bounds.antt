@@ -8,10 +8,10 @@ use mathlib.Core.List.{List, [], _∷_, _++_}
 use native.Mathlib.Omega.{arith}
 use borrow.Author.Tests.{ltb-true, ltb-false, leb-false, lt-ltb}
 use lib.Dec.{eqb, leb, ltb}
-use Rattle.text.specs.Line.{Glyph, glyphFrom, numbered}
+use Rattle.text.specs.Line.{Glyph, glyphFrom, numbered, total}
 use Rattle.text.proofs.Bools.{neither}
 use Rattle.reflow.specs.declared.Rule.{Rule}
-use Rattle.reflow.specs.Wrapping.{Pending, Step, Wrapped, empty, total, start, overWide, mustJoin, takesSpaces, gathered, joined, full, fitting, afterFitting, emptied, appended, filled, joining, step, lastLines, finish, wrapFrom, wrap}
+use Rattle.reflow.specs.Wrapping.{Pending, Step, Wrapped, empty, start, overWide, mustJoin, takesSpaces, gathered, joined, full, fitting, afterFitting, emptied, appended, filled, joining, step, lastLines, finish, wrapFrom, wrap}
 use Rattle.nothing_lost.specs.Glyphs.{Widths, NoWider, none, one}
 use Rattle.nothing_lost.proofs.Lists.{cases}
 use Rattle.reflow.proofs.RunLaws.{cond-cases}

@@ -7,8 +7,8 @@ use mathlib.Core.Path.{_≡_, refl}
 use mathlib.Core.Bool.{Bool, true, false, cond, _&&_, _||_}
 use mathlib.Core.List.{List, [], _∷_, map}
 use lib.Dec.{eqb, leb, ltb}
-use Rattle.text.specs.Line.{Glyph}
-use Rattle.reflow.specs.Wrapping.{total, overWide, mustJoin, takesSpaces, gathered, joined, unjoined, full, emptied, drops, appended, emitting, filled, joining, step, lastLines, finish, wrap}
+use Rattle.text.specs.Line.{Glyph, total}
+use Rattle.reflow.specs.Wrapping.{overWide, mustJoin, takesSpaces, gathered, joined, unjoined, full, emptied, drops, appended, emitting, filled, joining, step, lastLines, finish, wrap}
 
 abbrev pub is : Char → Char → Bool
 is a b = eqb (code a) (code b)

@@ -7,9 +7,9 @@ use native.Mathlib.Omega.{arith}
 use borrow.Author.Tests.{eqb-false, lt-leb}
 use lib.Dec.{eqb}
 use lib.ListN.{length, length-append}
-use Rattle.text.specs.Line.{Glyph}
+use Rattle.text.specs.Line.{Glyph, total}
 use Rattle.reflow.specs.declared.Rule.{Rule}
-use Rattle.reflow.specs.Wrapping.{Pending, Step, Wrapped, empty, start, total, takesSpaces, gathered, joined, full, filled, joining, step, lastLines, finish, wrapFrom, wrap}
+use Rattle.reflow.specs.Wrapping.{Pending, Step, Wrapped, empty, start, takesSpaces, gathered, joined, full, filled, joining, step, lastLines, finish, wrapFrom, wrap}
 use Rattle.reflow.proofs.RunLaws.{cond-cases}
 use Rattle.nothing_lost.proofs.Steps.{filled-ways, step-ways}
 

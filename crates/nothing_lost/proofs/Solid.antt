@@ -6,9 +6,9 @@ use mathlib.Core.Bool.{Bool, true, false, cond, not, _||_}
 use mathlib.Core.List.{List, [], _∷_, _++_, append-assoc, append-nil}
 use native.Mathlib.Omega.{arith}
 use lib.Dec.{eqb}
-use Rattle.text.specs.Line.{Glyph}
+use Rattle.text.specs.Line.{Glyph, total}
 use Rattle.reflow.specs.declared.Rule.{Rule}
-use Rattle.reflow.specs.Wrapping.{Pending, Step, Wrapped, empty, total, start, overWide, takesSpaces, gathered, joined, unjoined, fitting, afterFitting, emptied, appended, filled, joining, step, wrapFrom, wrap, notOverWide}
+use Rattle.reflow.specs.Wrapping.{Pending, Step, Wrapped, empty, start, overWide, takesSpaces, gathered, joined, unjoined, fitting, afterFitting, emptied, appended, filled, joining, step, wrapFrom, wrap, notOverWide}
 use Rattle.nothing_lost.specs.Glyphs.{solids, glyphsOfAll}
 use Rattle.nothing_lost.proofs.Lists.{glyphs-append}
 use Rattle.reflow.proofs.RunLaws.{cond-cases}

@@ -5,9 +5,9 @@ use mathlib.Core.Bool.{Bool, true, false, cond, not, _&&_, _||_, and-eq-true-iff
 use mathlib.Core.List.{List, [], _∷_, _++_, append-nil}
 use native.Mathlib.Omega.{arith}
 use borrow.Author.Tests.{ne-eqb}
-use Rattle.text.specs.Line.{Glyph}
+use Rattle.text.specs.Line.{Glyph, total}
 use Rattle.reflow.specs.declared.Rule.{Rule}
-use Rattle.reflow.specs.Wrapping.{Pending, Step, empty, total, start, overWide, mustJoin, full, drops, fitting, emptied, appended, emitting, filled, joining, gathered, step, lastLines, finish, wrapFrom, wrap}
+use Rattle.reflow.specs.Wrapping.{Pending, Step, empty, start, overWide, mustJoin, full, drops, fitting, emptied, appended, emitting, filled, joining, gathered, step, lastLines, finish, wrapFrom, wrap}
 use Rattle.nothing_lost.specs.Glyphs.{glyphsOfAll}
 use Rattle.nothing_lost.proofs.Lists.{cases}
 use Rattle.reflow.proofs.RunLaws.{cond-cases}

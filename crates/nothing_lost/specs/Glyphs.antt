@@ -2,8 +2,7 @@
 use Prim.Native.Nat.{ℕ, _≤_}
 use mathlib.Core.Bool.{cond}
 use mathlib.Core.List.{List, [], _∷_, _++_}
-use Rattle.text.specs.Line.{Glyph}
-use Rattle.reflow.specs.Wrapping.{total}
+use Rattle.text.specs.Line.{Glyph, total}
 
 -- the glyphs that aren't whitespace, in order
 abbrev pub solids : List Glyph → List Glyph

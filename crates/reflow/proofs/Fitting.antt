@@ -8,10 +8,10 @@ use borrow.Author.Tests.{le-leb, lt-leb, lt-ltb, le-ltb}
 use lib.ListN.{length, getD, take, drop-of-length-le}
 use lib.Seq.{slice, slice-cons, length-take-le}
 use Rattle.text.specs.Record.{widthOf}
-use Rattle.text.specs.Line.{Glyph, glyphFrom, numbered}
+use Rattle.text.specs.Line.{Glyph, glyphFrom, numbered, total}
 use Rattle.reflow.specs.declared.Run.{Run}
 use Rattle.reflow.specs.declared.Rule.{Rule}
-use Rattle.reflow.specs.Wrapping.{total, afterFitting, overWide, notOverWide}
+use Rattle.reflow.specs.Wrapping.{afterFitting, overWide, notOverWide}
 use Rattle.reflow.specs.Runs.{emptyRun, endFrom, runOf, glyphsIn, dropRun}
 use Rattle.reflow.proofs.ListRuns.{run-width}
 

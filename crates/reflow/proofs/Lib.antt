@@ -7,5 +7,3 @@ pub mod Simulation
 pub mod WholeLine
 pub mod Pulling
 pub mod Renumbering
-pub mod Truncating
-pub mod Truncated

@@ -8,10 +8,10 @@ use borrow.Author.Tests.{ne-eqb}
 use lib.Dec.{eqb}
 use lib.ListN.{length, take, drop}
 use lib.Seq.{slice, take-take, length-take-le, length-slice}
-use Rattle.text.specs.Line.{Glyph, glyphFrom, numbered}
+use Rattle.text.specs.Line.{Glyph, glyphFrom, numbered, total}
 use Rattle.reflow.specs.declared.Run.{Run}
 use Rattle.reflow.specs.declared.Rule.{Rule}
-use Rattle.reflow.specs.Wrapping.{empty, total, overWide, notOverWide}
+use Rattle.reflow.specs.Wrapping.{empty, overWide, notOverWide}
 use Rattle.reflow.specs.Runs.{emptyRun, endFrom, runOf, glyphsIn, appendRun, pushRun}
 use Rattle.reflow.specs.Pulls.{Spans}
 use Rattle.reflow.proofs.RunLaws.{cond-cases, append-first, append-second, append-both, push-first, push-more}

@@ -67,6 +67,11 @@ module _ (trim : Bool) (s : Wrapper) where
   unfolding gatherRun
   gather-row r q h e f = simp (ne-eqb (s .row .end) 0 h) (cc)
 
+  pub join-is : (row none : Run) → row ≡ gatherRun trim s → none ≡ emptyRun
+      → record { row = row; spaces = none; word = none; solid = s .solid; emitted = s .emitted; live = s .live; at = s .at } ≡ joinRun trim s
+  unfolding joinRun
+  join-is row none p e = cc
+
 module _ (u : Rule) (s : Wrapper) (w : ℕ) where
   pub over-word : u .trim ≡ true → u .limit < s .word .width + w → ltb (u .limit) (s .word .width + w) ≡ overflowing u s w
   unfolding overflowing
@@ -196,4 +201,4 @@ module _ (u : Rule) (s next : Wrapper) (last none : Run) (p : last ≡ gatherRun
   unfolding finishRun
   finish-row a = simp (← p, ne-eqb (last .end) 0 a, r)
 
-pub ruleset laws = (append-first, append-second, append-both, push-first, push-more, gather-word, gather-spaces, gather-row, over-word, over-spaces, over-both, joins-word, joins-over, joins-not, joined-yes, joined-no, full-row, full-all, full-not, emptied-is, passed-is, appended-space, appended-word, rest-dropped, rest-space, rest-word, filled-emits, filled-goes, step-wide, step-fills, closed-is, finish-done, finish-first, finish-spaces, finish-row)
+pub ruleset laws = (append-first, append-second, append-both, push-first, push-more, gather-word, gather-spaces, gather-row, join-is, over-word, over-spaces, over-both, joins-word, joins-over, joins-not, joined-yes, joined-no, full-row, full-all, full-not, emptied-is, passed-is, appended-space, appended-word, rest-dropped, rest-space, rest-word, filled-emits, filled-goes, step-wide, step-fills, closed-is, finish-done, finish-first, finish-spaces, finish-row)

@@ -8,11 +8,11 @@ use native.Mathlib.Numerals.{add-one}
 use lib.Dec.{eqb}
 use lib.ListN.{length, getD, take}
 use lib.Seq.{take-suc, length-take-le}
-use Rattle.text.specs.Line.{Glyph, glyphFrom, numbered}
+use Rattle.text.specs.Line.{Glyph, glyphFrom, numbered, total}
 use Rattle.reflow.specs.declared.Run.{Run}
 use Rattle.reflow.specs.declared.Rule.{Rule}
 use Rattle.reflow.specs.declared.Wrapper.{Wrapper}
-use Rattle.reflow.specs.Wrapping.{Pending, empty, total, overWide, mustJoin, takesSpaces, gathered, joined, unjoined, full, fitting, emptied, appended, notOverWide}
+use Rattle.reflow.specs.Wrapping.{Pending, empty, overWide, mustJoin, takesSpaces, gathered, joined, unjoined, full, fitting, emptied, appended, notOverWide}
 use Rattle.reflow.specs.Runs.{runOf, appendRun, pushRun, dropRun, gatherRun, joinRun, overflowing, joins, joinedRun, fullRun, emptiedRun, passedRun, appendedRun}
 use Rattle.reflow.specs.Pulls.{Shows, Sound, Spans}
 use Rattle.reflow.proofs.RunLaws.{cond-cases}

@@ -1,5 +1,3 @@
 pub mod Wrapping
-pub mod Truncation
 pub mod Runs
 pub mod Pulls
-pub mod Truncating

@@ -1,7 +1,7 @@
 -- Lines pulled one by one: what a state of the wrapper stands for, the lines that are left, and what a pull gives.
 use Prim.Native.Nat.{ℕ, _+_, _≤_}
 use mathlib.Core.Path.{_≡_}
-use mathlib.Core.Bool.{Bool, true, false, cond}
+use mathlib.Core.Bool.{false, cond}
 use mathlib.Core.List.{List, [], _∷_, _++_}
 use lib.ListN.{length, take, drop}
 use Rattle.text.specs.Line.{Glyph, numbered}

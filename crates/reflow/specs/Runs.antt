@@ -2,12 +2,11 @@
 -- show that the two agree.
 use Prim.Native.Nat.{ℕ, _+_, _-_}
 use mathlib.Core.Bool.{Bool, true, false, cond, not, _&&_, _||_}
-use mathlib.Core.List.{List, [], _∷_, _++_}
+use mathlib.Core.List.{List, [], _∷_}
 use lib.Dec.{eqb, leb, ltb}
-use lib.ListN.{drop}
 use lib.Seq.{slice}
 use Rattle.text.specs.Record.{widthOf, whitespaceOf}
-use Rattle.text.specs.Line.{Glyph, numbered}
+use Rattle.text.specs.Line.{Glyph, numbered, total}
 use Rattle.reflow.specs.declared.Run.{Run}
 use Rattle.reflow.specs.declared.Rule.{Rule}
 use Rattle.reflow.specs.declared.Wrapper.{Wrapper}
@@ -15,7 +14,7 @@ use Rattle.reflow.specs.declared.Stepped.{Stepped}
 use Rattle.reflow.specs.declared.Stepped.the-variants.{Emitted, Went}
 use Rattle.reflow.specs.declared.Next.{Next}
 use Rattle.reflow.specs.declared.Next.the-variants.{Line, Done}
-use Rattle.reflow.specs.Wrapping.{total, notOverWide, afterFitting}
+use Rattle.reflow.specs.Wrapping.{notOverWide, afterFitting}
 
 abbrev pub emptyRun : Run
 emptyRun = record { first = 0; end = 0; width = 0 }

@@ -3,7 +3,7 @@ use Prim.Native.Nat.{ℕ, _+_, _-_}
 use mathlib.Core.Bool.{Bool, true, false, cond, not, _&&_, _||_}
 use mathlib.Core.List.{List, [], _∷_, _++_}
 use lib.Dec.{eqb, leb, ltb}
-use Rattle.text.specs.Line.{Glyph}
+use Rattle.text.specs.Line.{Glyph, total}
 use Rattle.reflow.specs.declared.Rule.{Rule}
 
 -- row, spaces and word, and "previous was solid"
@@ -22,10 +22,7 @@ abbrev pub empty : {A : Type 0} → List A → Bool
 empty [] = true
 empty (x ∷ xs) = false
 
--- "A list's width is its sum."
-abbrev pub total : List Glyph → ℕ
-total [] = 0
-total (g ∷ gs) = g .width + total gs
+-- "A list's width is its sum.": `total`, with the glyphs in `text`.
 
 -- What a glyph comes to: the lines emitted, none or one, the glyphs dropped, and what is pending then.
 pub record Step : Type 0 where

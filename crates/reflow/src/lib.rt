@@ -1,6 +1,5 @@
-// The lines of one text line: reflow.rs' `WordWrapper`, its pending graphemes as runs of records, and its `LineTruncator`.
+// The lines of one text line: reflow.rs' `WordWrapper`, its pending graphemes as runs of records.
 
-mod line_truncator;
 mod runs;
 mod word_wrapper;
 
@@ -40,10 +39,4 @@ pub enum Stepped {
 pub enum Next {
     Line(Run, Wrapper),
     Done,
-}
-
-// Truncation of a text line in a text that is scrolled to the right by `column`. `live` says that its line is still to come.
-pub struct Truncator {
-    pub column: u32,
-    pub live: bool,
 }

@@ -29,8 +29,8 @@ add-to c =
     let start = c .before .before .before in
     omega (arith, c .line-length .ensures, rest-within (start .args .text .now) (start .args .at) (start .pre))
 
-restart-requires : tie.Need-restart-requires
-restart-requires c κs = search needs
+start-requires : tie.Need-start-requires
+start-requires c κs = search needs
 
 mul-resolve : tie.Need-mul-resolve
 mul-resolve c = search needs
@@ -55,7 +55,7 @@ open-spec =
     part-line-length-end
     line-length-requires
     add-to
-    restart-requires
+    start-requires
     mul-resolve
     shared-slice-read-resolve
     resolve-requires

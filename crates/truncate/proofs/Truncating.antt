@@ -11,12 +11,12 @@ use lib.ListN.{length, getD, drop, drop-of-length-le}
 use lib.Seq.{drop-cons}
 use Rattle.text.specs.Record.{widthOf}
 use Rattle.text.specs.Line.{Glyph, glyphFrom, numbered}
 use Rattle.reflow.specs.declared.Run.{Run}
 use Rattle.reflow.specs.declared.Rule.{Rule}
 use Rattle.reflow.specs.Wrapping.{overWide}
 use Rattle.reflow.specs.Runs.{emptyRun, runOf, pushRun}
-use Rattle.reflow.specs.Truncation.{ends, swallows, shownFrom}
+use Rattle.truncate.specs.Truncation.{ends, swallows, shownFrom}
 use Rattle.reflow.proofs.ListRuns.{run-push}
 
 -- The invariant: the run is that of the glyphs shown so far, and the others to be shown are those from record i on.
 pub record Showing (u : Rule) (records : List ℕ) (offset₀ offset : ℕ) (run : Run) (i : ℕ) : Type 0 where

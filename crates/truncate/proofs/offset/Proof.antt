@@ -1,8 +1,8 @@
--- `reflow::Truncator::offset` meets its contract.
+-- `truncate::offset` meets its contract.
 use borrow.Author.Needs.{needs}
-use Rattle.reflow.specs.Truncation.{offsetOf}
-use Rattle.reflow.proofs.Truncator.offset.Statement.{statement}
-use Rattle.reflow.proofs.Truncator.offset.Tie as tie
+use Rattle.truncate.specs.Truncation.{offsetOf}
+use Rattle.truncate.proofs.offset.Statement.{statement}
+use Rattle.truncate.proofs.offset.Tie as tie
 
 enum-told : tie.Need-enum-told
 enum-told c = search needs

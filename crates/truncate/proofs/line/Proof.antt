@@ -1,7 +1,7 @@
--- `reflow::Truncator::line` meets its contract.
+-- `truncate::line` meets its contract.
 use borrow.Author.Needs.{needs}
-use Rattle.reflow.proofs.Truncator.line.Statement.{statement}
-use Rattle.reflow.proofs.Truncator.line.Tie as tie
+use Rattle.truncate.proofs.line.Statement.{statement}
+use Rattle.truncate.proofs.line.Tie as tie
 
 offset-requires : tie.Need-offset-requires
 offset-requires c κs = search needs

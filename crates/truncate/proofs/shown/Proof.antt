@@ -1,13 +1,13 @@
--- `reflow::line_truncator::shown` meets its contract.
+-- `truncate::shown` meets its contract.
 use Prim.Native.Nat.{_-_}
 use mathlib.Core.Logic.{⊎-elim}
 use native.Mathlib.Omega.{arith}
 use borrow.Author.Needs.{needs}
 use borrow.Author.Tests.{leb-true}
 use lib.ListN.{length}
-use Rattle.reflow.proofs.Truncating.{Showing, showing}
-use Rattle.reflow.proofs.line_truncator.shown.Statement.{statement}
-use Rattle.reflow.proofs.line_truncator.shown.Tie as tie
+use Rattle.truncate.proofs.Truncating.{Showing, showing}
+use Rattle.truncate.proofs.shown.Statement.{statement}
+use Rattle.truncate.proofs.shown.Tie as tie
 
 abbrev Inv-loop : tie.InvT-loop
 Inv-loop rule offset records offset₀ run₀ i₀ offset' run i = Showing rule records offset offset' run i

@@ -1,0 +1,60 @@
+// The line of a text line that isn't wrapped: reflow.rs' `LineTruncator`.
+
+use reflow::Rule;
+use reflow::Run;
+use text::Alignment;
+use text::glyph;
+ghost use mathlib.Core.Path.{_≡_};
+ghost use Prim.Native.Nat.{_^_, _<_};
+ghost use lib.ListN.{length};
+ghost use Rattle.text.specs.Line.{numbered};
+ghost use Rattle.reflow.specs.Runs.{runOf};
+ghost use Rattle.truncate.specs.Truncation.{offsetOf, shownFrom};
+
+// How much the scroll to the right takes from a line: only left lines are scrolled.
+fn offset(column: u32, alignment: Alignment) -> u32
+    ensures { λ r. ⌜ r ≡ offsetOf column alignment ⌝ }
+{
+    match alignment {
+        Alignment::Left => column,
+        Alignment::Center => 0,
+        Alignment::Right => 0,
+    }
+}
+
+// The glyphs of a text line that are shown, where the offset swallows those before them.
+fn shown(rule: Rule, offset: u32, records: &[u32]) -> Run
+    requires { ⌜ length (now records) < 2 ^ 28 ⌝ }
+    ensures { λ r. ⌜ r ≡ runOf (shownFrom rule offset 0 (numbered 0 (now (records .entry)))) ⌝ }
+{
+    let mut offset = offset;
+    let mut run = Run::empty();
+    let mut i = 0;
+    while i < records.len() {
+        let at = i;
+        let w = glyph::width(records[at]);
+        i += 1;
+        if rule.limit < w {
+            continue;
+        }
+        if rule.limit < run.width + w {
+            return run;
+        }
+        if 0 < offset && w <= offset {
+            offset -= w;
+            continue;
+        }
+        offset = 0;
+        run = run.push(at, w);
+    }
+    run
+}
+
+// The line of the text line whose records are handed on, where the text is scrolled to the right by `column`.
+pub fn line(rule: Rule, column: u32, alignment: Alignment, records: &[u32]) -> Run
+    requires { ⌜ length (now records) < 2 ^ 28 ⌝ }
+    ensures { λ r. ⌜ r ≡ runOf (shownFrom rule (offsetOf column alignment) 0 (numbered 0 (now (records .entry)))) ⌝ }
+{
+    let taken = offset(column, alignment);
+    shown(rule, taken, records)
+}
