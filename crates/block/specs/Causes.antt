@@ -35,12 +35,13 @@ abbrev pub shadowSymbols : Shadow → List ℕ
 shadowSymbols Absent = []
 shadowSymbols (Present effect style x y) = effectSymbols effect
 
--- those of a block's borders, also of sides that aren't drawn, and of its shadow
+-- those of a block's borders, also of sides that aren't drawn
 unfoldable pub borderSymbols : BorderSet → List ℕ
 borderSymbols s =
     s .«top_left» ∷ s .«top_right» ∷ s .«bottom_left» ∷ s .«bottom_right»
     ∷ s .«vertical_left» ∷ s .«vertical_right» ∷ s .«horizontal_top» ∷ s .«horizontal_bottom» ∷ []
 
+-- and with them its shadow's
 unfoldable pub blockSymbols : Block → List ℕ
 blockSymbols b = borderSymbols (b .«border_set») ++ shadowSymbols (b .shadow)
 

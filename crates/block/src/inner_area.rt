@@ -9,7 +9,7 @@ ghost use Rattle.num.specs.Held.{held};
 ghost use Rattle.block.specs.Inner.{movedIn, taken, atTop, atBottom, innerOf, spaceOf, horizontalSpace, verticalSpace};
 
 // 1 where something stands.
-fn cells_taken(stands: bool) -> u16
+pub fn cells_taken(stands: bool) -> u16
     ensures { λ r. ⌜ r ≡ taken stands ⌝ }
 {
     if stands { 1 } else { 0 }

@@ -5,7 +5,7 @@ use text::Alignment;
 use text::TitlePosition;
 
 pub mod causes;
-mod inner_area;
+pub mod inner_area;
 mod paddings;
 pub mod titled;
 

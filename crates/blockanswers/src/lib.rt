@@ -6,18 +6,20 @@ use block::InnerArea;
 use block::causes;
 use blockcases::Case;
 use blockcases::parts::Part;
+use blocksettings::many_titles;
+use blocksettings::many_titles::Manner;
 use blocksettings::titles;
+use blocksettings::words::four_on;
 use blocksettings::words::write_words;
 use buffer::Screen;
 use cases::random::next;
 use cases::random::seed;
+use draw_block::Framed;
+use draw_block::draw_block;
 use layout::Rect;
-use refuse::Ceilings;
-use refuse::screen::screen_wrong;
-ghost use mathlib.Core.Path.{_≡_};
 ghost use Prim.Native.Nat.{_≤_};
 ghost use lib.ListN.{length};
-ghost use Rattle.refuse.specs.Causes.{mostAccepted, screenWrong};
+ghost use Rattle.blocksettings.specs.Titles.{Bounded};
 ghost use Rattle.blockcases.specs.Sizes.{Writable};
 
 // The sum of an answer, or that there is none.
@@ -54,33 +56,21 @@ fn inner(case: Case) -> Answer
     inner_with(case, &mut records)
 }
 
-// Whether a call would refuse a screen with so many cells.
-fn is_refused(screen: Screen, cells: usize) -> bool
-    ensures { λ r. ⌜ r ≡ screenWrong mostAccepted (screen .columns) (screen .rows) cells ⌝ }
-{
-    screen_wrong(
-        Ceilings::accepted(),
-        screen.columns as u32,
-        screen.rows as u32,
-        cells,
-    )
-}
-
-// Every cell of the screen after the drawing. A screen or symbols that a call would refuse are refused here.
+// Every cell of the screen after the drawing.
 fn sum_drawn(
     screen: Screen,
     cells: &mut [u64],
     styles: &[u64],
+    titles: &[u32],
     block: Block,
     area: Rect,
 ) -> Answer {
-    if is_refused(screen, cells.len()) {
+    let columns = screen.columns as u32;
+    let rows = screen.rows as u32;
+    let answer = draw_block(columns, rows, cells, styles, titles, area, block);
+    if let Framed::Refused(_) = answer {
         return Answer::Refused;
     }
-    if block.symbols_wrong() {
-        return Answer::Refused;
-    }
-    frame::draw_on(screen, cells, styles, block, area);
     Answer::Sum(checksum::sum_entries(cells))
 }
 
@@ -88,13 +78,44 @@ fn cells_of(columns: u16, rows: u16) -> usize {
     (columns as usize) * (rows as usize)
 }
 
+// The manner in which the titles of a case are made.
+fn manner(case: Case) -> Manner
+    requires { ⌜ Writable case ⌝ }
+    ensures { λ r. ⌜ Bounded r ⌝ }
+{
+    Manner {
+        titles: case.titles,
+        glyphs: case.glyphs,
+        styles: case.styles,
+    }
+}
+
+// Writes the titles of a case, and asks.
+fn titled_with(case: Case, styles: &[u64], records: &mut [u32], cells: &mut [u64]) -> Answer
+    requires { ⌜ Writable case ⌝ }
+    requires { ⌜ 4112 ≤ length (now records) ⌝ }
+{
+    let block = case.block;
+    let area = case.area;
+    let screen = case.screen;
+    let x = four_on(seed(next(next(case.seed))));
+    let n = many_titles::write_many(records, manner(case), x);
+    sum_drawn(screen, cells, styles, &records[..n], block, area)
+}
+
+// Asks with the titles of a case, if it has any.
+fn titled(case: Case, styles: &[u64], cells: &mut [u64]) -> Answer
+    requires { ⌜ Writable case ⌝ }
+{
+    let mut records = [0u32; 4112];
+    titled_with(case, styles, &mut records, cells)
+}
+
 // Writes the styles and the cells of a case, and asks.
 fn drawn_with(case: Case, styles: &mut [u64], cells: &mut [u64]) -> Answer
     requires { ⌜ Writable case ⌝ }
     requires { ⌜ 8 ≤ length (now styles) ⌝ }
 {
-    let block = case.block;
-    let area = case.area;
     let screen = case.screen;
     let count = case.styles as usize;
     let size = cells_of(screen.columns, screen.rows);
@@ -103,7 +124,7 @@ fn drawn_with(case: Case, styles: &mut [u64], cells: &mut [u64]) -> Answer
     }
     write_words(styles, count, 268435456, seed(case.seed));
     write_words(cells, size, 1, seed(next(case.seed)));
-    sum_drawn(screen, &mut cells[..size], &styles[..count], block, area)
+    titled(case, &styles[..count], &mut cells[..size])
 }
 
 fn drawn(case: Case, cells: &mut [u64]) -> Answer
@@ -119,8 +140,7 @@ fn ask(part: Part, case: Case, cells: &mut [u64]) -> Answer
 {
     match part {
         Part::Inner => inner(case),
-        Part::Small => drawn(case, cells),
-        Part::Large => drawn(case, cells),
+        _ => drawn(case, cells),
     }
 }
 

@@ -6,19 +6,19 @@ use blocksettings::areas::area;
 use blocksettings::borders;
 use blocksettings::shadows::shadow;
 use blocksettings::shadows::style;
+use blocksettings::titles::alignment_of;
+use blocksettings::titles::position_of;
 use blocksettings::words::four_on;
 use buffer::Screen;
 use cases::random::below;
 use cases::random::next;
 use cases::random::seed;
-use text::Alignment;
-use text::TitlePosition;
 ghost use Prim.Native.Nat.{_<_, _≤_};
 ghost use Rattle.blocksettings.specs.Screens.{Accepted};
 ghost use Rattle.blockcases.specs.Sizes.{Writable};
 
 // The block of a number with so many styles, made of x and the numbers after it. Its shadow is moved by up to `reach`.
-fn block(number: u32, styles: u32, reach: u32, x: u32) -> Block
+pub fn block(number: u32, styles: u32, reach: u32, x: u32) -> Block
     requires { ⌜ (0 < styles) × (styles ≤ 8) ⌝ }
     requires { ⌜ reach ≤ 128 ⌝ }
 {
@@ -30,9 +30,9 @@ fn block(number: u32, styles: u32, reach: u32, x: u32) -> Block
         border_style: style(a, styles),
         style: style(b, styles),
         padding: Padding::uniform(1),
-        titles_style: 0,
-        titles_alignment: Alignment::Left,
-        titles_position: TitlePosition::Top,
+        titles_style: style(four_on(b), styles),
+        titles_alignment: alignment_of(number / 64),
+        titles_position: position_of(number / 192),
         shadow: shadow(number / 16 % 4, next(b), styles, reach),
     }
 }
@@ -50,6 +50,7 @@ fn case(number: u32, screen: Screen, reach: u32, x: u32) -> Case
         area: area(y, screen),
         screen: screen,
         titles: 0,
+        glyphs: 0,
         styles: styles,
         seed: x,
     }

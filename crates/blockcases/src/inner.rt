@@ -8,6 +8,7 @@ use block::Shadow;
 use blocksettings::axes::Axis;
 use blocksettings::axes::axis_of;
 use blocksettings::borders;
+use blocksettings::titles::position_of;
 use buffer::Screen;
 use cases::random::below;
 use cases::random::seed;
@@ -15,14 +16,6 @@ use layout::Rect;
 use text::Alignment;
 use text::TitlePosition;
 ghost use Rattle.blockcases.specs.Sizes.{Writable};
-
-// The position of a number, 0 or 1.
-fn position(number: u32) -> TitlePosition {
-    if number == 0 {
-        return TitlePosition::Top;
-    }
-    TitlePosition::Bottom
-}
 
 // A block with the symbols of x, whose own titles stand at a position.
 fn block(across: Axis, down: Axis, position: TitlePosition, x: u32) -> Block {
@@ -64,14 +57,15 @@ pub fn case(number: u32) -> Case
         height: down.size,
     };
     Case {
-        block: block(across, down, position(number / 5 % 2), x),
+        block: block(across, down, position_of(number / 5), x),
         area: area,
         screen: Screen {
             columns: 0,
             rows: 0,
         },
         titles: number % 5,
-        styles: 0,
+        glyphs: 2,
+        styles: 1,
         seed: x,
     }
 }

@@ -1,13 +1,16 @@
-// The three parts of the cases, in their order.
+// The parts of the cases, in their order.
 use crate::Case;
 use crate::drawn;
 use crate::inner;
+use crate::titled;
 ghost use Rattle.blockcases.specs.Sizes.{Writable};
 
 pub enum Part {
     Inner,
     Small,
     Large,
+    Titled,
+    Wide,
 }
 
 // How many cases a part has.
@@ -16,6 +19,8 @@ pub fn count(part: Part) -> u32 {
         Part::Inner => 49000,
         Part::Small => 40000,
         Part::Large => 48,
+        Part::Titled => 48000,
+        Part::Wide => 1536,
     }
 }
 
@@ -27,5 +32,7 @@ pub fn case(part: Part, number: u32) -> Case
         Part::Inner => inner::case(number),
         Part::Small => drawn::small(number),
         Part::Large => drawn::large(number),
+        Part::Titled => titled::small(number),
+        Part::Wide => titled::wide(number),
     }
 }

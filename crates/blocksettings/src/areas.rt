@@ -4,7 +4,7 @@ use buffer::Screen;
 use cases::random::below;
 use cases::random::next;
 use layout::Rect;
-ghost use Prim.Native.Nat.{_<_};
+ghost use Prim.Native.Nat.{_<_, _≤_};
 ghost use Rattle.blocksettings.specs.Screens.{Accepted};
 
 // A place among the cells of a row or a column.
@@ -41,6 +41,27 @@ fn size(x: u32, cells: u16) -> u16
         7 => cells + 1,
         8 => 65535,
         _ => 1 + place(next(x), cells),
+    }
+}
+
+// At least half of the cells, and that much again past their end at most.
+fn roomy_size(x: u32, cells: u16) -> u16
+    requires { ⌜ 0 < cells ⌝ }
+    requires { ⌜ cells ≤ 512 ⌝ }
+{
+    1 + cells / 2 + place(x, cells)
+}
+
+// An area made of x and the three numbers after it, with at least half the screen's columns and rows.
+pub fn roomy(x: u32, screen: Screen) -> Rect
+    requires { ⌜ Accepted screen ⌝ }
+{
+    let y = next(next(x));
+    Rect {
+        x: below(x, 4) as u16,
+        y: below(y, 2) as u16,
+        width: roomy_size(next(x), screen.columns),
+        height: roomy_size(next(y), screen.rows),
     }
 }
 

@@ -2,9 +2,12 @@
 use block::BorderSet;
 use block::Borders;
 use cases::random::next;
+ghost use Prim.Native.Nat.{_<_, _^_};
 
 // A symbol: the upper 21 bits of x.
-pub fn symbol(x: u32) -> u32 {
+pub fn symbol(x: u32) -> u32
+    ensures { λ r. ⌜ r < 2 ^ 21 ⌝ }
+{
     x / 2048
 }
 

@@ -1,11 +1,30 @@
-// The titles of blocks: up to two, of up to three records each.
+// Where the titles of a block stand, and those of a block whose inner area is asked for: up to two, of up to three records each.
 use cases::random::below;
 use cases::random::next;
+use text::Alignment;
+use text::TitlePosition;
 ghost use Prim.Native.Nat.{_<_, _≤_};
 ghost use lib.ListN.{length};
 
+// The alignment of a number.
+pub fn alignment_of(number: u32) -> Alignment {
+    match number % 3 {
+        0 => Alignment::Left,
+        1 => Alignment::Center,
+        _ => Alignment::Right,
+    }
+}
+
+// The position of a number.
+pub fn position_of(number: u32) -> TitlePosition {
+    if number % 2 == 0 {
+        return TitlePosition::Top;
+    }
+    TitlePosition::Bottom
+}
+
 // A head of any alignment.
-fn head(position: u32, x: u32) -> u32
+pub fn head(position: u32, x: u32) -> u32
     requires { ⌜ position < 4 ⌝ }
 {
     2147483648 + below(x, 4) * 536870912 + position * 134217728
@@ -14,7 +33,7 @@ fn head(position: u32, x: u32) -> u32
 // The record at a place: the first title stands at the top, at the bottom or at the block's own position, the second at the bottom.
 // Any number of 31 bits is a glyph.
 fn record_at(place: usize, kind: u32, x: u32) -> u32
-    requires { ⌜ kind < 5 ⌝ }
+    requires { ⌜ kind ≤ 16 ⌝ }
 {
     match place {
         0 => head((kind + 2) % 3, x),
@@ -37,7 +56,7 @@ pub fn count(kind: u32, x: u32) -> usize
 // Writes the records of two titles, of which a kind may have fewer.
 pub fn write_titles(titles: &mut [u32], kind: u32, seed: u32)
     requires { ⌜ 6 ≤ length (now titles) ⌝ }
-    requires { ⌜ kind < 5 ⌝ }
+    requires { ⌜ kind ≤ 16 ⌝ }
 {
     let mut x = seed;
     let mut i = 0;

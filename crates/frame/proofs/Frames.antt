@@ -1,6 +1,6 @@
 -- The whole frame, and the block on the cells that its area and the screen share: one law for each way through the code.
-use Prim.Native.Nat.{ℕ, _<_}
-use mathlib.Core.Path.{_≡_, refl, sym, _∙_}
+use Prim.Native.Nat.{ℕ, _<_, _^_}
+use mathlib.Core.Path.{_≡_, sym, _∙_}
 use mathlib.Core.Bool.{Bool, true, false, not}
 use mathlib.Core.List.{List, [], _∷_}
 use Rattle.layout.specs.declared.Rect.{Rect}
@@ -14,20 +14,29 @@ use Rattle.buffer.specs.Parts.{OnScreen}
 use Rattle.buffer.proofs.Drawn.{drawn-also}
 use Rattle.buffer.proofs.OnScreen.{meeting-on-screen}
 use Rattle.buffer.proofs.Order.{first-then, only-drawn, only-spared}
+use Rattle.borders.specs.Borders.{sides, corners}
+use Rattle.titles.specs.Titles.{titlesOn}
 use Rattle.shadow.specs.Shadow.{shadowOf}
-use Rattle.frame.specs.Frame.{sides, corners, frame, blockOf}
+use Rattle.frame.specs.Frame.{frame, blockOf}
 use Rattle.frame.specs.Fitting.{HasCells}
 
-module _ (columns : ℕ) (styles : List ℕ) (screen : Screen) (b : Block) (cells : List ℕ) where
-  -- style, sides and corners, shadow
+module _ (columns : ℕ) (styles : List ℕ) (screen : Screen) (titles : List ℕ) (b : Block) (cells : List ℕ) where
+  -- sides and corners, then titles
+  pub borders-titles-drawn : (met : Rect) (next last : List ℕ)
+      → next ≡ drawn columns (inOrder (sides styles b met ∷ corners styles b met ∷ [])) cells
+      → last ≡ drawn columns (titlesOn styles b met titles) next
+      → last ≡ drawn columns (inOrder (sides styles b met ∷ corners styles b met ∷ titlesOn styles b met titles ∷ [])) cells
+  borders-titles-drawn met next last p q = drawn-also columns _ (titlesOn styles b met titles) cells next last p q
+
+  -- style, borders and titles, shadow
   pub frame-drawn : (met : Rect) (style : ℕ) (first second last : List ℕ) → style ≡ styleAt styles (b .style)
       → first ≡ drawn columns (over met (inked (Style style))) cells
-      → second ≡ drawn columns (inOrder (sides styles b met ∷ corners styles b met ∷ [])) first
+      → second ≡ drawn columns (inOrder (sides styles b met ∷ corners styles b met ∷ titlesOn styles b met titles ∷ [])) first
       → last ≡ drawn columns (shadowOf styles screen met (b .shadow)) second
-      → last ≡ drawn columns (frame styles screen b met) cells
+      → last ≡ drawn columns (frame styles screen titles b met) cells
   unfolding frame inked
   frame-drawn met style first second last e p q r =
-      first-then columns _ (sides styles b met ∷ corners styles b met ∷ shadowOf styles screen met (b .shadow) ∷ []) cells first last
+      first-then columns _ (sides styles b met ∷ corners styles b met ∷ titlesOn styles b met titles ∷ shadowOf styles screen met (b .shadow) ∷ []) cells first last
       (rw e at p) (drawn-also columns _ (shadowOf styles screen met (b .shadow)) first second last q r)
 
   module _ (area all met : Rect) (a : all ≡ areaOf screen) (m : met ≡ meet area all) (empty : Bool) (f : empty ≡ isEmpty met) (some : 0 < columns) where
@@ -35,15 +44,15 @@ module _ (columns : ℕ) (styles : List ℕ) (screen : Screen) (b : Block) (cell
     met-is = rw a at m
 
     -- an empty meeting draws no cell
-    pub block-left : empty ≡ true → cells ≡ drawn columns (blockOf styles screen b area) cells
+    pub block-left : empty ≡ true → cells ≡ drawn columns (blockOf styles screen titles b area) cells
     unfolding blockOf
     block-left g =
         let h : isEmpty (meet area (areaOf screen)) ≡ true = rw met-is at (sym f ∙ g) in
         only-spared columns (not (isEmpty (meet area (areaOf screen)))) _ cells some (rw h)
 
     -- any other is drawn over
-    pub block-drawn : empty ≡ false → (next : List ℕ) → next ≡ drawn columns (frame styles screen b met) cells
-        → next ≡ drawn columns (blockOf styles screen b area) cells
+    pub block-drawn : empty ≡ false → (next : List ℕ) → next ≡ drawn columns (frame styles screen titles b met) cells
+        → next ≡ drawn columns (blockOf styles screen titles b area) cells
     unfolding blockOf
     block-drawn g next p =
         let h : isEmpty (meet area (areaOf screen)) ≡ false = rw met-is at (sym f ∙ g) in
@@ -57,4 +66,11 @@ met-on-screen screen n area all met empty h a m f g = meeting-on-screen screen n
 pub met-cells : (met : Rect) (empty : Bool) → empty ≡ isEmpty met → empty ≡ false → isEmpty met ≡ false
 met-cells met empty f g = sym f ∙ g
 
-pub ruleset frames = (frame-drawn, block-left, block-drawn, met-on-screen, met-cells)
+-- a screen with cells has few columns and few rows
+pub few-columns : (screen : Screen) (n : ℕ) → HasCells screen n → screen .columns < 2 ^ 15
+few-columns screen n h = h .few-columns
+
+pub few-rows : (screen : Screen) (n : ℕ) → HasCells screen n → screen .rows < 2 ^ 15
+few-rows screen n h = h .few-rows
+
+pub ruleset frames = (borders-titles-drawn, frame-drawn, block-left, block-drawn, met-on-screen, met-cells, few-columns, few-rows)

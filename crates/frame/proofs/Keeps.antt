@@ -1,170 +1,94 @@
--- Theorem `block-keeps`: where the inner area of the met area has a cell, all that a block draws so far (style, sides, corners and
--- shadow; titles are to come) keeps the cell's symbol. A style keeps all symbols; the sides and corners that are drawn lie outside
--- the inner area, which lies in the met area; and the shadow spares the met area's own cells.
+-- Theorem `block-keeps`: where the inner area of the met area has a cell, all that a block draws keeps the cell's symbol. A style keeps
+-- all symbols; the sides, corners and titles that are drawn lie outside the inner area, which lies in the met area; and the shadow
+-- spares the met area's own cells.
 use Prim.Native.Nat.{ℕ, _+_, _-_, _<_, _≤_, min}
-use mathlib.Core.Path.{_≡_, refl, ap, _∙_}
-use mathlib.Core.Bool.{Bool, true, false, cond, not, _&&_, and-eq-true-iff}
-use mathlib.Core.Logic.{inl, inr}
+use mathlib.Core.Path.{_≡_, refl}
+use mathlib.Core.Bool.{Bool, true, false, not, or-true}
 use mathlib.Core.List.{List, [], _∷_}
 use native.Mathlib.Omega.{arith}
-use borrow.Author.Tests.{leb-true, ltb-true}
 use Rattle.num.specs.Held.{held}
+use Rattle.text.specs.declared.TitlePosition.the-variants.{Top, Bottom}
 use Rattle.layout.specs.declared.Rect.{Rect}
-use Rattle.layout.specs.Rect.{rightOf, bottomOf, meet, isEmpty, within, contains}
+use Rattle.layout.specs.Rect.{rightOf, bottomOf, meet, isEmpty, contains}
 use Rattle.cell.specs.Cell.{cellFrom, styled}
-use Rattle.cell.proofs.Fields.{styled-symbol}
 use Rattle.block.specs.declared.Block.{Block}
-use Rattle.block.specs.Inner.{atLeft, atTop, atRight, atBottom, taken, innerOf}
-use Rattle.block.proofs.Within.{Inside, inside}
+use Rattle.block.specs.Inner.{atTop, atBottom, hasTitleAt, innerOf}
+use Rattle.block.proofs.Within.{Inside}
 use Rattle.buffer.specs.declared.Screen.{Screen}
-use Rattle.buffer.specs.Drawing.{Drawing, over, onlyIf, inOrder, areaOf, styleAt}
-use Rattle.buffer.proofs.Over.{over-outside}
-use Rattle.buffer.proofs.Within.{cell-inside as inside-cell, cell-outside}
+use Rattle.buffer.specs.Drawing.{over, onlyIf, areaOf, styleAt}
+use Rattle.buffer.proofs.Within.{cell-inside as inside-cell}
+use Rattle.borders.specs.Borders.{sides, corners}
+use Rattle.borders.proofs.Keeps.{KeepsSymbol, Between, order-keeps, alone-keeps, style-keeps, between, takes-one, cell-between, cell-inside, sides-keep, corners-keep}
+use Rattle.titles.specs.Titles.{titlesRow, titlesOn}
+use Rattle.titles.proofs.OtherRows.{titles-alone}
 use Rattle.shadow.specs.Shadow.{shadowOf}
 use Rattle.shadow.proofs.Keeps.{shadow-spares}
-use Rattle.frame.specs.Frame.{leftSide, topSide, rightSide, bottomSide, bottomRight, topRight, bottomLeft, topLeft, border, sides, corners, frame, blockOf}
-
--- a drawing keeps the symbol of the cell in a column and a row, whatever the cell
-abbrev pub KeepsSymbol : Drawing → ℕ → ℕ → Type 0
-KeepsSymbol d column row = (cell : ℕ) → cellFrom (d column row cell) .symbol ≡ cellFrom cell .symbol
-
--- each of some drawings does
-abbrev pub EachKeeps : List Drawing → ℕ → ℕ → Type 0
-EachKeeps [] column row = Unit {0}
-EachKeeps (d ∷ ds) column row = KeepsSymbol d column row × EachKeeps ds column row
-
--- then so do all of them in order
-pub order-keeps : (ds : List Drawing) (column row : ℕ) → EachKeeps ds column row → KeepsSymbol (inOrder ds) column row
-order-keeps [] column row keeps cell = refl
-order-keeps (d ∷ ds) column row keeps cell = order-keeps ds column row (keeps .1) (d column row cell) ∙ keeps .0 cell
-
--- a drawing that leaves a cell as it is keeps its symbol
-pub alone-keeps : (d : Drawing) (column row : ℕ) → ((cell : ℕ) → d column row cell ≡ cell) → KeepsSymbol d column row
-alone-keeps d column row alone cell = ap (λ (c : ℕ). cellFrom c .symbol) (alone cell)
-
--- a style keeps the symbol of every cell
-pub style-keeps : (r : Rect) (style column row : ℕ) → KeepsSymbol (over r (styled style)) column row
-unfolding over
-style-keeps r style column row cell = go (contains r column row)
-  where
-    go : (b : Bool) → cellFrom (cond b (styled style cell) cell) .symbol ≡ cellFrom cell .symbol
-    go true = styled-symbol style cell
-    go false = refl
-
--- a cell that lies in a rectangle lies between its edges
-pub record Between (r : Rect) (column row : ℕ) : Type 0 where
-  pub left : r .x ≤ column
-  pub right : column < rightOf r
-  pub top : r .y ≤ row
-  pub bottom : row < bottomOf r
-
-pub between : (r : Rect) (column row : ℕ) → contains r column row ≡ true → Between r column row
-between r column row h =
-    let both = and-eq-true-iff (within (r .x) (rightOf r) column) (within (r .y) (bottomOf r) row) .0 h in
-    let across = and-eq-true-iff _ _ .0 (both .0) in
-    let down = and-eq-true-iff _ _ .0 (both .1) in
-    record {
-      left = leb-true (r .x) column (across .0);
-      right = ltb-true column (rightOf r) (across .1);
-      top = leb-true (r .y) row (down .0);
-      bottom = ltb-true row (bottomOf r) (down .1);
-    }
-
--- a side or a corner leaves a cell alone that doesn't lie in it
-pub border-alone : (styles : List ℕ) (b : Block) (part : Rect) (symbol column row cell : ℕ) → contains part column row ≡ false → border styles b part symbol column row cell ≡ cell
-unfolding border
-border-alone styles b part symbol column row cell h = over-outside part _ column row cell h
-
--- so it keeps the symbol of a cell that doesn't lie in it, and of every cell where it doesn't stand
-part-keeps : (styles : List ℕ) (b : Block) (part : Rect) (symbol : ℕ) (stands : Bool) (column row : ℕ) → (stands ≡ true → contains part column row ≡ false)
-    → KeepsSymbol (onlyIf stands (border styles b part symbol)) column row
-part-keeps styles b part symbol true column row outside =
-    alone-keeps (border styles b part symbol) column row (λ cell. border-alone styles b part symbol column row cell (outside refl))
-part-keeps styles b part symbol false column row outside = λ cell. refl
-
--- a corner needs two borders: it is enough that one of them keeps the cell out
-corner-keeps : (styles : List ℕ) (b : Block) (part : Rect) (symbol : ℕ) (one other : Bool) (column row : ℕ) → (one ≡ true → contains part column row ≡ false)
-    → KeepsSymbol (onlyIf (one && other) (border styles b part symbol)) column row
-corner-keeps styles b part symbol one other column row outside =
-    part-keeps styles b part symbol (one && other) column row (λ both. outside (and-eq-true-iff one other .0 both .0))
-
--- what stands takes a cell
-takes-one : (stands : Bool) → stands ≡ true → taken stands ≡ 1
-takes-one stands on = rw on
+use Rattle.frame.specs.Frame.{frame, blockOf}
 
 module _ (b : Block) (titles : List ℕ) (met : Rect) (across : met .x + met .width ≤ 65535) (down : met .y + met .height ≤ 65535)
     (column row : ℕ) (inner : contains (innerOf b titles met) column row ≡ true) where
-  -- a cell of the inner area lies between the inner area's edges, and these lie inside the borders
-  cell-between : Between (innerOf b titles met) column row
-  cell-between = between (innerOf b titles met) column row inner
+  between-edges : Between (innerOf b titles met) column row
+  between-edges = cell-between b titles met across down column row inner
 
-  cell-inside : Inside b titles met
-  cell-inside =
-      let c = cell-between in
-      inside b titles met across down (omega arith) (omega arith)
+  in-block : Inside b titles met
+  in-block = cell-inside b titles met across down column row inner
 
-  -- where a left border stands, it lies in no part that is in the first column alone; so for the other three borders
-  clear-left : (part : Rect) → part .x ≡ met .x → part .width ≡ 1 → b .borders .left ≡ true → contains part column row ≡ false
-  clear-left part starts wide on =
-      let c = cell-between in
-      let i = cell-inside in
-      let one = takes-one (atLeft b) on in
-      cell-outside _ _ _ _ column row (inr (inl (omega arith)))
-
-  clear-top : (part : Rect) → part .y ≡ met .y → part .height ≡ 1 → b .borders .top ≡ true → contains part column row ≡ false
-  clear-top part starts high on =
-      let c = cell-between in
-      let i = cell-inside in
-      let one = takes-one (atTop b titles) (rw on) in
-      cell-outside _ _ _ _ column row (inr (inr (inr (omega arith))))
-
-  clear-right : (part : Rect) → part .x ≡ rightOf met - 1 → b .borders .right ≡ true → contains part column row ≡ false
-  clear-right part starts on =
-      let c = cell-between in
-      let i = cell-inside in
-      let one = takes-one (atRight b) on in
-      cell-outside _ _ _ _ column row (inl (omega arith))
-
-  clear-bottom : (part : Rect) → part .y ≡ bottomOf met - 1 → b .borders .bottom ≡ true → contains part column row ≡ false
-  clear-bottom part starts on =
-      let c = cell-between in
-      let i = cell-inside in
-      let one = takes-one (atBottom b titles) (rw on) in
-      cell-outside _ _ _ _ column row (inr (inr (inl (omega arith))))
-
-  -- the sides keep the symbols of the inner area
-  pub sides-keep : (styles : List ℕ) → KeepsSymbol (sides styles b met) column row
-  unfolding sides
-  sides-keep styles cell =
-      part-keeps styles b (bottomSide met) _ (b .borders .bottom) column row (clear-bottom (bottomSide met) refl) _
-      ∙ part-keeps styles b (rightSide met) _ (b .borders .right) column row (clear-right (rightSide met) refl) _
-      ∙ part-keeps styles b (topSide met) _ (b .borders .top) column row (clear-top (topSide met) refl refl) _
-      ∙ part-keeps styles b (leftSide met) _ (b .borders .left) column row (clear-left (leftSide met) refl refl) cell
-
-  -- and so do the corners
-  pub corners-keep : (styles : List ℕ) → KeepsSymbol (corners styles b met) column row
-  unfolding corners
-  corners-keep styles cell =
-      corner-keeps styles b (topLeft met) _ (b .borders .left) (b .borders .top) column row (clear-left (topLeft met) refl refl) _
-      ∙ corner-keeps styles b (bottomLeft met) _ (b .borders .left) (b .borders .bottom) column row (clear-left (bottomLeft met) refl refl) _
-      ∙ corner-keeps styles b (topRight met) _ (b .borders .right) (b .borders .top) column row (clear-right (topRight met) refl) _
-      ∙ corner-keeps styles b (bottomRight met) _ (b .borders .right) (b .borders .bottom) column row (clear-right (bottomRight met) refl) cell
-
-  -- and so does the shadow, since the inner area lies in the block's own
+  -- the shadow keeps the symbols of the inner area, since the inner area lies in the block's own
   shadow-keeps : (styles : List ℕ) (screen : Screen) → KeepsSymbol (shadowOf styles screen met (b .shadow)) column row
   shadow-keeps styles screen =
-      let c = cell-between in
-      let i = cell-inside in
+      let c = between-edges in
+      let i = in-block in
       let own : contains met column row ≡ true = inside-cell (met .x) (rightOf met) (met .y) (bottomOf met) column row (omega arith) (omega arith) (omega arith) (omega arith) in
       alone-keeps (shadowOf styles screen met (b .shadow)) column row (λ cell. shadow-spares styles screen met (b .shadow) column row cell own)
 
+  -- where a title stands at the top or at the bottom, no cell of the inner area lies in that row
+  clear-top : row ≡ titlesRow Top met → hasTitleAt b titles Top ≡ false
+  clear-top here = go (hasTitleAt b titles Top) refl
+    where
+      go : (stands : Bool) → hasTitleAt b titles Top ≡ stands → stands ≡ false
+      go false e = refl
+      go true e =
+          let c = between-edges in
+          let i = in-block in
+          let one = takes-one (atTop b titles) (rw (e, or-true)) in
+          absurd (omega (arith, here))
+
+  clear-bottom : row ≡ titlesRow Bottom met → hasTitleAt b titles Bottom ≡ false
+  clear-bottom here = go (hasTitleAt b titles Bottom) refl
+    where
+      go : (stands : Bool) → hasTitleAt b titles Bottom ≡ stands → stands ≡ false
+      go false e = refl
+      go true e =
+          let c = between-edges in
+          let i = in-block in
+          let one = takes-one (atBottom b titles) (rw (e, or-true)) in
+          absurd (omega (arith, here))
+
+  -- so the titles keep its symbols
+  titles-keep : (styles : List ℕ) → KeepsSymbol (titlesOn styles b met titles) column row
+  titles-keep styles =
+      alone-keeps (titlesOn styles b met titles) column row (titles-alone column row styles b met titles clear-top clear-bottom)
+
   -- so the frame does
-  frame-keeps : (styles : List ℕ) (screen : Screen) → KeepsSymbol (frame styles screen b met) column row
+  frame-keeps : (styles : List ℕ) (screen : Screen) → KeepsSymbol (frame styles screen titles b met) column row
   unfolding frame
   frame-keeps styles screen =
       order-keeps
-      (over met (styled (styleAt styles (b .style))) ∷ sides styles b met ∷ corners styles b met ∷ shadowOf styles screen met (b .shadow) ∷ []) column row
-      (style-keeps met (styleAt styles (b .style)) column row, (sides-keep styles, (corners-keep styles, (shadow-keeps styles screen, tt))))
+      (over met (styled (styleAt styles (b .style)))
+      ∷ sides styles b met
+      ∷ corners styles b met
+      ∷ titlesOn styles b met titles
+      ∷ shadowOf styles screen met (b .shadow)
+      ∷ []) column row (
+        style-keeps met (styleAt styles (b .style)) column row,
+        (
+          sides-keep b titles met across down column row inner styles,
+          (
+            corners-keep b titles met across down column row inner styles,
+            (titles-keep styles, (shadow-keeps styles screen, tt)),
+          ),
+        ),
+      )
 
 -- a met area whose inner area has a cell isn't held: along a row or a column it has a cell itself, and ends by 65,535
 met-fits : (place end other before after paddings start column : ℕ) → let size = min (held end) other - place in
@@ -189,7 +113,7 @@ module _ (styles : List ℕ) (screen : Screen) (b : Block) (titles : List ℕ) (
   abbrev met : Rect
   met = meet area (areaOf screen)
 
-  met-frame : KeepsSymbol (frame styles screen b met) column row
+  met-frame : KeepsSymbol (frame styles screen titles b met) column row
   unfolding innerOf
   met-frame =
       let c = between (innerOf b titles met) column row inner in
@@ -198,10 +122,10 @@ module _ (styles : List ℕ) (screen : Screen) (b : Block) (titles : List ℕ) (
       (met-fits (met .y) (area .y + area .height) (bottomOf (areaOf screen)) _ _ _ (innerOf b titles met .y) row (c .top) (c .bottom))
       column row inner styles screen
 
-  pub block-keeps : KeepsSymbol (blockOf styles screen b area) column row
+  pub block-keeps : KeepsSymbol (blockOf styles screen titles b area) column row
   unfolding blockOf
   block-keeps cell = go (not (isEmpty met))
     where
-      go : (test : Bool) → cellFrom (onlyIf test (frame styles screen b met) column row cell) .symbol ≡ cellFrom cell .symbol
+      go : (test : Bool) → cellFrom (onlyIf test (frame styles screen titles b met) column row cell) .symbol ≡ cellFrom cell .symbol
       go true = met-frame cell
       go false = refl

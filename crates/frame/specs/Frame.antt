@@ -1,76 +1,30 @@
 -- Document 01, 'Inner area and frame (block.rs, padding.rs)': what a block draws.
-use Prim.Native.Nat.{ℕ, _-_}
-use mathlib.Core.Bool.{not, _&&_}
+use Prim.Native.Nat.{ℕ}
+use mathlib.Core.Bool.{not}
 use mathlib.Core.List.{List, [], _∷_}
-use Rattle.cell.specs.Cell.{withSymbol, styled}
+use Rattle.cell.specs.Cell.{styled}
 use Rattle.layout.specs.declared.Rect.{Rect}
-use Rattle.layout.specs.Rect.{rightOf, bottomOf, meet, isEmpty}
+use Rattle.layout.specs.Rect.{meet, isEmpty}
 use Rattle.block.specs.declared.Block.{Block}
 use Rattle.buffer.specs.declared.Screen.{Screen}
 use Rattle.buffer.specs.Drawing.{Drawing, over, onlyIf, inOrder, areaOf, styleAt}
+use Rattle.borders.specs.Borders.{sides, corners}
+use Rattle.titles.specs.Titles.{titlesOn}
 use Rattle.shadow.specs.Shadow.{shadowOf}
 
--- the sides of a rectangle that isn't empty: its first column, first row, last column, last row
-abbrev pub leftSide : Rect → Rect
-leftSide r = record { x = r .x; y = r .y; width = 1; height = r .height }
-
-abbrev pub topSide : Rect → Rect
-topSide r = record { x = r .x; y = r .y; width = r .width; height = 1 }
-
-abbrev pub rightSide : Rect → Rect
-rightSide r = record { x = rightOf r - 1; y = r .y; width = 1; height = r .height }
-
-abbrev pub bottomSide : Rect → Rect
-bottomSide r = record { x = r .x; y = bottomOf r - 1; width = r .width; height = 1 }
-
--- and its corners
-abbrev pub bottomRight : Rect → Rect
-bottomRight r = record { x = rightOf r - 1; y = bottomOf r - 1; width = 1; height = 1 }
-
-abbrev pub topRight : Rect → Rect
-topRight r = record { x = rightOf r - 1; y = r .y; width = 1; height = 1 }
-
-abbrev pub bottomLeft : Rect → Rect
-bottomLeft r = record { x = r .x; y = bottomOf r - 1; width = 1; height = 1 }
-
-abbrev pub topLeft : Rect → Rect
-topLeft r = record { x = r .x; y = r .y; width = 1; height = 1 }
-
--- "A border cell gets its symbol, then the border style."
-unfoldable pub border : List ℕ → Block → Rect → ℕ → Drawing
-border styles b part symbol = over part (λ cell. styled (styleAt styles (b .«border_style»)) (withSymbol symbol cell))
-
--- "sides left, top, right, bottom", of a rectangle that isn't empty
-unfoldable pub sides : List ℕ → Block → Rect → Drawing
-sides styles b r =
-    inOrder
-    (onlyIf (b .borders .left) (border styles b (leftSide r) (b .«border_set» .«vertical_left»))
-    ∷ onlyIf (b .borders .top) (border styles b (topSide r) (b .«border_set» .«horizontal_top»))
-    ∷ onlyIf (b .borders .right) (border styles b (rightSide r) (b .«border_set» .«vertical_right»))
-    ∷ onlyIf (b .borders .bottom) (border styles b (bottomSide r) (b .«border_set» .«horizontal_bottom»))
-    ∷ [])
-
--- "corners (bottom right, top right, bottom left, top left, each where both borders stand)", likewise
-unfoldable pub corners : List ℕ → Block → Rect → Drawing
-corners styles b r =
-    inOrder
-    (onlyIf (b .borders .right && b .borders .bottom) (border styles b (bottomRight r) (b .«border_set» .«bottom_right»))
-    ∷ onlyIf (b .borders .right && b .borders .top) (border styles b (topRight r) (b .«border_set» .«top_right»))
-    ∷ onlyIf (b .borders .left && b .borders .bottom) (border styles b (bottomLeft r) (b .«border_set» .«bottom_left»))
-    ∷ onlyIf (b .borders .left && b .borders .top) (border styles b (topLeft r) (b .«border_set» .«top_left»))
-    ∷ [])
-
--- "over the met area": "block style, sides …, corners …", "shadow"; titles are to come between corners and shadow, and
--- before the block style the paragraph style of a notice
-unfoldable pub frame : List ℕ → Screen → Block → Rect → Drawing
-frame styles screen b met =
+-- "over the met area": "block style, sides …, corners …, top titles, bottom titles, shadow"; before the block style comes the
+-- paragraph style of a notice
+unfoldable pub frame : List ℕ → Screen → List ℕ → Block → Rect → Drawing
+frame styles screen titles b met =
     inOrder
     (over met (styled (styleAt styles (b .style)))
     ∷ sides styles b met
     ∷ corners styles b met
+    ∷ titlesOn styles b met titles
     ∷ shadowOf styles screen met (b .shadow)
     ∷ [])
 
 -- "Drawing meets area and screen first (…); an empty meeting draws no cell."
-unfoldable pub blockOf : List ℕ → Screen → Block → Rect → Drawing
-blockOf styles screen b area = onlyIf (not (isEmpty (meet area (areaOf screen)))) (frame styles screen b (meet area (areaOf screen)))
+unfoldable pub blockOf : List ℕ → Screen → List ℕ → Block → Rect → Drawing
+blockOf styles screen titles b area =
+    onlyIf (not (isEmpty (meet area (areaOf screen)))) (frame styles screen titles b (meet area (areaOf screen)))

@@ -1,3 +1,2 @@
 pub mod Frame
-pub mod Edges
 pub mod Fitting

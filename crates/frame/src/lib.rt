@@ -1,7 +1,4 @@
-// What a block draws: its style, its sides and corners, its shadow.
-
-mod edges;
-
+// What a block draws: its style, its borders, its titles, its shadow.
 use block::Block;
 use buffer::Ink;
 use buffer::Screen;
@@ -12,94 +9,67 @@ ghost use mathlib.Core.List.{[], _∷_};
 ghost use Prim.Native.Nat.{_<_, _^_};
 ghost use lib.ListN.{length};
 ghost use Rattle.layout.specs.Rect.{isEmpty};
-ghost use Rattle.buffer.specs.Drawing.{drawn, onlyIf, inOrder};
+ghost use Rattle.buffer.specs.Drawing.{drawn, inOrder};
 ghost use Rattle.buffer.specs.Parts.{OnScreen};
-ghost use Rattle.frame.specs.Frame.{border, sides, corners, frame, blockOf};
-ghost use Rattle.frame.specs.Fitting.{SymbolsFit, HasCells};
+ghost use Rattle.refuse.specs.Causes.{notOpening};
+ghost use Rattle.borders.specs.Borders.{sides, corners};
+ghost use Rattle.borders.specs.Fitting.{SymbolsFit};
+ghost use Rattle.titles.specs.Titles.{titlesOn};
+ghost use Rattle.frame.specs.Frame.{frame, blockOf};
+ghost use Rattle.frame.specs.Fitting.{HasCells};
 
-// A side or a corner of a rectangle: whether it stands, its cells and its symbol.
-pub struct Edge {
-    pub stands: bool,
-    pub part: Rect,
-    pub symbol: u32,
-}
-
-// Draws a side or a corner where it stands: its cells get the symbol, then the border style.
-fn draw_border(screen: Screen, cells: &mut [u64], styles: &[u64], block: Block, edge: Edge)
-    requires { ⌜ edge .symbol < 2 ^ 21 ⌝ }
-    requires { ⌜ OnScreen screen (length (now cells)) (edge .part) ⌝ }
-    ensures { λ _. ⌜ now (cells .exit) ≡ drawn (screen .columns) (onlyIf (edge .stands) (border (now (styles .entry)) block (edge .part) (edge .symbol))) (now (cells .entry)) ⌝ }
+// Draws the sides and corners, then the titles, over a rectangle that lies on the screen and isn't empty.
+fn draw_borders_and_titles(
+    screen: Screen,
+    cells: &mut [u64],
+    styles: &[u64],
+    titles: &[u32],
+    block: Block,
+    met: Rect,
+)
+    requires { ⌜ SymbolsFit block × (isEmpty met ≡ false) × (screen .columns < 2 ^ 15) × (screen .rows < 2 ^ 15) × (notOpening (now titles) ≡ false) ⌝ }
+    requires { ⌜ OnScreen screen (length (now cells)) met ⌝ }
+    ensures { λ _. ⌜ now (cells .exit) ≡ drawn (screen .columns) (inOrder (sides (now (styles .entry)) block met ∷ corners (now (styles .entry)) block met ∷ titlesOn (now (styles .entry)) block met (now (titles .entry)) ∷ [])) (now (cells .entry)) ⌝ }
 {
-    if edge.stands {
-        let symbol = edge.symbol as u64;
-        let ink = Ink::Both(symbol, buffer::style_at(styles, block.border_style));
-        buffer::paint_area(screen, cells, edge.part, ink);
-    }
-}
-
-// Draws the sides left, top, right, bottom of a rectangle that isn't empty.
-fn draw_sides(screen: Screen, cells: &mut [u64], styles: &[u64], block: Block, area: Rect)
-    requires { ⌜ SymbolsFit block × (isEmpty area ≡ false) ⌝ }
-    requires { ⌜ OnScreen screen (length (now cells)) area ⌝ }
-    ensures { λ _. ⌜ now (cells .exit) ≡ drawn (screen .columns) (sides (now (styles .entry)) block area) (now (cells .entry)) ⌝ }
-{
-    let left = edges::left_side(block, area);
-    let top = edges::top_side(block, area);
-    let right = edges::right_side(block, area);
-    let bottom = edges::bottom_side(block, area);
-    draw_border(screen, cells, styles, block, left);
-    draw_border(screen, cells, styles, block, top);
-    draw_border(screen, cells, styles, block, right);
-    draw_border(screen, cells, styles, block, bottom);
-}
-
-// Draws the corners bottom right, top right, bottom left, top left, each where both borders stand.
-fn draw_corners(screen: Screen, cells: &mut [u64], styles: &[u64], block: Block, area: Rect)
-    requires { ⌜ SymbolsFit block × (isEmpty area ≡ false) ⌝ }
-    requires { ⌜ OnScreen screen (length (now cells)) area ⌝ }
-    ensures { λ _. ⌜ now (cells .exit) ≡ drawn (screen .columns) (corners (now (styles .entry)) block area) (now (cells .entry)) ⌝ }
-{
-    let bottom_right = edges::bottom_right(block, area);
-    let top_right = edges::top_right(block, area);
-    let bottom_left = edges::bottom_left(block, area);
-    let top_left = edges::top_left(block, area);
-    draw_border(screen, cells, styles, block, bottom_right);
-    draw_border(screen, cells, styles, block, top_right);
-    draw_border(screen, cells, styles, block, bottom_left);
-    draw_border(screen, cells, styles, block, top_left);
-}
-
-// Draws the sides, then the corners, of a rectangle that isn't empty.
-fn draw_borders(screen: Screen, cells: &mut [u64], styles: &[u64], block: Block, area: Rect)
-    requires { ⌜ SymbolsFit block × (isEmpty area ≡ false) ⌝ }
-    requires { ⌜ OnScreen screen (length (now cells)) area ⌝ }
-    ensures { λ _. ⌜ now (cells .exit) ≡ drawn (screen .columns) (inOrder (sides (now (styles .entry)) block area ∷ corners (now (styles .entry)) block area ∷ [])) (now (cells .entry)) ⌝ }
-{
-    draw_sides(screen, cells, styles, block, area);
-    draw_corners(screen, cells, styles, block, area);
+    borders::draw_borders(screen, cells, styles, block, met);
+    titles::draw_titles(screen, cells, styles, titles, block, met);
 }
 
 // Draws the frame over a rectangle that lies on the screen and isn't empty.
-fn draw_frame(screen: Screen, cells: &mut [u64], styles: &[u64], block: Block, met: Rect)
-    requires { ⌜ SymbolsFit block × (isEmpty met ≡ false) ⌝ }
+fn draw_frame(
+    screen: Screen,
+    cells: &mut [u64],
+    styles: &[u64],
+    titles: &[u32],
+    block: Block,
+    met: Rect,
+)
+    requires { ⌜ SymbolsFit block × (isEmpty met ≡ false) × (screen .columns < 2 ^ 15) × (screen .rows < 2 ^ 15) × (notOpening (now titles) ≡ false) ⌝ }
     requires { ⌜ OnScreen screen (length (now cells)) met ⌝ }
-    ensures { λ _. ⌜ now (cells .exit) ≡ drawn (screen .columns) (frame (now (styles .entry)) screen block met) (now (cells .entry)) ⌝ }
+    ensures { λ _. ⌜ now (cells .exit) ≡ drawn (screen .columns) (frame (now (styles .entry)) screen (now (titles .entry)) block met) (now (cells .entry)) ⌝ }
 {
     let shadow = block.shadow;
     let ink = Ink::Style(buffer::style_at(styles, block.style));
     buffer::paint_area(screen, cells, met, ink);
-    draw_borders(screen, cells, styles, block, met);
+    draw_borders_and_titles(screen, cells, styles, titles, block, met);
     shadow::draw_shadow(screen, cells, styles, met, shadow);
 }
 
 // Draws a block on the cells that its area and the screen share, if there are any.
-pub fn draw_on(screen: Screen, cells: &mut [u64], styles: &[u64], block: Block, area: Rect)
-    requires { ⌜ SymbolsFit block × HasCells screen (length (now cells)) ⌝ }
-    ensures { λ _. ⌜ now (cells .exit) ≡ drawn (screen .columns) (blockOf (now (styles .entry)) screen block area) (now (cells .entry)) ⌝ }
+pub fn draw_on(
+    screen: Screen,
+    cells: &mut [u64],
+    styles: &[u64],
+    titles: &[u32],
+    block: Block,
+    area: Rect,
+)
+    requires { ⌜ SymbolsFit block × HasCells screen (length (now cells)) × (notOpening (now titles) ≡ false) ⌝ }
+    ensures { λ _. ⌜ now (cells .exit) ≡ drawn (screen .columns) (blockOf (now (styles .entry)) screen (now (titles .entry)) block area) (now (cells .entry)) ⌝ }
 {
     let met = area.intersection(screen.area());
     if met.is_empty() {
         return;
     }
-    draw_frame(screen, cells, styles, block, met);
+    draw_frame(screen, cells, styles, titles, block, met);
 }

@@ -90,7 +90,7 @@ fn check_text(most: Ceilings, limit: u16, text: &[u32]) -> Verdict
 }
 
 // How many lines a text has.
-fn count_lines(rule: Rule, own: Alignment, text: &[u32]) -> usize
+pub fn count_lines(rule: Rule, own: Alignment, text: &[u32]) -> usize
     requires { ⌜ (length (now text) < 2 ^ 28) × (notOpening (now text) ≡ false) ⌝ }
     ensures { λ r. ⌜ r ≡ length (lines rule Wrapped own (now (text .entry))) ⌝ }
 {

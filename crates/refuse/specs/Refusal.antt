@@ -38,3 +38,8 @@ why if b = record { why = why; holds = b }
 abbrev pub firstCause : List Cause → Verdict
 firstCause [] = Accepted
 firstCause (cause ∷ causes) = cond (cause .holds) (Refused (cause .why)) (firstCause causes)
+
+-- the table's last column, 'Left': what is left as it was where a call is refused, and is new where it isn't
+abbrev pub unlessRefused : {A : Type 0} → Verdict → A → A → A
+unlessRefused Accepted new old = new
+unlessRefused (Refused why) new old = old

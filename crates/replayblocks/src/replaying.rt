@@ -50,9 +50,20 @@ fn replay_blocks(cells: &mut [u64]) {
     libc::close(fd);
 }
 
+fn replay_titled(cells: &mut [u64]) {
+    let fd = os::open_read(b"titled");
+    if fd < 0 {
+        return report::print_no_data(b"titled");
+    }
+    replay_part(Part::Titled, fd, cells);
+    replay_part(Part::Wide, fd, cells);
+    libc::close(fd);
+}
+
 // The cells are those of the largest screen.
 pub fn replay() {
     let mut cells = [0u64; 131072];
     replay_inner(&mut cells);
     replay_blocks(&mut cells);
+    replay_titled(&mut cells);
 }

@@ -10,6 +10,8 @@ fn print_part(part: Part) -> bool {
         Part::Inner => io::write_all(STDOUT_FILENO, b"inner: "),
         Part::Small => io::write_all(STDOUT_FILENO, b"blocks, small screens: "),
         Part::Large => io::write_all(STDOUT_FILENO, b"blocks, large screens: "),
+        Part::Titled => io::write_all(STDOUT_FILENO, b"titles, small screens: "),
+        Part::Wide => io::write_all(STDOUT_FILENO, b"titles, wide screens: "),
     }
 }
 

@@ -3,3 +3,4 @@ pub mod TextLines
 pub mod LineGlyphs
 pub mod Lists
 pub mod Bools
+pub mod Counting

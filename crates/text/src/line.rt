@@ -2,7 +2,7 @@
 use crate::head;
 ghost use mathlib.Core.Path.{_≡_};
 ghost use lib.ListN.{length};
-ghost use Rattle.text.specs.Line.{untilHead};
+ghost use Rattle.text.specs.Line.{untilHead, linesFrom};
 
 // How many of the records after a head are its line's: those before the next head.
 pub fn line_length(after: &[u32]) -> usize
@@ -24,4 +24,19 @@ pub fn line_records(after: &[u32]) -> &[u32]
 {
     let end = line_length(after);
     &after[..end]
+}
+
+// How many lines the heads of some records open.
+pub fn count_lines(records: &[u32]) -> usize
+    ensures { λ r. ⌜ r ≡ length (linesFrom 0 (now (records .entry))) ⌝ }
+{
+    let mut count = 0;
+    let mut i = 0;
+    while i < records.len() {
+        if head::is_head(records[i]) {
+            count += 1;
+        }
+        i += 1;
+    }
+    count
 }

@@ -16,7 +16,7 @@ use Rattle.buffer.specs.Ink.{inked}
 use Rattle.buffer.specs.Parts.{inRow}
 use Rattle.buffer.proofs.Rows.{row-lent, row-fits}
 use Rattle.buffer.proofs.Order.{first-then}
-use Rattle.title.specs.Title.{titleGlyphs, lineWidth, lineStart, hiddenColumns, untilOverrun, glyphsOn, titleLine, titleIn}
+use Rattle.title.specs.Title.{titleGlyphs, titleLineWidth, lineStart, hiddenColumns, untilOverrun, glyphsOn, titleLine, titleIn}
 use Rattle.title.specs.Fitting.{TitleArea}
 
 module _ (alignment : Alignment) (t w : ℕ) where
@@ -38,7 +38,7 @@ pub starts-within : (alignment : Alignment) (t w start hidden n : ℕ) → start
 starts-within alignment t w start hidden n e p = omega (arith, e, starts-in alignment t w)
 
 -- a line on its row: its glyphs, from where it starts and after the columns that it hides
-pub line-written : (styles : List ℕ) (alignment : Alignment) (w : ℕ) (records row next : List ℕ) (t hidden start : ℕ) → w ≡ length row → t ≡ lineWidth records
+pub line-written : (styles : List ℕ) (alignment : Alignment) (w : ℕ) (records row next : List ℕ) (t hidden start : ℕ) → w ≡ length row → t ≡ titleLineWidth records
     → hidden ≡ hiddenColumns alignment t w → start ≡ lineStart alignment t w
     → next ≡ changed (glyphsOn styles hidden (untilOverrun (hidden + length row) (startsFrom start (titleGlyphs records)))) row
     → next ≡ changed (titleLine styles alignment w records) row

@@ -8,7 +8,7 @@ use lib.ListN.{length, getD, drop}
 use Rattle.num.specs.Held.{held}
 use Rattle.text.specs.Record.{widthOf}
 use Rattle.text.specs.Line.{numbered, total}
-use Rattle.title.specs.Title.{lineWidth}
+use Rattle.title.specs.Title.{titleLineWidth}
 use Rattle.title.proofs.Numbered.{glyphs-from, glyphs-end}
 
 -- a sum held twice is held once
@@ -19,12 +19,12 @@ held-twice a b c = omega arith
 pub record AddingWidths (records : List ℕ) (width i : ℕ) : Type 0 where
   pub reached : i ≤ length records
   pub small : width ≤ 65535
-  pub remaining : held (width + total (numbered i (drop i records))) ≡ lineWidth records
+  pub remaining : held (width + total (numbered i (drop i records))) ≡ titleLineWidth records
 
 module _ (records : List ℕ) where
   -- before the first turn nothing is added
   pub adding-starts : AddingWidths records 0 0
-  unfolding lineWidth
+  unfolding titleLineWidth
   adding-starts = record { reached = omega arith; small = omega arith; remaining = rw zero-add }
 
   module _ (width i : ℕ) (a : AddingWidths records width i) where
@@ -40,9 +40,9 @@ module _ (records : List ℕ) where
         }
 
     -- at the end all are added
-    pub adding-done : length records ≤ i → width ≡ lineWidth records
+    pub adding-done : length records ≤ i → width ≡ titleLineWidth records
     adding-done h =
-        let e : held (width + 0) ≡ lineWidth records = rw (glyphs-end records i h) at (a .remaining) in
+        let e : held (width + 0) ≡ titleLineWidth records = rw (glyphs-end records i h) at (a .remaining) in
         omega (arith, e, a .small)
 
 pub ruleset adding = (adding-starts, adding-goes, adding-done)

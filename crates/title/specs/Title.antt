@@ -1,4 +1,4 @@
--- Document 01, 'Inner area and frame (block.rs, padding.rs)': one title in its area. Sums are held in 16 bits, as all there.
+-- Document 01, 'Inner area and frame (block.rs, padding.rs)': one title in its area.
 use Prim.Native.Nat.{ℕ, _+_, _-_}
 use mathlib.Core.Bool.{Bool, cond, _&&_}
 use mathlib.Core.List.{List, [], _∷_}
@@ -13,13 +13,13 @@ use Rattle.layout.specs.Rect.{rightOf}
 use Rattle.buffer.specs.Drawing.{Drawing, over, inOrder, styleAt}
 use Rattle.buffer.specs.Parts.{inRow}
 
--- the glyphs of a title's records; their numbers play no part in drawing
+-- the glyphs of a title's records, numbered from 0: drawing doesn't look at the numbers
 abbrev pub titleGlyphs : List ℕ → List Glyph
 titleGlyphs records = numbered 0 records
 
--- the width of a title line: `line_width_u16`
-unfoldable pub lineWidth : List ℕ → ℕ
-lineWidth records = held (total (titleGlyphs records))
+-- the width of a title line, held in 16 bits: `line_width_u16`
+unfoldable pub titleLineWidth : List ℕ → ℕ
+titleLineWidth records = held (total (titleGlyphs records))
 
 -- "A title line of width t in w columns: t ≤ w starts at 0, w - t if right"
 abbrev pub lineStart : Alignment → ℕ → ℕ → ℕ
@@ -38,7 +38,7 @@ abbrev pub untilOverrun : ℕ → List Start → List Start
 untilOverrun end [] = []
 untilOverrun end (s ∷ ss) = cond (ltb end (s .start + s .glyph .width)) [] (s ∷ untilOverrun end ss)
 
--- "Glyphs starting in hidden columns or of width 0 aren't drawn"
+-- "Glyphs starting in hidden columns or of width 0 aren't drawn": of those before the first that overruns
 unfoldable pub isDrawn : ℕ → Start → Bool
 isDrawn hidden s = leb hidden (s .start) && ltb 0 (s .glyph .width)
 
@@ -56,7 +56,7 @@ glyphsOn styles hidden (s ∷ ss) column cell = glyphsOn styles hidden ss column
 -- a title line in w columns: what becomes of the cell in one of them
 unfoldable pub titleLine : List ℕ → Alignment → ℕ → List ℕ → ℕ → ℕ → ℕ
 titleLine styles alignment w records =
-    let t = lineWidth records in
+    let t = titleLineWidth records in
     let hidden = hiddenColumns alignment t w in
     glyphsOn styles hidden (untilOverrun (hidden + w) (startsFrom (lineStart alignment t w) (titleGlyphs records)))
 

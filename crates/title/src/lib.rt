@@ -11,12 +11,12 @@ ghost use lib.ListN.{length};
 ghost use Rattle.layout.specs.Rect.{rightOf};
 ghost use Rattle.buffer.specs.Drawing.{drawn};
 ghost use Rattle.buffer.specs.Parts.{inRow};
-ghost use Rattle.title.specs.Title.{lineWidth, titleLine, titleIn};
+ghost use Rattle.title.specs.Title.{titleLineWidth, titleLine, titleIn};
 ghost use Rattle.title.specs.Fitting.{TitleArea};
 
 // The width of a title line, held at 65,535.
 pub fn line_width(glyphs: &[u32]) -> u16
-    ensures { λ r. ⌜ r ≡ lineWidth (now (glyphs .entry)) ⌝ }
+    ensures { λ r. ⌜ r ≡ titleLineWidth (now (glyphs .entry)) ⌝ }
 {
     let mut width: u16 = 0;
     let mut i = 0;

@@ -3,8 +3,10 @@
 mod areas;
 mod drawn;
 mod inner;
+mod many_titles;
 mod settings;
 mod shadows;
+mod titled;
 mod titles;
 mod words;
 
@@ -13,7 +15,7 @@ use oracle::{Block, Outcome, Rect};
 use crate::sums::{sum_entries, sum_numbers};
 use crate::{Part, Question};
 
-/// What a case asks about. An inner area has no screen, and a block is drawn without titles.
+/// What a case asks about. An inner area has no screen.
 pub struct Case {
     pub block: Block,
     pub area: Rect,
@@ -35,6 +37,13 @@ pub const SCREENS: [Part<Case>; 2] = [
     Part { name: "large screens", count: 48, case: drawn::large },
 ];
 
+pub const TITLED: Question<Case> = Question { file: "replayblocks/data/titled", ask: drawn_cells };
+
+pub const TITLED_SCREENS: [Part<Case>; 2] = [
+    Part { name: "small screens", count: 48_000, case: titled::small },
+    Part { name: "wide screens", count: 1_536, case: titled::wide },
+];
+
 /// The inner area, and what the frame takes at the left, right, top and bottom.
 fn inner_area(case: &Case) -> Outcome<u32> {
     let Case { block, area, ref titles, .. } = *case;
@@ -50,7 +59,8 @@ fn inner_area(case: &Case) -> Outcome<u32> {
 /// Every cell of the screen after the drawing.
 fn drawn_cells(case: &Case) -> Outcome<u32> {
     let (columns, rows) = (u32::from(case.columns), u32::from(case.rows));
+    let Case { block, area, ref titles, ref styles, .. } = *case;
     let mut cells = case.cells.clone();
-    oracle::draw_block(columns, rows, &mut cells, &case.styles, &[], case.area, case.block)
+    oracle::draw_block(columns, rows, &mut cells, styles, titles, area, block)
         .map(|()| sum_entries(cells.into_iter()))
 }

@@ -3,10 +3,11 @@
 //!
 //! Usage: `vectors [FOLDER]`, from the repository's root; the folder is `crates` where none is
 //! given. It gets a file for each question: `wrapped`, `tally` and `truncated` in `replay/data`,
-//! `inner` and `blocks` in `replayblocks/data`. A file has a sum of the answer to each case, 4
-//! bytes each, high byte first: those of short lines, of several lines and of long texts; those of
-//! inner areas; those of blocks on small screens and on large ones. A panic of the Rust ends it
-//! with exit status 1.
+//! `inner`, `blocks` and `titled` in `replayblocks/data`. A file has a sum of the answer to each
+//! case, 4 bytes each, high byte first: those of short lines, of several lines and of long texts;
+//! those of inner areas; those of blocks without titles on small screens and on large ones; those
+//! of blocks with titles on small screens and on wide ones. A panic of the Rust ends it with exit
+//! status 1.
 
 mod blocks;
 mod random;
@@ -50,7 +51,8 @@ fn write_all(folder: &Path) -> Result<(), String> {
         write(folder, question, &texts::PARTS)?;
     }
     write(folder, &blocks::INNER, &blocks::AREAS)?;
-    write(folder, &blocks::DRAWN, &blocks::SCREENS)
+    write(folder, &blocks::DRAWN, &blocks::SCREENS)?;
+    write(folder, &blocks::TITLED, &blocks::TITLED_SCREENS)
 }
 
 /// Writes the file of a question: the sums of some parts in their order.

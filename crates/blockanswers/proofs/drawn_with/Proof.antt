@@ -1,6 +1,6 @@
 -- `blockanswers::drawn_with` meets its contract.
-use borrow.Author.Needs.{needs}
 use native.Mathlib.Omega.{arith}
+use borrow.Author.Needs.{needs}
 use lib.ListN.{length-take}
 use Rattle.blockanswers.proofs.drawn_with.Statement.{statement}
 use Rattle.blockanswers.proofs.drawn_with.Tie as tie
@@ -29,20 +29,20 @@ seed-requires-2 c κs = search needs
 write-words-requires-2 : tie.Need-write-words-requires-2
 write-words-requires-2 c κs = search needs
 
-slice-relend-prefix-sum-drawn : tie.Need-slice-relend-prefix-sum-drawn
-slice-relend-prefix-sum-drawn c = search needs
+slice-reshare-prefix-titled : tie.Need-slice-reshare-prefix-titled
+slice-reshare-prefix-titled c = search needs
 
-slice-aggregate-sum-drawn : tie.Need-slice-aggregate-sum-drawn
-slice-aggregate-sum-drawn c = simp length-take (omega arith)
+slice-aggregate-titled : tie.Need-slice-aggregate-titled
+slice-aggregate-titled c = simp length-take (omega arith)
 
-slice-reshare-prefix-sum-drawn : tie.Need-slice-reshare-prefix-sum-drawn
-slice-reshare-prefix-sum-drawn c = search needs
+slice-relend-prefix-titled : tie.Need-slice-relend-prefix-titled
+slice-relend-prefix-titled c = search needs
 
-slice-aggregate-sum-drawn-2 : tie.Need-slice-aggregate-sum-drawn-2
-slice-aggregate-sum-drawn-2 c = simp length-take (omega arith)
+slice-aggregate-titled-2 : tie.Need-slice-aggregate-titled-2
+slice-aggregate-titled-2 c = simp length-take (omega arith)
 
-sum-drawn-requires : tie.Need-sum-drawn-requires
-sum-drawn-requires c κs = search needs
+titled-requires : tie.Need-titled-requires
+titled-requires c κs = search needs
 
 same-length : tie.Need-same-length
 same-length c = search needs
@@ -65,11 +65,11 @@ drawn-with-spec =
     next-requires
     seed-requires-2
     write-words-requires-2
-    slice-relend-prefix-sum-drawn
-    slice-aggregate-sum-drawn
-    slice-reshare-prefix-sum-drawn
-    slice-aggregate-sum-drawn-2
-    sum-drawn-requires
+    slice-reshare-prefix-titled
+    slice-aggregate-titled
+    slice-relend-prefix-titled
+    slice-aggregate-titled-2
+    titled-requires
     same-length
     same-length-2
     returns-2)

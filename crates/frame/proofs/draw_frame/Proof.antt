@@ -1,6 +1,6 @@
 -- `frame::draw_frame` meets its contract.
+use Rattle.borders.proofs.Symbols.{fitting}
 use Rattle.frame.proofs.Frames.{frames}
-use Rattle.frame.proofs.Symbols.{fitting}
 use borrow.Author.Needs.{needs}
 use Rattle.frame.proofs.draw_frame.Statement.{statement}
 use Rattle.frame.proofs.draw_frame.Tie as tie
@@ -11,8 +11,8 @@ style-at-requires c κs = search needs
 paint-area-requires : tie.Need-paint-area-requires
 paint-area-requires c κs = search needs
 
-draw-borders-requires : tie.Need-draw-borders-requires
-draw-borders-requires c κs = search needs
+draw-borders-and-titles-requires : tie.Need-draw-borders-and-titles-requires
+draw-borders-and-titles-requires c κs = search needs
 
 draw-shadow-requires : tie.Need-draw-shadow-requires
 draw-shadow-requires c κs = (search fitting, search needs)
@@ -29,7 +29,7 @@ draw-frame-spec =
     (tie.spec
     style-at-requires
     paint-area-requires
-    draw-borders-requires
+    draw-borders-and-titles-requires
     draw-shadow-requires
     same-length
     returns)

@@ -17,7 +17,7 @@ returns : tie.Need-returns
 returns c = search frames
 
 draw-frame-requires : tie.Need-draw-frame-requires
-draw-frame-requires c κs = ((search needs, search frames), search frames)
+draw-frame-requires c κs = ((search needs, search frames, search frames, search frames, search needs), search frames)
 
 same-length : tie.Need-same-length
 same-length c = search needs

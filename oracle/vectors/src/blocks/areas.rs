@@ -16,6 +16,18 @@ pub fn area(x: u32, columns: u16, rows: u16) -> Rect {
     }
 }
 
+/// An area made of x and the three numbers after it, with at least half the screen's columns and
+/// rows, and that much again past its edges at most.
+pub fn roomy(x: u32, columns: u16, rows: u16) -> Rect {
+    let y = next(next(x));
+    Rect {
+        x: below(x, 4) as u16,
+        y: below(y, 2) as u16,
+        width: 1 + columns / 2 + below(next(x), u32::from(columns)) as u16,
+        height: 1 + rows / 2 + below(next(y), u32::from(rows)) as u16,
+    }
+}
+
 /// Where an area starts along the cells of a row or a column.
 fn start(x: u32, cells: u16) -> u16 {
     match below(x, 16) {

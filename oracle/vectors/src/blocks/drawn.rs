@@ -4,7 +4,7 @@ use oracle::Block;
 
 use super::Case;
 use super::areas::area;
-use super::settings::{borders, framed};
+use super::settings::{alignment, borders, framed, position};
 use super::shadows::shadow;
 use super::words::{four_on, words};
 use crate::random::{below, next, seed};
@@ -38,12 +38,15 @@ fn case(number: u32, columns: u16, rows: u16, reach: u32, x: u32) -> Case {
 
 /// The block of a number with so many styles, made of x and the numbers after it. Its shadow is
 /// moved by up to `reach`.
-fn block(number: u32, styles: u32, reach: u32, x: u32) -> Block {
+pub fn block(number: u32, styles: u32, reach: u32, x: u32) -> Block {
     let a = four_on(four_on(x));
     let b = next(a);
     Block {
         border_style: below(a, styles) as u8,
         style: below(b, styles) as u8,
+        titles_style: below(four_on(b), styles) as u8,
+        titles_alignment: alignment(number / 64),
+        titles_position: position(number / 192),
         shadow: shadow(number / 16 % 4, next(b), styles, reach),
         ..framed(borders(number % 16), x)
     }

@@ -1,10 +1,10 @@
 //! Inner areas: everything that stands along a column, with every kind of titles. What stands along
 //! the row is random, and nothing that can stand there is left out.
 
-use oracle::{Block, Borders, Padding, Rect, TitlePosition};
+use oracle::{Block, Borders, Padding, Rect};
 
 use super::Case;
-use super::settings::framed;
+use super::settings::{framed, position};
 use super::titles::titles;
 use crate::random::{below, seed};
 
@@ -43,7 +43,7 @@ pub fn case(number: u32) -> Case {
     let across = axis(below(x, 4_900));
     let down = axis(number / 10);
     Case {
-        block: block(number / 5 % 2, &across, &down, x),
+        block: block(number / 5, &across, &down, x),
         area: Rect::new(across.place, down.place, across.size, down.size),
         titles: titles(number % 5, x),
         columns: 0,
@@ -53,8 +53,8 @@ pub fn case(number: u32) -> Case {
     }
 }
 
-/// A block whose own titles stand at the top or, where the number is 1, at the bottom.
-fn block(position: u32, across: &Axis, down: &Axis, x: u32) -> Block {
+/// A block whose own titles stand at the position of a number.
+fn block(own: u32, across: &Axis, down: &Axis, x: u32) -> Block {
     let borders =
         Borders { top: down.before, right: across.after, bottom: down.after, left: across.before };
     Block {
@@ -64,7 +64,7 @@ fn block(position: u32, across: &Axis, down: &Axis, x: u32) -> Block {
             down.padding,
             down.padding_after,
         ),
-        titles_position: if position == 0 { TitlePosition::Top } else { TitlePosition::Bottom },
+        titles_position: position(own),
         ..framed(borders, x)
     }
 }

@@ -15,6 +15,16 @@ pub fn borders(number: u32) -> Borders {
     Borders { top: bit(0), right: bit(1), bottom: bit(2), left: bit(3) }
 }
 
+/// The alignment of a number.
+pub fn alignment(number: u32) -> Alignment {
+    [Alignment::Left, Alignment::Center, Alignment::Right][number as usize % 3]
+}
+
+/// The position of a number.
+pub fn position(number: u32) -> TitlePosition {
+    [TitlePosition::Top, TitlePosition::Bottom][number as usize % 2]
+}
+
 /// The symbols of x and the seven numbers after it.
 fn border_set(x: u32) -> BorderSet {
     let b = next(x);

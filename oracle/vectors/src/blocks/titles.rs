@@ -26,6 +26,6 @@ fn record(place: u32, kind: u32, x: u32) -> u32 {
 }
 
 /// A head of any alignment.
-fn head(position: u32, x: u32) -> u32 {
+pub fn head(position: u32, x: u32) -> u32 {
     1 << 31 | below(x, 4) << 29 | position << 27
 }

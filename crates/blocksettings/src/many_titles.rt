@@ -1,0 +1,124 @@
+// The titles of blocks to draw: any number of them, of any alignment and position.
+use crate::borders::symbol;
+use crate::titles::head;
+use crate::words::four_on;
+use cases::random::below;
+use cases::random::next;
+use cases::random::seed;
+ghost use Prim.Native.Nat.{_<_, _≤_, _+_};
+ghost use lib.ListN.{length};
+ghost use Rattle.blocksettings.specs.Titles.{Bounded};
+
+// How many titles there are, how many glyphs each has at most, and below what number their styles are.
+pub struct Manner {
+    pub titles: u32,
+    pub glyphs: u32,
+    pub styles: u32,
+}
+
+// A head of any alignment and position.
+fn any_head(x: u32) -> u32 {
+    head(below(next(x), 3), x)
+}
+
+// The head of a title: about half of them have the same, so that several stand side by side.
+fn head_of(x: u32, common: u32) -> u32 {
+    if below(x, 2) == 0 {
+        return common;
+    }
+    any_head(next(x))
+}
+
+// How many glyphs a title has: as many as there may be, none, or a number between.
+fn length_of(x: u32, most: u32) -> u32
+    requires { ⌜ most ≤ 256 ⌝ }
+    ensures { λ r. ⌜ r ≤ most ⌝ }
+{
+    match below(x, 8) {
+        0 | 1 => most,
+        2 => 0,
+        _ => below(next(x), most + 1),
+    }
+}
+
+// A width: mostly 0 to 3, and once in sixteen times any.
+fn width(x: u32) -> u32
+    ensures { λ r. ⌜ r < 8 ⌝ }
+{
+    match below(x, 16) {
+        0 | 1 => 0,
+        2..=9 => 1,
+        10..=12 => 2,
+        13 | 14 => 3,
+        _ => below(next(x), 8),
+    }
+}
+
+// The glyph of x and the three numbers after it.
+fn glyph(x: u32, styles: u32) -> u32
+    requires { ⌜ (0 < styles) × (styles ≤ 8) ⌝ }
+{
+    let y = next(x);
+    let z = next(next(y));
+    symbol(x) * 1024 + width(y) * 128 + below(z, 2) * 64 + below(z, styles)
+}
+
+// Writes glyphs from a place up to an end, each made of four numbers.
+fn write_glyphs(titles: &mut [u32], place: usize, end: usize, styles: u32, seed: u32)
+    requires { ⌜ (place ≤ end) × (end ≤ length (now titles)) ⌝ }
+    requires { ⌜ (0 < styles) × (styles ≤ 8) ⌝ }
+{
+    let mut x = seed;
+    let mut i = place;
+    while i < end {
+        titles[i] = glyph(x, styles);
+        x = four_on(x);
+        i += 1;
+    }
+}
+
+// Writes a title from a place up to an end: glyphs after its head.
+fn write_title(titles: &mut [u32], place: usize, end: usize, head: u32, styles: u32, seed: u32)
+    requires { ⌜ (place < end) × (end ≤ length (now titles)) ⌝ }
+    requires { ⌜ (0 < styles) × (styles ≤ 8) ⌝ }
+{
+    write_glyphs(titles, place + 1, end, styles, seed);
+    titles[place] = head;
+}
+
+// The end of a title with its head at a place.
+fn end_of(place: usize, most: u32, x: u32) -> usize
+    requires { ⌜ most ≤ 256 ⌝ }
+    requires { ⌜ place ≤ 4112 ⌝ }
+    ensures { λ r. ⌜ (place < r) × (r ≤ place + 257) ⌝ }
+{
+    place + 1 + (length_of(x, most) as usize)
+}
+
+// Writes titles made of x and the numbers after it, and answers how many records they have: at most 16 heads, each with 256 glyphs.
+pub fn write_many(titles: &mut [u32], manner: Manner, x: u32) -> usize
+    requires { ⌜ Bounded manner ⌝ }
+    requires { ⌜ 4112 ≤ length (now titles) ⌝ }
+    ensures { λ r. ⌜ r ≤ 4112 ⌝ }
+{
+    let common = any_head(x);
+    let mut y = next(next(x));
+    let mut place = 0;
+    let mut i = 0;
+    while i < manner.titles {
+        let z = four_on(y);
+        let end = end_of(place, manner.glyphs, z);
+        write_title(
+            titles,
+            place,
+            end,
+            head_of(y, common),
+            manner.styles,
+            seed(y),
+        );
+        place = end;
+        y = next(next(z));
+        i += 1;
+    }
+    place
+}

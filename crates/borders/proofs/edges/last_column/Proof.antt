@@ -1,0 +1,17 @@
+-- `borders::edges::last_column` meets its contract.
+use Rattle.borders.proofs.Parts.{ends}
+use borrow.Author.Needs.{needs}
+use Rattle.borders.proofs.edges.last_column.Statement.{statement}
+use Rattle.borders.proofs.edges.last_column.Tie as tie
+
+right-requires : tie.Need-right-requires
+right-requires c κs = search needs
+
+sub-result : tie.Need-sub-result
+sub-result c = search ends
+
+returns : tie.Need-returns
+returns c = search needs
+
+pub last-column-spec : {M : Type 1} → statement M
+last-column-spec = tie.close (tie.spec right-requires sub-result returns)

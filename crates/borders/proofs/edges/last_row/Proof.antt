@@ -1,0 +1,17 @@
+-- `borders::edges::last_row` meets its contract.
+use Rattle.borders.proofs.Parts.{ends}
+use borrow.Author.Needs.{needs}
+use Rattle.borders.proofs.edges.last_row.Statement.{statement}
+use Rattle.borders.proofs.edges.last_row.Tie as tie
+
+bottom-requires : tie.Need-bottom-requires
+bottom-requires c κs = search needs
+
+sub-result : tie.Need-sub-result
+sub-result c = search ends
+
+returns : tie.Need-returns
+returns c = search needs
+
+pub last-row-spec : {M : Type 1} → statement M
+last-row-spec = tie.close (tie.spec bottom-requires sub-result returns)

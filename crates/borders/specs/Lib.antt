@@ -1,0 +1,3 @@
+pub mod Borders
+pub mod Edges
+pub mod Fitting

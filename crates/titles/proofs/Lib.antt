@@ -1,0 +1,13 @@
+pub mod Choosing
+pub mod Areas
+pub mod Placing
+pub mod NextTitle
+pub mod Walking
+pub mod Spaced
+pub mod Left
+pub mod Center
+pub mod LastTitle
+pub mod RightTitles
+pub mod Positions
+pub mod OtherRows
+pub mod Examples

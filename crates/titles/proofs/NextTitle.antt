@@ -1,0 +1,34 @@
+-- The title whose head stands at a place in the records, and those after it.
+use Prim.Native.Nat.{ℕ, suc, _+_, _-_, _<_, _≤_}
+use mathlib.Core.Path.{_≡_, ap, _∙_}
+use mathlib.Core.List.{List, [], _∷_}
+use native.Mathlib.Omega.{arith}
+use lib.ListN.{length, getD, take, drop}
+use lib.Seq.{drop-length}
+use Rattle.text.specs.Line.{untilHead, linesFrom}
+use Rattle.text.proofs.TextLines.{Opens, rest, rest-is, rest-within, part-is, next-opens, line-first}
+use Rattle.titles.specs.Placing.{titleOf}
+
+module _ (titles : List ℕ) (at n : ℕ) (h : at < length titles) (o : Opens titles at) (lent : n ≡ length (untilHead (rest titles (at + 1)))) where
+  length-is : n ≡ length (untilHead (drop (at + 1) titles))
+  length-is = lent ∙ ap (λ (rs : List ℕ). length (untilHead rs)) (rest-is titles (at + 1))
+
+  pub title-opens : Opens titles (at + 1 + n)
+  title-opens = next-opens titles at n h o length-is
+
+  -- the title at a head, and those after it
+  pub title-first : linesFrom at (drop at titles)
+      ≡ titleOf (suc at) (getD titles at 0) (take (at + 1 + n - (at + 1)) (drop (at + 1) titles)) ∷ linesFrom (at + 1 + n) (drop (at + 1 + n) titles)
+  title-first =
+      let e : at + 1 + n - (at + 1) ≡ n = omega arith in
+      line-first titles at n h o length-is ∙ rw (e, part-is (drop (at + 1) titles) n length-is)
+
+-- its records end where the records do, or before
+pub title-end : (titles : List ℕ) (at n : ℕ) → at < length titles → n ≡ length (untilHead (rest titles (at + 1))) → at + 1 + n ≤ length titles
+title-end titles at n h lent = omega (arith, lent, rest-within titles at h)
+
+-- past the last one none is left
+pub none-left : (titles : List ℕ) (at : ℕ) → Opens titles at → length titles ≤ at → linesFrom at (drop at titles) ≡ []
+none-left titles at o h =
+    let e : at ≡ length titles = omega (arith, o .within) in
+    ap (linesFrom at) (ap (λ (n : ℕ). drop n titles) e ∙ drop-length titles)

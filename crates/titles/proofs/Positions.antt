@@ -1,0 +1,109 @@
+-- The titles' area at a position of a rectangle that isn't empty, and the titles drawn in it.
+use Prim.Native.Nat.{ℕ, _+_, _-_, _<_, _≤_, _^_, min}
+use mathlib.Core.Path.{_≡_, refl}
+use mathlib.Core.Bool.{false}
+use mathlib.Core.List.{List, [], _∷_, reverse}
+use native.Mathlib.Omega.{arith}
+use borrow.Author.Tests.{eqb-false}
+use lib.Dec.{eqb}
+use Rattle.num.specs.Held.{held}
+use Rattle.text.specs.declared.Alignment.the-variants.{Left, Center, Right}
+use Rattle.text.specs.declared.TitlePosition.{TitlePosition}
+use Rattle.text.specs.declared.TitlePosition.the-variants.{Top, Bottom}
+use Rattle.text.specs.Line.{linesFrom}
+use Rattle.text.proofs.Bools.{neither}
+use Rattle.layout.specs.declared.Rect.{Rect}
+use Rattle.layout.specs.Rect.{bottomOf, isEmpty}
+use Rattle.buffer.specs.declared.Screen.{Screen}
+use Rattle.buffer.specs.Drawing.{drawn}
+use Rattle.buffer.specs.Parts.{OnScreen}
+use Rattle.buffer.proofs.Order.{first-then}
+use Rattle.block.specs.declared.Block.{Block}
+use Rattle.block.specs.Inner.{atLeft, atRight, taken}
+use Rattle.titles.specs.Titles.{filteredTitles, titlesRow, titlesArea, leftTitles, centerTitles, rightTitles, groupsIn, titlesAt, titlesOn}
+use Rattle.titles.specs.Placing.{AreaFits}
+
+-- what the functions answer
+pub row-is : (position : TitlePosition) (area : Rect) (bottom row : ℕ) → position ≡ Bottom → bottom ≡ bottomOf area → row ≡ bottom - 1 → row ≡ titlesRow position area
+row-is position area bottom row e p q = rw (e, q, p)
+
+pub area-is : (b : Block) (position : TitlePosition) (r : Rect) (left right x row without width : ℕ) → left ≡ taken (atLeft b) → right ≡ taken (atRight b)
+    → x ≡ held (r .x + left) → row ≡ titlesRow position r → without ≡ r .width - left → width ≡ without - right
+    → record { x = x; y = row; width = width; height = 1 } ≡ titlesArea b position r
+area-is b position r left right x row without width p q e f g h = rw (h, g, f, e, q, p)
+
+pub ruleset titles-areas = (row-is, area-is)
+
+-- the titles' area lies in the rectangle's first row or its last
+module _ (s : Screen) (n : ℕ) (met : Rect) (some : isEmpty met ≡ false) (on : OnScreen s n met) (few : s .columns < 2 ^ 15) (low : s .rows < 2 ^ 15) where
+  -- which is on the screen
+  high : 0 < met .height
+  high =
+      let k = eqb-false (met .height) 0 (neither (eqb (met .width) 0) (eqb (met .height) 0) some .1) in
+      omega (arith, k)
+
+  row-inside : (position : TitlePosition) → titlesRow position met < s .rows
+  row-inside Top = omega (arith, high, on .bottom)
+  row-inside Bottom = omega (arith, high, on .bottom)
+
+  -- between its edges
+  inside : (x width left right : ℕ) → min (x + width) 65535 ≤ s .columns → 0 < width - left - right → min (min (x + left) 65535 + (width - left - right)) 65535 ≤ s .columns
+  inside x width left right h k = omega arith
+
+  pub titles-area-fits : (b : Block) (position : TitlePosition) (area : Rect) → area ≡ titlesArea b position met → AreaFits s n area
+  titles-area-fits b position area e = rw e fits
+    where
+      fits : AreaFits s n (titlesArea b position met)
+      fits room =
+          let k = eqb-false (titlesArea b position met .width) 0 (neither _ _ room .0) in
+          record {
+            on-screen =
+                record {
+                  columns = on .columns;
+                  size = on .size;
+                  right = inside (met .x) (met .width) (taken (atLeft b)) (taken (atRight b)) (on .right) (omega (arith, k));
+                  bottom = omega (arith, row-inside position);
+                };
+            one-row = refl;
+            in-rows = row-inside position;
+            few-columns = few;
+          }
+
+pub titles-area-high : (b : Block) (position : TitlePosition) (met area : Rect) → area ≡ titlesArea b position met → area .height ≡ 1
+titles-area-high b position met area e = rw e
+
+-- a drawing leaves as many cells as there were
+pub fits-still : (s : Screen) (m n : ℕ) (area : Rect) → AreaFits s m area → n ≡ m → AreaFits s n area
+fits-still s m n area f e = rw e f
+
+pub on-columns : (s : Screen) (n : ℕ) (met : Rect) → OnScreen s n met → 0 < s .columns
+on-columns s n met on = on .columns
+
+pub ruleset titles-fit = (titles-area-fits, titles-area-high, fits-still, on-columns)
+
+module _ (columns : ℕ) (styles : List ℕ) (b : Block) (met : Rect) (titles : List ℕ) (cells : List ℕ) where
+  -- left, centre, right
+  pub groups-drawn : (position : TitlePosition) (area : Rect) (first second last : List ℕ)
+      → first ≡ drawn columns (leftTitles styles b area (filteredTitles b position Left (linesFrom 0 titles))) cells
+      → second ≡ drawn columns (centerTitles styles b area (filteredTitles b position Center (linesFrom 0 titles))) first
+      → last ≡ drawn columns (rightTitles styles b area (reverse (filteredTitles b position Right (linesFrom 0 titles)))) second
+      → last ≡ drawn columns (groupsIn styles b position area (linesFrom 0 titles)) cells
+  unfolding groupsIn
+  groups-drawn position area first second last p q r =
+      first-then columns _ (centerTitles styles b area (filteredTitles b position Center (linesFrom 0 titles))
+      ∷ rightTitles styles b area (reverse (filteredTitles b position Right (linesFrom 0 titles))) ∷ []) cells first last p
+      (first-then columns _ (rightTitles styles b area (reverse (filteredTitles b position Right (linesFrom 0 titles))) ∷ []) first second last q r)
+
+  -- in the titles' area
+  pub position-drawn : (position : TitlePosition) (area : Rect) (last : List ℕ) → area ≡ titlesArea b position met
+      → last ≡ drawn columns (groupsIn styles b position area (linesFrom 0 titles)) cells
+      → last ≡ drawn columns (titlesAt styles b position met (linesFrom 0 titles)) cells
+  position-drawn position area last e p = rw e at p
+
+  -- top, bottom
+  pub titles-drawn : (first last : List ℕ) → first ≡ drawn columns (titlesAt styles b Top met (linesFrom 0 titles)) cells
+      → last ≡ drawn columns (titlesAt styles b Bottom met (linesFrom 0 titles)) first → last ≡ drawn columns (titlesOn styles b met titles) cells
+  unfolding titlesOn
+  titles-drawn first last p q = first-then columns _ (titlesAt styles b Bottom met (linesFrom 0 titles) ∷ []) cells first last p q
+
+pub ruleset positions = (groups-drawn, position-drawn, titles-drawn)

@@ -1,0 +1,58 @@
+-- Titles drawn one after another: drawing those that are left comes to drawing all.
+use Prim.Native.Nat.{ℕ, suc, _+_, _-_, _<_, _≤_}
+use mathlib.Core.Path.{_≡_, refl, sym, ap, _∙_}
+use mathlib.Core.Bool.{false}
+use mathlib.Core.List.{List}
+use lib.ListN.{length, getD, take, drop}
+use Rattle.text.specs.Line.{TextLine, untilHead, linesFrom}
+use Rattle.text.proofs.TextLines.{Opens, rest}
+use Rattle.buffer.specs.declared.Screen.{Screen}
+use Rattle.buffer.specs.Drawing.{drawn}
+use Rattle.buffer.proofs.Drawn.{drawn-none}
+use Rattle.refuse.specs.Causes.{notOpening}
+use Rattle.refuse.proofs.TitleScan.{opens-start}
+use Rattle.block.specs.declared.Block.{Block}
+use Rattle.titles.specs.declared.Place.{Place}
+use Rattle.titles.specs.declared.Group.{Group}
+use Rattle.titles.specs.Placing.{placedTitles, AreaFits, titlesOf, Moved}
+use Rattle.titles.proofs.NextTitle.{title-opens, title-first, none-left}
+
+-- titles drawn up to a head: drawing those that are left from the place reached comes to drawing all
+pub record Walking (s : Screen) (styles : List ℕ) (b : Block) (g : Group) (titles : List ℕ) (start : Place) (old : List ℕ) (cells : List ℕ) (p : Place) (at : ℕ) : Type 0 where
+  pub some : 0 < s .columns
+  pub opens : Opens titles at
+  pub fits : AreaFits s (length cells) (p .area)
+  pub same-length : length cells ≡ length old
+  pub draws : drawn (s .columns) (placedTitles styles b p (titlesOf b g (linesFrom at (drop at titles)))) cells
+      ≡ drawn (s .columns) (placedTitles styles b start (titlesOf b g (linesFrom 0 titles))) old
+
+module _ (s : Screen) (styles : List ℕ) (b : Block) (g : Group) (titles : List ℕ) (start : Place) (old : List ℕ) where
+  pub walk-starts : 0 < s .columns → notOpening titles ≡ false → AreaFits s (length old) (start .area) → Walking s styles b g titles start old old start 0
+  walk-starts some e f = record { some = some; opens = opens-start titles e; fits = f; same-length = refl; draws = refl }
+
+  module _ (cells : List ℕ) (p : Place) (at : ℕ) (w : Walking s styles b g titles start old cells p at) where
+    pub walk-goes : (n : ℕ) (next : Place) (after : List ℕ) → at < length titles → n ≡ length (untilHead (rest titles (at + 1)))
+        → Moved s styles b g (getD titles at 0) (take (at + 1 + n - (at + 1)) (drop (at + 1) titles)) p cells next after
+        → Walking s styles b g titles start old after next (at + 1 + n)
+    walk-goes n next after h lent m =
+        record {
+          some = w .some;
+          opens = title-opens titles at n h (w .opens) lent;
+          fits = m .fits;
+          same-length = m .same-length ∙ w .same-length;
+          draws =
+              m .draws (suc at) (linesFrom (at + 1 + n) (drop (at + 1 + n) titles))
+              ∙ ap (λ (ts : List TextLine). drawn (s .columns) (placedTitles styles b p (titlesOf b g ts)) cells) (sym (title-first titles at n h (w .opens) lent))
+              ∙ w .draws;
+        }
+
+    pub walk-ends : length titles ≤ at → cells ≡ drawn (s .columns) (placedTitles styles b start (titlesOf b g (linesFrom 0 titles))) old
+    walk-ends h = sym (drawn-none (s .columns) cells) ∙ rw (none-left titles at (w .opens) h) at (w .draws)
+
+    pub walk-room : AreaFits s (length cells) (p .area) × (0 < s .columns)
+    walk-room = (w .fits, w .some)
+
+    pub walk-length : length cells ≡ length old
+    walk-length = w .same-length
+
+pub ruleset walking = (walk-starts, walk-goes, walk-ends, walk-room, walk-length)

@@ -1,0 +1,22 @@
+// The last title, looked for from the end.
+use text::head;
+ghost use mathlib.Core.Path.{_≡_};
+ghost use Prim.Native.Nat.{_<_, _≤_};
+ghost use lib.ListN.{length, take};
+ghost use Rattle.text.specs.Line.{linesFrom};
+ghost use Rattle.titles.specs.Placing.{Last};
+
+// Where the head stands of the last title before record `end`.
+pub fn last_head(titles: &[u32], end: usize) -> usize
+    requires { ⌜ (end ≤ length (now titles)) × (0 < length (linesFrom 0 (take end (now titles)))) ⌝ }
+    ensures { λ r. ⌜ Last (now (titles .entry)) end r ⌝ }
+{
+    let mut i = end;
+    while 0 < i {
+        i -= 1;
+        if head::is_head(titles[i]) {
+            return i;
+        }
+    }
+    i
+}

@@ -1,0 +1,63 @@
+//! The titles of blocks to draw: any number of them, of any alignment and position.
+
+use super::titles::head;
+use super::words::four_on;
+use crate::random::{below, next, seed};
+
+/// So many titles of up to `most` glyphs, whose style numbers are below `styles`, made of x and the
+/// numbers after it. About half of them have the same head, so that several stand side by side.
+pub fn many_titles(count: u32, most: u32, styles: u32, x: u32) -> Vec<u32> {
+    let common = any_head(x);
+    let mut x = next(next(x));
+    let mut titles = Vec::new();
+    for _ in 0..count {
+        titles.push(if below(x, 2) == 0 { common } else { any_head(next(x)) });
+        let y = four_on(x);
+        titles.extend(glyphs(length(y, most), styles, seed(x)));
+        x = next(next(y));
+    }
+    titles
+}
+
+/// A head of any alignment and position.
+fn any_head(x: u32) -> u32 {
+    head(below(next(x), 3), x)
+}
+
+/// How many glyphs a title has: as many as there may be, none, or a number between.
+fn length(x: u32, most: u32) -> u32 {
+    match below(x, 8) {
+        0..2 => most,
+        2 => 0,
+        _ => below(next(x), most + 1),
+    }
+}
+
+/// So many glyphs, each made of four numbers.
+fn glyphs(count: u32, styles: u32, seed: u32) -> Vec<u32> {
+    let mut x = seed;
+    let mut glyphs = Vec::new();
+    for _ in 0..count {
+        glyphs.push(glyph(x, styles));
+        x = four_on(x);
+    }
+    glyphs
+}
+
+/// The glyph of x and the three numbers after it, with a symbol of 21 bits.
+fn glyph(x: u32, styles: u32) -> u32 {
+    let y = next(x);
+    let z = next(next(y));
+    x >> 11 << 10 | width(y) << 7 | below(z, 2) << 6 | below(z, styles)
+}
+
+/// A width: mostly 0 to 3, and once in sixteen times any.
+fn width(x: u32) -> u32 {
+    match below(x, 16) {
+        0..2 => 0,
+        2..10 => 1,
+        10..13 => 2,
+        13..15 => 3,
+        _ => below(next(x), 8),
+    }
+}

@@ -1,0 +1,57 @@
+//! Blocks with titles to draw: up to 16, of every alignment and position.
+
+use oracle::Rect;
+
+use super::Case;
+use super::areas::{area, roomy};
+use super::drawn::block;
+use super::many_titles::many_titles;
+use super::words::{four_on, words};
+use crate::random::{below, next, seed};
+
+/// The case of a number on a screen of up to 40 × 5 cells, with titles of up to 16 glyphs.
+pub fn small(number: u32) -> Case {
+    let a = seed(number);
+    let b = next(a);
+    case(number, 1 + below(a, 40) as u16, 1 + below(b, 5) as u16, 16, next(b))
+}
+
+/// The case of a number on a screen of 512 × 3 cells, with titles of up to 256 glyphs.
+pub fn wide(number: u32) -> Case {
+    case(number, 512, 3, 256, seed(number))
+}
+
+/// The case of a number on a screen, with titles of up to `most` glyphs, made of x and the numbers
+/// after it.
+fn case(number: u32, columns: u16, rows: u16, most: u32, x: u32) -> Case {
+    let y = next(x);
+    let z = seed(next(y));
+    let styles = 1 + below(x, 8);
+    let glyphs = most >> below(next(next(z)), 4);
+    Case {
+        block: block(number, styles, 4, four_on(four_on(y))),
+        area: titled_area(number / 384, y, columns, rows),
+        titles: many_titles(count(z), glyphs, styles, four_on(z)),
+        columns,
+        rows,
+        styles: words(styles, 28, seed(x)),
+        cells: words(u32::from(columns) * u32::from(rows), 0, seed(y)),
+    }
+}
+
+/// One area in four is any, and the others have room for titles.
+fn titled_area(number: u32, x: u32, columns: u16, rows: u16) -> Rect {
+    match number % 4 {
+        0 => area(x, columns, rows),
+        _ => roomy(x, columns, rows),
+    }
+}
+
+/// How many titles a block has.
+fn count(x: u32) -> u32 {
+    match below(x, 8) {
+        0..4 => below(next(x), 5),
+        4 => 16,
+        _ => below(next(x), 17),
+    }
+}
