@@ -1,18 +1,19 @@
 -- How many truncated lines a text has, so that their count fits 32 bits.
-use Prim.Native.Nat.{ℕ, suc, _≤_}
+use Prim.Native.Nat.{ℕ, _≤_}
 use mathlib.Core.Bool.{Bool, true, false, cond}
 use mathlib.Core.List.{List, [], _∷_}
 use native.Mathlib.Omega.{arith}
 use lib.Dec.{eqb}
 use lib.ListN.{length, length-append, length-map}
 use Rattle.text.specs.declared.Alignment.{Alignment}
-use Rattle.text.specs.Record.{isHead, alignmentOf}
+use Rattle.text.specs.Record.{alignmentOf}
 use Rattle.text.specs.Alignment.{resolved}
-use Rattle.text.specs.Line.{Glyph, TextLine, untilHead, linesFrom, glyphsOf}
+use Rattle.text.specs.Line.{Glyph, TextLine, linesFrom, glyphsOf}
 use Rattle.reflow.specs.declared.Rule.{Rule}
 use Rattle.truncate.specs.Truncation.{truncate, offsetOf, shownFrom}
 use Rattle.compose.specs.declared.Method.the-variants.{Truncated}
 use Rattle.compose.specs.Lines.{aligned, linesOf, lineLines, allLines, lines}
+use Rattle.measure.proofs.Lines.{text-lines-few}
 
 -- a text line has a line or none
 few : (u : Rule) (column : ℕ) (alignment : Alignment) (gs : List Glyph) → length (truncate u column alignment gs) ≤ 1
@@ -38,17 +39,7 @@ module _ (u : Rule) (column : ℕ) (own : Alignment) where
         all-few ls,
       )
 
--- records have no more text lines than there are of them
-lines-from-few : (i : ℕ) (rs : List ℕ) → length (linesFrom i rs) ≤ length rs
-lines-from-few i [] = omega arith
-lines-from-few i (r ∷ rs) = go (isHead r) (lines-from-few (suc i) rs)
-  where
-    go : (b : Bool) → length (linesFrom (suc i) rs) ≤ length rs
-        → length (cond b (record { head = r; first = suc i; records = untilHead rs } ∷ linesFrom (suc i) rs) (linesFrom (suc i) rs)) ≤ suc (length rs)
-    go true h = omega arith
-    go false h = omega arith
-
 -- a text has no more truncated lines than records
 pub lines-few : (u : Rule) (column : ℕ) (own : Alignment) (text : List ℕ) → length (lines u (Truncated column) own text) ≤ length text
 unfolding lines
-lines-few u column own text = omega (arith, all-few u column own (linesFrom 0 text), lines-from-few 0 text)
+lines-few u column own text = omega (arith, all-few u column own (linesFrom 0 text), text-lines-few 0 text)

@@ -1,4 +1,4 @@
--- The sums of a tally's counts and of composed lines.
+-- The sums of a tally's counts, of composed lines and of measures.
 use Prim.Native.Nat.{ℕ}
 use mathlib.Core.List.{List, [], _∷_}
 use lib.ListN.{length}
@@ -34,3 +34,7 @@ withLines sum (line ∷ lines) = withLines (withLine sum (composedOf line)) line
 -- the sum of composed lines: of each, then of their number
 unfoldable pub linesSum : List Line → ℕ
 linesSum lines = withNumber (withLines 0 lines) (length lines)
+
+-- the sum of a text's rows, wrapped and not, and of its columns
+abbrev pub measuresSum : ℕ → ℕ → ℕ → ℕ
+measuresSum wrapped unwrapped columns = withNumber (withNumber (withNumber 0 wrapped) unwrapped) columns

@@ -1,4 +1,5 @@
 // Our answers about a case's text, each told by a sum.
+mod measures;
 mod sums;
 
 use cases::Case;
@@ -13,6 +14,7 @@ pub enum Question {
     Wrapped,
     Tally,
     Truncated,
+    Measures,
 }
 
 // The sum of an answer, or that there is none.
@@ -61,6 +63,7 @@ fn ask(question: Question, case: Case, text: &[u32], list: &mut [u64]) -> Answer
         Question::Wrapped => wrapped_lines(case, text, list),
         Question::Tally => counts(case, text),
         Question::Truncated => truncated_lines(case, text),
+        Question::Measures => measures::measures(case, text),
     }
 }
 

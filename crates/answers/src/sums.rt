@@ -1,4 +1,4 @@
-// The sums of counts and of lines.
+// The sums of counts, of lines and of measures.
 use checksum::with_number;
 use compose::Composed;
 use compose::Composer;
@@ -14,7 +14,7 @@ ghost use lib.ListN.{length};
 ghost use Rattle.refuse.specs.Causes.{notOpening};
 ghost use Rattle.compose.specs.declared.Method.the-variants.{Truncated};
 ghost use Rattle.compose.specs.Lines.{lines};
-ghost use Rattle.answers.specs.Sums.{countsSum, withLine, linesSum};
+ghost use Rattle.answers.specs.Sums.{countsSum, withLine, linesSum, measuresSum};
 
 // The sum of a tally's six counts.
 pub fn sum_counts(counts: Counts) -> u32
@@ -56,4 +56,11 @@ pub fn sum_truncated(rule: Rule, column: u32, own: Alignment, text: &[u32]) -> u
         composer = next;
         count += 1;
     }
+}
+
+// The sum of a text's rows, wrapped and not, and of its columns.
+pub fn sum_measures(wrapped: u32, unwrapped: u32, columns: u32) -> u32
+    ensures { λ r. ⌜ r ≡ measuresSum wrapped unwrapped columns ⌝ }
+{
+    with_number(with_number(with_number(0, wrapped), unwrapped), columns)
 }

@@ -9,14 +9,18 @@ use Rattle.refuse.specs.declared.Verdict.{Verdict}
 use Rattle.refuse.specs.declared.Verdict.the-variants.{Accepted, Refused as RefusedFor}
 use Rattle.block.specs.declared.Block.{Block}
 use Rattle.block.specs.declared.InnerArea.the-variants.{Area, Refused}
-use Rattle.block.specs.Causes.{innerVerdict, innerAnswer}
+use Rattle.refuse.specs.Refusal.{refusalNumber, verdictNumber, unlessRefused}
+use Rattle.block.specs.Causes.{innerVerdict, innerAnswer, noRect}
 
 -- v is what the checks answered, with the ceilings m
 module _ (most m : Ceilings) (titles : List ℕ) (b : Block) (v : Verdict) (q : m ≡ most) (e : v ≡ innerVerdict m titles b) (area : Rect) where
-  pub inner-refused : (why : Refusal) → v ≡ RefusedFor why → Refused why ≡ innerAnswer (innerVerdict most titles b) area
-  inner-refused why r = rw (← q, ← e, r)
+  abbrev verdict : Verdict
+  verdict = innerVerdict most titles b
 
-  pub inner-accepted : (answer : Rect) → v ≡ Accepted → answer ≡ area → Area answer ≡ innerAnswer (innerVerdict most titles b) area
-  inner-accepted answer a p = rw (← q, ← e, a, p)
+  pub inner-refused : (why : Refusal) → v ≡ RefusedFor why
+      → (Refused why ≡ innerAnswer verdict area) × ((refusalNumber why ≡ verdictNumber verdict) × (noRect ≡ unlessRefused verdict area noRect))
+  inner-refused why r = let k : verdict ≡ RefusedFor why = rw (← q, ← e) r in (rw k, (rw k, rw k))
 
-pub ruleset answered = (inner-refused, inner-accepted)
+  pub inner-accepted : (answer : Rect) → v ≡ Accepted → answer ≡ area
+      → (Area answer ≡ innerAnswer verdict area) × ((0 ≡ verdictNumber verdict) × (answer ≡ unlessRefused verdict area noRect))
+  inner-accepted answer a p = let k : verdict ≡ Accepted = rw (← q, ← e) a in (rw (k, p), (rw k, rw k p))

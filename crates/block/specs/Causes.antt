@@ -57,12 +57,14 @@ abbrev pub innerAnswer : Verdict → Rect → InnerArea
 innerAnswer Accepted area = Area area
 innerAnswer (RefusedFor why) area = Refused why
 
--- what the answer says: the table's number, or 0 for none, and the area, four zeros where the call is refused, as counts are.
--- Theorems `answer-number` and `refused-rect` say so of the call's answer.
+-- what the answer says: the table's number, or 0 for none, and the area, four zeros where the call is refused, as counts are
 abbrev pub innerNumber : InnerArea → ℕ
 innerNumber (Area area) = 0
 innerNumber (Refused why) = refusalNumber why
 
+abbrev pub noRect : Rect
+noRect = record { x = 0; y = 0; width = 0; height = 0 }
+
 abbrev pub innerRect : InnerArea → Rect
 innerRect (Area area) = area
-innerRect (Refused why) = record { x = 0; y = 0; width = 0; height = 0 }
+innerRect (Refused why) = noRect

@@ -11,9 +11,10 @@ use refuse::Verdict;
 use refuse::records;
 use refuse::styles;
 ghost use mathlib.Core.Path.{_≡_};
+ghost use Rattle.refuse.specs.Refusal.{verdictNumber, unlessRefused};
 ghost use Rattle.refuse.specs.Causes.{mostAccepted, styleNumbersWrong, symbolsWrong};
 ghost use Rattle.block.specs.Inner.{innerOf};
-ghost use Rattle.block.specs.Causes.{shadowStyles, blockStyles, shadowSymbols, borderSymbols, blockSymbols, innerVerdict, innerAnswer};
+ghost use Rattle.block.specs.Causes.{shadowStyles, blockStyles, shadowSymbols, borderSymbols, blockSymbols, innerVerdict, innerAnswer, innerNumber, noRect, innerRect};
 
 // 6, of a shadow.
 fn shadow_style_wrong(count: usize, shadow: Shadow) -> bool
@@ -110,7 +111,9 @@ fn inner_verdict(most: Ceilings, titles: &[u32], block: Block) -> Verdict
 
 // The inner area of a block: causes 5, 7.
 pub fn inner(block: Block, titles: &[u32], area: Rect) -> InnerArea
-    ensures { λ r. ⌜ r ≡ innerAnswer (innerVerdict mostAccepted (now (titles .entry)) block) (innerOf block (now (titles .entry)) area) ⌝ }
+    ensures answer { λ r. ⌜ r ≡ innerAnswer (innerVerdict mostAccepted (now (titles .entry)) block) (innerOf block (now (titles .entry)) area) ⌝ }
+    ensures number { λ r. ⌜ innerNumber r ≡ verdictNumber (innerVerdict mostAccepted (now (titles .entry)) block) ⌝ }
+    ensures rect { λ r. ⌜ innerRect r ≡ unlessRefused (innerVerdict mostAccepted (now (titles .entry)) block) (innerOf block (now (titles .entry)) area) noRect ⌝ }
 {
     let most = Ceilings::accepted();
     if let Verdict::Refused(why) = inner_verdict(most, titles, block) {

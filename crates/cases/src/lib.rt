@@ -11,8 +11,9 @@ mod texts;
 use text::Alignment;
 
 // What a case asks about: its text is the first `length` records of those that its part wrote. Lines are trimmed or not where they
-// are wrapped, and scrolled to the right by `column` where they are truncated.
+// are wrapped, and scrolled to the right by `column` where they are truncated. The number is that of the case in its part.
 pub struct Case {
+    pub number: u32,
     pub length: usize,
     pub own: Alignment,
     pub limit: u16,

@@ -84,6 +84,7 @@ pub fn write_case(text: &mut [u32], number: u32) -> Case
     let length = length_of(number, d);
     texts::write_random(text, length, manner, f);
     Case {
+        number: number,
         length: length,
         own: texts::alignment(number % 3),
         limit: limit(below(e, 26)),

@@ -27,6 +27,7 @@ pub fn write_case(text: &mut [u32], number: u32) -> Case
     let length = below(d, 25) as usize;
     texts::write_random(text, length, manner, f);
     Case {
+        number: number,
         length: length,
         own: texts::alignment(number % 3),
         limit: below(e, 9) as u16,

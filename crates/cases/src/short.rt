@@ -49,6 +49,7 @@ pub fn write_case(text: &mut [u32], number: u32) -> Case
     write_head(text);
     let length = write_glyphs(text, number / 10);
     Case {
+        number: number,
         length: length,
         own: Alignment::Left,
         limit: limit,

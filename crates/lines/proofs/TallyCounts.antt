@@ -35,7 +35,7 @@ use Rattle.lines.proofs.Ways.{all-counted}
 use Rattle.lines.proofs.Emitted.{lists, lines-wrapped, emitted-length, skipped-length, all-accounted, all-blank}
 
 -- a text that opens with a head has no glyph before it
-opens-none : (text : List ℕ) → notOpening text ≡ false → untilHead text ≡ []
+pub opens-none : (text : List ℕ) → notOpening text ≡ false → untilHead text ≡ []
 opens-none [] o = refl
 opens-none (r ∷ rs) o = rw (not-false (isHead r) o)
 

@@ -13,7 +13,7 @@ use Rattle.refuse.specs.declared.Refusal.{Refusal}
 use Rattle.refuse.specs.declared.Refusal.the-variants.{TextLength, TextHeads, Limit, ListLength}
 use Rattle.refuse.specs.declared.Verdict.{Verdict}
 use Rattle.refuse.specs.declared.Verdict.the-variants.{Accepted, Refused as RefusedFor}
-use Rattle.refuse.specs.Refusal.{Cause, _if_, firstCause}
+use Rattle.refuse.specs.Refusal.{Cause, _if_, firstCause, refusalNumber, verdictNumber, unlessRefused}
 use Rattle.refuse.specs.Causes.{textTooLong, notOpening, textHeadWrong, textHeadsWrong, limitWrong, listTooShort, some}
 use Rattle.refuse.proofs.Calls.{passed, early-refused, early-accepted}
 use Rattle.compose.specs.declared.Method.the-variants.{Wrapped}
@@ -23,7 +23,7 @@ use Rattle.lines.specs.declared.Counts.{Counts}
 use Rattle.lines.specs.declared.Tallied.the-variants.{Counted, Refused as RefusedTally}
 use Rattle.lines.specs.List.{listed, ruleOf, listCauses, listVerdict, listAnswer, listAfter}
 use Rattle.lines.specs.Causes.{textCauses, textVerdict}
-use Rattle.lines.specs.Tally.{tallyAnswer}
+use Rattle.lines.specs.Tally.{noCounts, tallyAnswer}
 
 -- v is what the checks of the text answered, with the ceilings m
 module _ (most m : Ceilings) (limit : ℕ) (text : List ℕ) (v : Verdict) (q : m ≡ most) (e : v ≡ textVerdict m limit text) where
@@ -41,11 +41,13 @@ module _ (most m : Ceilings) (limit : ℕ) (text : List ℕ) (v : Verdict) (q : 
     abbrev verdict : Verdict
     verdict = listVerdict most (ruleOf limit trim) own text (length list)
 
-    pub refused-early : (why : Refusal) → v ≡ RefusedFor why → (Refused why ≡ listAnswer verdict (length all)) × (list ≡ listAfter verdict (map listed all) list)
+    pub refused-early : (why : Refusal) → v ≡ RefusedFor why
+        → (Refused why ≡ listAnswer verdict (length all)) × ((refusalNumber why ≡ verdictNumber verdict)
+        × ((0 ≡ unlessRefused verdict (length all) 0) × (list ≡ listAfter verdict (map listed all) list)))
     unfolding listVerdict listCauses
     refused-early why r =
         let k : verdict ≡ RefusedFor why = early-refused (ListLength if listTooShort (length list) (length all) ∷ []) text-causes why (sym checked ∙ r) in
-        (rw k, rw k)
+        (rw k, (rw k, (rw k, rw k)))
 
     module _ (a : v ≡ Accepted) (count : ℕ) (c : count ≡ length all) (b : Bool) (p : b ≡ listTooShort (length list) count) where
       later : verdict ≡ firstCause (ListLength if b ∷ [])
@@ -54,22 +56,29 @@ module _ (most m : Ceilings) (limit : ℕ) (text : List ℕ) (v : Verdict) (q : 
           early-accepted (ListLength if listTooShort (length list) (length all) ∷ []) text-causes (sym checked ∙ a)
           ∙ ap (λ (x : Bool). firstCause (ListLength if x ∷ [])) (ap (λ (n : ℕ). ltb (length list) n) (sym c) ∙ sym p)
 
-      pub refused-short : b ≡ true → (Refused ListLength ≡ listAnswer verdict (length all)) × (list ≡ listAfter verdict (map listed all) list)
-      refused-short t = let k : verdict ≡ RefusedFor ListLength = later ∙ rw t in (rw k, rw k)
+      pub refused-short : b ≡ true
+          → (Refused ListLength ≡ listAnswer verdict (length all)) × ((refusalNumber ListLength ≡ verdictNumber verdict)
+          × ((0 ≡ unlessRefused verdict (length all) 0) × (list ≡ listAfter verdict (map listed all) list)))
+      refused-short t = let k : verdict ≡ RefusedFor ListLength = later ∙ rw t in (rw k, (rw k, (rw k, rw k)))
 
       pub written : b ≡ false → (new : List ℕ) → new ≡ map listed all ++ drop (length all) list
-          → (Written count ≡ listAnswer verdict (length all)) × (new ≡ listAfter verdict (map listed all) list)
+          → (Written count ≡ listAnswer verdict (length all)) × ((0 ≡ verdictNumber verdict)
+          × ((count ≡ unlessRefused verdict (length all) 0) × (new ≡ listAfter verdict (map listed all) list)))
       written f new w =
           let k : verdict ≡ Accepted = later ∙ rw f in
-          (rw (k, c), rw (k, length-map) w)
+          (rw (k, c), (rw k, (rw k c, rw (k, length-map) w)))
 
   -- a tally has no other cause
   module _ (counts : Counts) where
-    pub tally-refused : (why : Refusal) → v ≡ RefusedFor why → RefusedTally why ≡ tallyAnswer (textVerdict most limit text) counts
-    tally-refused why r = rw (← q, ← e, r)
+    pub tally-refused : (why : Refusal) → v ≡ RefusedFor why
+        → (RefusedTally why ≡ tallyAnswer (textVerdict most limit text) counts) × ((refusalNumber why ≡ verdictNumber (textVerdict most limit text))
+        × (noCounts ≡ unlessRefused (textVerdict most limit text) counts noCounts))
+    tally-refused why r = let k : textVerdict most limit text ≡ RefusedFor why = rw (← q, ← e) r in (rw k, (rw k, rw k))
 
-    pub tally-counted : v ≡ Accepted → (c : Counts) → c ≡ counts → Counted c ≡ tallyAnswer (textVerdict most limit text) counts
-    tally-counted a c k = rw (← q, ← e, a, k)
+    pub tally-counted : v ≡ Accepted → (c : Counts) → c ≡ counts
+        → (Counted c ≡ tallyAnswer (textVerdict most limit text) counts) × ((0 ≡ verdictNumber (textVerdict most limit text))
+        × (c ≡ unlessRefused (textVerdict most limit text) counts noCounts))
+    tally-counted a c p = let k : textVerdict most limit text ≡ Accepted = rw (← q, ← e) a in (rw (k, p), (rw k, rw k p))
 
   -- no cause of the text holds
   module _ (a : v ≡ Accepted) where

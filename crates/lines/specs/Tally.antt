@@ -45,8 +45,7 @@ abbrev pub tallyAnswer : Verdict → Counts → Tallied
 tallyAnswer Accepted counts = Counted counts
 tallyAnswer (RefusedFor why) counts = Refused why
 
--- what the answer says: the table's number, or 0 for none, and the counts, "number, counts 0" where the call is refused. Theorems
--- `tally-number` and `refused-counts` say so of the call's answer.
+-- what the answer says: the table's number, or 0 for none, and the counts, "number, counts 0" where the call is refused
 abbrev pub talliedNumber : Tallied → ℕ
 talliedNumber (Counted counts) = 0
 talliedNumber (Refused why) = refusalNumber why

@@ -18,12 +18,13 @@ ghost use mathlib.Core.Bool.{false};
 ghost use mathlib.Core.List.{_++_, map};
 ghost use Prim.Native.Nat.{_+_, _^_, _≤_, _<_};
 ghost use lib.ListN.{length, drop};
+ghost use Rattle.refuse.specs.Refusal.{verdictNumber, unlessRefused};
 ghost use Rattle.refuse.specs.Causes.{mostAccepted, notOpening};
 ghost use Rattle.compose.specs.declared.Method.the-variants.{Wrapped};
 ghost use Rattle.compose.specs.Lines.{lines};
-ghost use Rattle.lines.specs.List.{packed, listed, ruleOf, listVerdict, listAnswer, listAfter};
+ghost use Rattle.lines.specs.List.{packed, listed, ruleOf, listVerdict, listAnswer, listedNumber, listedCount, listAfter};
 ghost use Rattle.lines.specs.Causes.{textVerdict};
-ghost use Rattle.lines.specs.Tally.{tallyOf, tallyAnswer};
+ghost use Rattle.lines.specs.Tally.{noCounts, tallyOf, tallyAnswer, talliedNumber, talliedCounts};
 
 // What a list call answers: how many lines it wrote, or why it wrote none.
 pub enum Listed {
@@ -126,6 +127,8 @@ fn write_lines(rule: Rule, own: Alignment, text: &[u32], list: &mut [u64])
 // Lists the composed lines of a text: causes 3, 4, 8, 9. The lines are counted before the first entry is written.
 pub fn list_lines(text: &[u32], own: Alignment, limit: u16, trim: bool, list: &mut [u64]) -> Listed
     ensures answer { λ r. ⌜ r ≡ listAnswer (listVerdict mostAccepted (ruleOf limit trim) own (now (text .entry)) (length (now (list .entry)))) (length (lines (ruleOf limit trim) Wrapped own (now (text .entry)))) ⌝ }
+    ensures number { λ r. ⌜ listedNumber r ≡ verdictNumber (listVerdict mostAccepted (ruleOf limit trim) own (now (text .entry)) (length (now (list .entry)))) ⌝ }
+    ensures count { λ r. ⌜ listedCount r ≡ unlessRefused (listVerdict mostAccepted (ruleOf limit trim) own (now (text .entry)) (length (now (list .entry)))) (length (lines (ruleOf limit trim) Wrapped own (now (text .entry)))) 0 ⌝ }
     ensures entries { λ r. ⌜ now (list .exit) ≡ listAfter (listVerdict mostAccepted (ruleOf limit trim) own (now (text .entry)) (length (now (list .entry)))) (map listed (lines (ruleOf limit trim) Wrapped own (now (text .entry)))) (now (list .entry)) ⌝ }
 {
     let most = Ceilings::accepted();
@@ -146,7 +149,9 @@ pub fn list_lines(text: &[u32], own: Alignment, limit: u16, trim: bool, list: &m
 
 // Tallies a text at a limit: causes 3, 4, 8.
 pub fn tally(text: &[u32], limit: u16, trim: bool) -> Tallied
-    ensures { λ r. ⌜ r ≡ tallyAnswer (textVerdict mostAccepted limit (now (text .entry))) (tallyOf (ruleOf limit trim) (now (text .entry))) ⌝ }
+    ensures answer { λ r. ⌜ r ≡ tallyAnswer (textVerdict mostAccepted limit (now (text .entry))) (tallyOf (ruleOf limit trim) (now (text .entry))) ⌝ }
+    ensures number { λ r. ⌜ talliedNumber r ≡ verdictNumber (textVerdict mostAccepted limit (now (text .entry))) ⌝ }
+    ensures counts { λ r. ⌜ talliedCounts r ≡ unlessRefused (textVerdict mostAccepted limit (now (text .entry))) (tallyOf (ruleOf limit trim) (now (text .entry))) noCounts ⌝ }
 {
     let most = Ceilings::accepted();
     if let Verdict::Refused(why) = check_text(most, limit, text) {

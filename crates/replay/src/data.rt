@@ -7,5 +7,6 @@ pub fn open(question: Question) -> i32 {
         Question::Wrapped => os::open_read(b"wrapped"),
         Question::Tally => os::open_read(b"tally"),
         Question::Truncated => os::open_read(b"truncated"),
+        Question::Measures => os::open_read(b"measures"),
     }
 }

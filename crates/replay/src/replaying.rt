@@ -67,4 +67,5 @@ pub fn replay() {
     replay_question(Question::Wrapped);
     replay_question(Question::Tally);
     replay_question(Question::Truncated);
+    replay_question(Question::Measures);
 }

@@ -9,6 +9,7 @@ fn print_question(question: Question) -> bool {
         Question::Wrapped => io::write_all(STDOUT_FILENO, b"wrapped"),
         Question::Tally => io::write_all(STDOUT_FILENO, b"tally"),
         Question::Truncated => io::write_all(STDOUT_FILENO, b"truncated"),
+        Question::Measures => io::write_all(STDOUT_FILENO, b"measures"),
     }
 }
 

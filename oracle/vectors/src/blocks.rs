@@ -2,7 +2,7 @@
 
 mod areas;
 mod drawn;
-mod inner;
+pub mod inner;
 mod many_titles;
 mod settings;
 mod shadows;

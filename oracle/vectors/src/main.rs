@@ -2,12 +2,12 @@
 //! cases and compare.
 //!
 //! Usage: `vectors [FOLDER]`, from the repository's root; the folder is `crates` where none is
-//! given. It gets a file for each question: `wrapped`, `tally` and `truncated` in `replay/data`,
-//! `inner`, `blocks` and `titled` in `replayblocks/data`. A file has a sum of the answer to each
-//! case, 4 bytes each, high byte first: those of short lines, of several lines and of long texts;
-//! those of inner areas; those of blocks without titles on small screens and on large ones; those
-//! of blocks with titles on small screens and on wide ones. A panic of the Rust ends it with exit
-//! status 1.
+//! given. It gets a file for each question: `wrapped`, `tally`, `truncated` and `measures` in
+//! `replay/data`, `inner`, `blocks` and `titled` in `replayblocks/data`. A file has a sum of the
+//! answer to each case, 4 bytes each, high byte first: those of short lines, of several lines and
+//! of long texts; those of inner areas; those of blocks without titles on small screens and on
+//! large ones; those of blocks with titles on small screens and on wide ones. A panic of the Rust
+//! ends it with exit status 1.
 
 mod blocks;
 mod random;

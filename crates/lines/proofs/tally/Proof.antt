@@ -16,7 +16,9 @@ enum-known-why : tie.Need-enum-known-why
 enum-known-why c = search needs
 
 returns : tie.Need-returns
-returns c = search tally-refused
+returns c =
+    let checked = c .before .before .before in
+    tally-refused mostAccepted _ _ _ _ (checked .before .accepted .ensures) (checked .check-text .ensures) _ _ (search needs)
 
 enum-told : tie.Need-enum-told
 enum-told c = search needs
@@ -28,7 +30,9 @@ text-counts-requires c κs =
     (omega arith, search text-opens)
 
 returns-2 : tie.Need-returns-2
-returns-2 c = search tally-counted
+returns-2 c =
+    let checked = c .before .before .before in
+    tally-counted mostAccepted _ _ _ _ (checked .before .accepted .ensures) (checked .check-text .ensures) _ (search needs) _ (c .text-counts .ensures)
 
 pub tally-spec : {M : Type 1} → statement M
 tally-spec =

@@ -6,8 +6,9 @@ use super::records;
 use crate::random::{below, next};
 
 /// A text, and how its lines are made: trimmed or not where they are wrapped, and scrolled to the
-/// right by `column` where they are truncated.
+/// right by `column` where they are truncated. The number is that of the case in its part.
 pub struct Case {
+    pub number: u32,
     pub text: Vec<u32>,
     pub own: Alignment,
     pub limit: u16,

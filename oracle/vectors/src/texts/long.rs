@@ -21,6 +21,7 @@ pub fn case(number: u32) -> Case {
     let kind = below(a, 4) as usize;
     let manner = Manner { heads: HEADS[kind], widths: 1 + below(b, 8), spaces: 1 + below(c, 12) };
     Case {
+        number,
         text: text(length(number, d), &manner, f),
         own: alignment(number % 3),
         limit: limit(below(e, 26)),

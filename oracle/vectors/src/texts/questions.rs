@@ -1,15 +1,17 @@
 //! What is asked of each text.
 
-use oracle::{ComposedLine, Outcome};
+use oracle::{ComposedLine, Outcome, Wrap};
 
 use super::case::Case;
 use crate::Question;
+use crate::blocks;
 use crate::sums;
 
-pub const QUESTIONS: [Question<Case>; 3] = [
+pub const QUESTIONS: [Question<Case>; 4] = [
     Question { file: "replay/data/wrapped", ask: wrapped_lines },
     Question { file: "replay/data/tally", ask: counts },
     Question { file: "replay/data/truncated", ask: truncated_lines },
+    Question { file: "replay/data/measures", ask: measures },
 ];
 
 fn wrapped_lines(case: &Case) -> Outcome<u32> {
@@ -24,4 +26,18 @@ fn counts(case: &Case) -> Outcome<u32> {
 fn truncated_lines(case: &Case) -> Outcome<u32> {
     oracle::truncated_lines(&case.text, case.own, case.limit, case.column)
         .map(|lines| sums::sum_lines(&lines))
+}
+
+/// How many rows the text needs, wrapped and not, and how many columns, in the block of the inner
+/// area with the case's number.
+fn measures(case: &Case) -> Outcome<u32> {
+    let blocks::Case { block, titles, .. } = blocks::inner::case(case.number);
+    let (wrapped, unwrapped) = (Wrap::On { trim: case.trim }, Wrap::Off { column: case.column });
+    let rows = |wrap| oracle::line_count(&case.text, &titles, block, wrap, case.limit);
+    rows(wrapped).and_then(|wrapped| {
+        rows(unwrapped).and_then(|unwrapped| {
+            oracle::line_width(&case.text, &titles, block)
+                .map(|width| sums::sum_numbers([wrapped, unwrapped, width]))
+        })
+    })
 }

@@ -14,6 +14,7 @@ pub fn case(number: u32) -> Case {
     let manner =
         Manner { heads: 2 + below(a, 6), widths: 1 + below(b, 5), spaces: 1 + below(c, 5) };
     Case {
+        number,
         text: text(below(d, 25), &manner, f),
         own: alignment(number % 3),
         limit: below(e, 9) as u16,

@@ -8,6 +8,7 @@ use super::records;
 /// The case of a number: ten for each text line, at the columns 0 to 9.
 pub fn case(number: u32) -> Case {
     Case {
+        number,
         text: line(number / 10),
         own: Alignment::Left,
         limit: (1 + number % 10 / 2) as u16,

@@ -1,5 +1,6 @@
 -- `block::causes::inner` meets its contract.
-use Rattle.block.proofs.Verdicts.{answered}
+use Rattle.refuse.specs.Causes.{mostAccepted}
+use Rattle.block.proofs.Verdicts.{inner-refused, inner-accepted}
 use borrow.Author.Needs.{needs}
 use Rattle.block.proofs.causes.inner.Statement.{statement}
 use Rattle.block.proofs.causes.inner.Tie as tie
@@ -14,7 +15,9 @@ enum-known-why : tie.Need-enum-known-why
 enum-known-why c = search needs
 
 returns : tie.Need-returns
-returns c = search answered
+returns c =
+    let checked = c .before .before .before in
+    inner-refused mostAccepted _ _ _ _ (checked .before .accepted .ensures) (checked .inner-verdict .ensures) _ _ (search needs)
 
 enum-told : tie.Need-enum-told
 enum-told c = search needs
@@ -23,7 +26,9 @@ inner-area-requires : tie.Need-inner-area-requires
 inner-area-requires c κs = search needs
 
 returns-2 : tie.Need-returns-2
-returns-2 c = search answered
+returns-2 c =
+    let checked = c .before .before .before in
+    inner-accepted mostAccepted _ _ _ _ (checked .before .accepted .ensures) (checked .inner-verdict .ensures) _ _ (search needs) (c .inner-area .ensures)
 
 pub inner-spec : {M : Type 1} → statement M
 inner-spec =
