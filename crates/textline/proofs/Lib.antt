@@ -1,0 +1,5 @@
+pub mod OneGlyph
+pub mod Offsets
+pub mod Writing
+pub mod Moving
+pub mod LineDrawn

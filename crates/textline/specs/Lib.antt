@@ -1,0 +1,2 @@
+pub mod TextLine
+pub mod Writing
