@@ -15,6 +15,7 @@ use Rattle.compose.specs.declared.Pull.the-variants.{Line as PulledLine, Done}
 use Rattle.compose.specs.declared.Method.the-variants.{Truncated}
 use Rattle.compose.specs.Lines.{lines, composedOf}
 use Rattle.compose.specs.Composing.{left, lineAt, Ready, Started, Told, Pulled}
+use Rattle.compose.proofs.Pulled.{pulled-left, pulled-ready, pulled-told, none-left}
 use Rattle.checksum.specs.Sums.{withNumber}
 use Rattle.answers.specs.Sums.{withLine, withLines, linesSum}
 use Rattle.answers.proofs.Few.{lines-few}
@@ -36,11 +37,11 @@ module _ (u : Rule) (column : ℕ) (own : Alignment) (text : List ℕ) (c : Comp
 
   module _ (sum count : ℕ) (k : Pulling u column own text c sum count) (o : Pull) (p : Pulled u own text c o) where
     module _ (line : Composed) (d : Composer) (e : o ≡ PulledLine line d) where
-      pulled-left : left u own text c ≡ lineAt u text line ∷ left u own text d
-      pulled-left = rw e at (p .pulled-lines)
+      left-is : left u own text c ≡ lineAt u text line ∷ left u own text d
+      left-is = pulled-left u own text c o p line d e
 
       told : Told u text line
-      told = (rw e at (p .ready)) .1
+      told = pulled-told u own text c o p line d e
 
       pub first-fits : length text < 2 ^ 28 → line .first < 2 ^ 32
       first-fits h = omega (arith, told .ordered, told .within)
@@ -49,24 +50,24 @@ module _ (u : Rule) (column : ℕ) (own : Alignment) (text : List ℕ) (c : Comp
       end-fits h = omega (arith, told .within)
 
       pub count-fits : length text < 2 ^ 28 → Fits w32 (count + 1)
-      count-fits h = record { fits = omega (arith, k .counted, ap length pulled-left, lines-few u column own text) }
+      count-fits h = record { fits = omega (arith, k .counted, ap length left-is, lines-few u column own text) }
 
       pub pulling-less : length (left u own text d) < length (left u own text c)
-      pulling-less = omega (arith, ap length pulled-left)
+      pulling-less = omega (arith, ap length left-is)
 
       pub pulling-goes : (next : ℕ) → next ≡ withLine sum line → Pulling u column own text d next (count + 1)
       pulling-goes next f =
           let next-is : next ≡ withLine sum (composedOf (lineAt u text line)) = f ∙ ap (withLine sum) (told .is) in
           record {
-            ready = (rw e at (p .ready)) .0;
-            counted = omega (arith, k .counted, ap length pulled-left);
-            same = rw next-is (rw pulled-left at (k .same));
+            ready = pulled-ready u own text c o p line d e;
+            counted = omega (arith, k .counted, ap length left-is);
+            same = rw next-is (rw left-is at (k .same));
           }
 
     pub pulling-ends : (r : ℕ) → o ≡ Done → r ≡ withNumber sum count → r ≡ linesSum (lines u (Truncated column) own text)
     unfolding linesSum
     pulling-ends r e f =
-        let z : left u own text c ≡ [] = rw e at (p .pulled-lines) in
+        let z : left u own text c ≡ [] = none-left u own text c o p e in
         let same : sum ≡ withLines 0 (lines u (Truncated column) own text) = rw z at (k .same) in
         let counted : count ≡ length (lines u (Truncated column) own text) = omega (arith, k .counted, ap length z) in
         cc

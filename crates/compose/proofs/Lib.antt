@@ -4,3 +4,4 @@ pub mod Composers
 pub mod Opening
 pub mod Pulling
 pub mod ReadBack
+pub mod Pulled

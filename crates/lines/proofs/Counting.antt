@@ -17,6 +17,7 @@ use Rattle.compose.specs.declared.Pull.the-variants.{Line as PulledLine, Done}
 use Rattle.compose.specs.declared.Method.the-variants.{Wrapped}
 use Rattle.compose.specs.Lines.{lines, composedOf}
 use Rattle.compose.specs.Composing.{left, lineAt, Ready, Started, Told, Pulled}
+use Rattle.compose.proofs.Pulled.{pulled-left, pulled-ready, pulled-told, none-left}
 use Rattle.lines.specs.List.{packed, listed}
 use Rattle.lines.proofs.Bounds.{Narrow, narrow-lines, lines-short}
 
@@ -30,26 +31,23 @@ counting-starts u own text c s = record { ready = s .ready; counted = omega (ari
 
 module _ (u : Rule) (own : Alignment) (text : List ℕ) (c : Composer) (n : ℕ) (k : Counting u own text c n) (o : Pull) (p : Pulled u own text c o) where
   module _ (line : Composed) (d : Composer) (e : o ≡ PulledLine line d) where
-    pub pulled-left : left u own text c ≡ lineAt u text line ∷ left u own text d
-    pulled-left = rw e at (p .pulled-lines)
-
-    pub pulled-told : Told u text line
-    pulled-told = (rw e at (p .ready)) .1
+    one-fewer : length (left u own text c) ≡ 1 + length (left u own text d)
+    one-fewer = omega (arith, ap length (pulled-left u own text c o p line d e))
 
     pub counting-goes : Counting u own text d (n + 1)
-    counting-goes = record { ready = (rw e at (p .ready)) .0; counted = omega (arith, k .counted, ap length pulled-left) }
+    counting-goes = record { ready = pulled-ready u own text c o p line d e; counted = omega (arith, k .counted, one-fewer) }
 
     pub counting-less : length (left u own text d) < length (left u own text c)
-    counting-less = omega (arith, ap length pulled-left)
+    counting-less = omega (arith, one-fewer)
 
     pub counting-more : n < length (lines u Wrapped own text)
-    counting-more = omega (arith, k .counted, ap length pulled-left)
+    counting-more = omega (arith, k .counted, one-fewer)
 
     pub counting-fits : length text < 2 ^ 28 → Fits w64 (n + 1)
     counting-fits h = record { fits = omega (arith, counting-more, lines-short u own text) }
 
   pub counting-done : o ≡ Done → n ≡ length (lines u Wrapped own text)
-  counting-done e = let z : left u own text c ≡ [] = rw e at (p .pulled-lines) in omega (arith, k .counted, ap length z)
+  counting-done e = omega (arith, k .counted, ap length (none-left u own text c o p e))
 
 pub ruleset counting = (counting-starts, counting-goes, counting-less, counting-fits, counting-done)
 
@@ -88,10 +86,10 @@ module _ (u : Rule) (own : Alignment) (text old list : List ℕ) (c : Composer) 
     writing-scaled h = record { fits = omega (arith, bounded h) }
 
     left-is : left u own text c ≡ lineAt u text line ∷ left u own text d
-    left-is = pulled-left u own text c n (w .counting-on) o p line d e
+    left-is = pulled-left u own text c o p line d e
 
     is-told : Told u text line
-    is-told = pulled-told u own text c n (w .counting-on) o p line d e
+    is-told = pulled-told u own text c o p line d e
 
     both : Narrow (u .limit + 13) (lineAt u text line ∷ left u own text d)
     both = rw left-is at (w .narrow)

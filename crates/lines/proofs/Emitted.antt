@@ -4,20 +4,18 @@ use mathlib.Core.Path.{_≡_, refl, ap, _∙_}
 use mathlib.Core.Bool.{Bool, true, false, cond}
 use mathlib.Core.List.{List, [], _∷_, _++_, map, map-append}
 use native.Mathlib.Omega.{arith}
-use borrow.Author.Tests.{eqb-false}
-use lib.Dec.{eqb}
 use lib.ListN.{length, length-append}
 use Rattle.text.specs.declared.Alignment.{Alignment}
 use Rattle.text.specs.Record.{alignmentOf}
 use Rattle.text.specs.Alignment.{resolved}
-use Rattle.text.specs.Line.{Glyph, TextLine, linesFrom, glyphsOf, startsFrom}
-use Rattle.text.proofs.LineGlyphs.{lineGlyphs, split-glyphs, glyphs-short}
+use Rattle.text.specs.Line.{Glyph, TextLine, linesFrom, glyphsOf}
+use Rattle.text.proofs.LineGlyphs.{lineGlyphs, split-glyphs, glyphs-short, starts-length}
 use Rattle.reflow.specs.declared.Rule.{Rule}
 use Rattle.reflow.specs.Wrapping.{overWide, overWides, wrap}
 use Rattle.nothing_lost.specs.Glyphs.{solids, glyphsOfAll}
-use Rattle.nothing_lost.proofs.Lists.{cases, glyphs-append}
+use Rattle.nothing_lost.proofs.Lists.{glyphs-append}
 use Rattle.nothing_lost.proofs.Solid.{solids-append, dropped-whitespace}
-use Rattle.nothing_lost.proofs.Accounted.{accounted-lengths}
+use Rattle.nothing_lost.proofs.Accounted.{accounted-lengths, wrapped-few}
 use Rattle.compose.specs.declared.Method.the-variants.{Wrapped}
 use Rattle.compose.specs.Lines.{Line, aligned, linesOf, lineLines, allLines, lines, allSkipped, allDropped}
 use Rattle.compose.specs.Places.{starts}
@@ -47,31 +45,20 @@ pub lines-wrapped : (u : Rule) (own : Alignment) (text : List ℕ) → lists (li
 unfolding lines
 lines-wrapped u own text = all-wrapped u own (linesFrom 0 text)
 
-from-length : (column : ℕ) (gs : List Glyph) → length (startsFrom column gs) ≡ length gs
-from-length column [] = refl
-from-length column (g ∷ gs) = omega (arith, from-length (column + g .width) gs)
-
 -- every glyph of a line has a start
-starts-length : (ls : List Line) → length (starts ls) ≡ length (glyphsOfAll (lists ls))
-starts-length [] = refl
-starts-length (line ∷ rest) = simp length-append (omega (arith, from-length 0 (line .glyphs), starts-length rest))
+all-starts : (ls : List Line) → length (starts ls) ≡ length (glyphsOfAll (lists ls))
+all-starts [] = refl
+all-starts (line ∷ rest) = simp length-append (omega (arith, starts-length 0 (line .glyphs), all-starts rest))
 
 -- so a text's lines have as many starts as wrapping emits glyphs
 pub emitted-length : (u : Rule) (own : Alignment) (text : List ℕ) → length (starts (lines u Wrapped own text)) ≡ length (glyphsOfAll (wrapped u (linesFrom 0 text)))
-emitted-length u own text = starts-length (lines u Wrapped own text) ∙ ap (λ (ls : List (List Glyph)). length (glyphsOfAll ls)) (lines-wrapped u own text)
+emitted-length u own text = all-starts (lines u Wrapped own text) ∙ ap (λ (ls : List (List Glyph)). length (glyphsOfAll ls)) (lines-wrapped u own text)
 
--- a text emits no more glyphs than it has; where the limit is 0, none
-line-emitted : (u : Rule) (gs : List Glyph) → length (glyphsOfAll (wrap u gs .lines)) ≤ length gs
-unfolding wrap
-line-emitted u gs =
-    cases (λ _. length (glyphsOfAll (wrap u gs .lines)) ≤ length gs) (eqb (u .limit) 0)
-    (λ e. rw e (omega arith))
-    (λ e. let n = eqb-false (u .limit) 0 e in omega (arith, accounted-lengths u gs (omega arith)))
-
+-- a text emits no more glyphs than it has
 pub emitted-few : (u : Rule) (ls : List TextLine) → length (glyphsOfAll (wrapped u ls)) ≤ length (lineGlyphs ls)
 emitted-few u [] = omega arith
 emitted-few u (line ∷ rest) =
-    simp (glyphs-append, length-append) (omega (arith, line-emitted u (glyphsOf line), emitted-few u rest))
+    simp (glyphs-append, length-append) (omega (arith, wrapped-few u (glyphsOf line), emitted-few u rest))
 
 -- and no more than its records
 pub text-emits : (u : Rule) (own : Alignment) (text : List ℕ) → length (starts (lines u Wrapped own text)) ≤ length text

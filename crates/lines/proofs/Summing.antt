@@ -14,10 +14,11 @@ use Rattle.compose.specs.declared.Method.the-variants.{Wrapped}
 use Rattle.compose.specs.Lines.{lines}
 use Rattle.compose.specs.Composing.{left, lineAt, Started, Told, Pulled}
 use Rattle.compose.specs.Places.{starts}
+use Rattle.compose.proofs.Pulled.{pulled-left, pulled-told}
 use Rattle.lines.specs.declared.LineCounts.{LineCounts}
 use Rattle.lines.specs.Tallying.{emptyLines, sum, lineCounts}
 use Rattle.lines.proofs.Bounds.{lines-short}
-use Rattle.lines.proofs.Counting.{Counting, counting-starts, pulled-left, pulled-told, counting-goes, counting-less}
+use Rattle.lines.proofs.Counting.{Counting, counting-starts, counting-goes, counting-less}
 use Rattle.lines.proofs.Ways.{all-counted}
 use Rattle.lines.proofs.Sums.{sum-none, none-sum, sum-assoc, first-line}
 use Rattle.lines.proofs.Emitted.{text-emits}
@@ -49,7 +50,7 @@ summing-starts u own text c counts h s e =
 module _ (u : Rule) (own : Alignment) (text : List ℕ) (c : Composer) (counts : LineCounts) (s : Summing u own text c counts) (o : Pull) (p : Pulled u own text c o) where
   module _ (line : Composed) (d : Composer) (e : o ≡ PulledLine line d) where
     told : Told u text line
-    told = pulled-told u own text c (counts .lines) (s .counting-on) o p line d e
+    told = pulled-told u own text c o p line d e
 
     -- the line stands in the text
     pub line-ordered : line .first ≤ line .end
@@ -66,7 +67,7 @@ module _ (u : Rule) (own : Alignment) (text : List ℕ) (c : Composer) (counts :
       parts : sum counts (sum one (lineCounts (u .limit) (left u own text d))) ≡ lineCounts (u .limit) (lines u Wrapped own text)
       parts =
           ap (sum counts)
-          (rw f (sym (first-line (u .limit) (lineAt u text line) (left u own text d)) ∙ ap (lineCounts (u .limit)) (sym (pulled-left u own text c (counts .lines) (s .counting-on) o p line d e))))
+          (rw f (sym (first-line (u .limit) (lineAt u text line) (left u own text d)) ∙ ap (lineCounts (u .limit)) (sym (pulled-left u own text c o p line d e))))
           ∙ s .same
 
       fits : (counts .lines + one .lines < 2 ^ 28)

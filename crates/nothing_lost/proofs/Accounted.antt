@@ -108,6 +108,14 @@ module _ (u : Rule) (gs : List Glyph) (h : 0 < u .limit) where
   pub accounted-lengths : length (glyphsOfAll (wrap u gs .lines)) + length (wrap u gs .dropped) + length (overWides u gs) ≡ length gs
   accounted-lengths = simp all-counted at (accounted (λ _. true))
 
+-- so wrapping emits no more glyphs than a text line has; where the limit is 0, none
+pub wrapped-few : (u : Rule) (gs : List Glyph) → length (glyphsOfAll (wrap u gs .lines)) ≤ length gs
+unfolding wrap
+wrapped-few u gs =
+    cases (λ _. length (glyphsOfAll (wrap u gs .lines)) ≤ length gs) (eqb (u .limit) 0)
+    (λ e. rw e (omega arith))
+    (λ e. let n = eqb-false (u .limit) 0 e in omega (arith, accounted-lengths u gs (omega arith)))
+
 pub exactly-once : (u : Rule) (k : ℕ) (rs : List ℕ) → 0 < u .limit → (n : ℕ) → k ≤ n → n < k + length rs →
     countOf (numberIs n) (glyphsOfAll (wrap u (numbered k rs) .lines)) + countOf (numberIs n) (wrap u (numbered k rs) .dropped)
     + countOf (numberIs n) (overWides u (numbered k rs))

@@ -19,7 +19,7 @@ use Rattle.nothing_lost.proofs.Steps.{appended-ways, filled-ways, step-
 use Rattle.reflow.proofs.Splits.{fitting-split}
 use Rattle.reflow.proofs.ListRuns.{total-append}
 
-no-wider-append : {most : ℕ} {a b : List (List Glyph)} → NoWider most a → NoWider most b → NoWider most (a ++ b)
+pub no-wider-append : {most : ℕ} {a b : List (List Glyph)} → NoWider most a → NoWider most b → NoWider most (a ++ b)
 no-wider-append none q = q
 no-wider-append (one w p) q = one w (no-wider-append p q)
 

@@ -1,12 +1,12 @@
 -- The glyphs of all lines, one line after another, are the records that aren't heads.
-use Prim.Native.Nat.{ℕ, suc, _≤_}
+use Prim.Native.Nat.{ℕ, suc, _+_, _≤_}
 use mathlib.Core.Path.{_≡_, refl, ap}
 use mathlib.Core.Bool.{Bool, true, false, cond}
 use mathlib.Core.List.{List, [], _∷_, _++_}
 use native.Mathlib.Omega.{arith}
 use lib.ListN.{length}
 use Rattle.text.specs.Record.{isHead}
-use Rattle.text.specs.Line.{Glyph, TextLine, glyphFrom, numbered, untilHead, linesFrom, glyphsOf, glyphsFrom}
+use Rattle.text.specs.Line.{Glyph, TextLine, glyphFrom, numbered, untilHead, linesFrom, glyphsOf, glyphsFrom, startsFrom}
 
 -- the glyphs of lines, one line after another
 abbrev pub lineGlyphs : List TextLine → List Glyph
@@ -38,3 +38,8 @@ glyphs-short number (r ∷ rs) = go (isHead r) (glyphs-short (suc number) rs)
         → length (cond b (glyphsFrom (suc number) rs) (glyphFrom number r ∷ glyphsFrom (suc number) rs)) ≤ suc (length rs)
     go true ih = omega arith
     go false ih = omega arith
+
+-- every glyph has a start
+pub starts-length : (column : ℕ) (gs : List Glyph) → length (startsFrom column gs) ≡ length gs
+starts-length column [] = refl
+starts-length column (g ∷ gs) = omega (arith, starts-length (column + g .width) gs)

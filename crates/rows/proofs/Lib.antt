@@ -1,0 +1,4 @@
+pub mod Skipping
+pub mod RowDrawn
+pub mod Bounds
+pub mod TextDrawn

@@ -1,0 +1,40 @@
+-- Document 01, 'Rows, pages, tally (paragraph.rs)': the lines of a text in an area.
+use Prim.Native.Nat.{ℕ, _+_}
+use mathlib.Core.List.{List, [], _∷_}
+use lib.ListN.{length, getD, take, drop}
+use Rattle.text.specs.declared.Alignment.the-variants.{Left}
+use Rattle.layout.specs.declared.Rect.{Rect}
+use Rattle.layout.specs.Rect.{rightOf, bottomOf}
+use Rattle.buffer.specs.Drawing.{Drawing}
+use Rattle.buffer.specs.Parts.{inRows}
+use Rattle.compose.specs.Lines.{Line}
+use Rattle.textline.specs.TextLine.{lineOn, placedIn, clippedIn}
+
+-- where there is no line
+abbrev pub noLine : Line
+noLine = record { alignment = Left; glyphs = [] }
+
+-- "lines from the scroll row": row j of the area has the line scroll + j, if there is one
+unfoldable pub textOn : List ℕ → ℕ → List Line → Rect → ℕ → Drawing
+textOn styles textStyle lines area scroll =
+    inRows (area .x) (rightOf area) (area .y) (bottomOf area)
+    (λ j column cell. lineOn styles textStyle (area .width) (getD lines (scroll + j) noLine) column cell)
+
+-- the lines that are drawn
+unfoldable pub linesDrawn : List Line → Rect → ℕ → List Line
+linesDrawn lines area scroll = take (area .height) (drop scroll lines)
+
+-- "The answer carries the rows drawn, glyphs placed and clipped."
+unfoldable pub rowsDrawn : List Line → Rect → ℕ → ℕ
+rowsDrawn lines area scroll = length (linesDrawn lines area scroll)
+
+-- a count of each of some lines, added up
+abbrev pub sumOf : (Line → ℕ) → List Line → ℕ
+sumOf count [] = 0
+sumOf count (line ∷ rest) = count line + sumOf count rest
+
+unfoldable pub placedOn : List Line → Rect → ℕ → ℕ
+placedOn lines area scroll = sumOf (placedIn (area .width)) (linesDrawn lines area scroll)
+
+unfoldable pub clippedOn : List Line → Rect → ℕ → ℕ
+clippedOn lines area scroll = sumOf (clippedIn (area .width)) (linesDrawn lines area scroll)
