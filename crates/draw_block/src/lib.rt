@@ -24,7 +24,7 @@ pub enum Framed {
 }
 
 // 6: a style number of the block's settings or of a title's glyph that isn't below the count of styles.
-fn style_numbers_wrong(count: usize, titles: &[u32], block: Block) -> bool
+pub fn style_numbers_wrong(count: usize, titles: &[u32], block: Block) -> bool
     ensures { λ r. ⌜ r ≡ styleNumbersWrong count (blockStyles block ++ glyphStyles (now (titles .entry))) ⌝ }
 {
     if block.style_numbers_wrong(count) {

@@ -36,7 +36,7 @@ fn draw_borders_and_titles(
 }
 
 // Draws the frame over a rectangle that lies on the screen and isn't empty.
-fn draw_frame(
+pub fn draw_frame(
     screen: Screen,
     cells: &mut [u64],
     styles: &[u64],

@@ -1,0 +1,3 @@
+pub mod Verdicts
+pub mod Accepting
+pub mod Answers

@@ -1,0 +1,11 @@
+pub mod Fit
+pub mod Each
+pub mod Offset
+pub mod Row
+pub mod Screen
+pub mod Cells
+pub mod Read
+pub mod Reached
+pub mod Counts
+pub mod Text
+pub mod Pages

@@ -1,0 +1,77 @@
+-- Document 01, 'Rows, pages, tally (paragraph.rs)': what a notice draws, and what its answer counts.
+use Prim.Native.Nat.{ℕ}
+use mathlib.Core.Bool.{false, cond, not}
+use mathlib.Core.List.{List, [], _∷_}
+use Rattle.cell.specs.Cell.{styled}
+use Rattle.layout.specs.declared.Rect.{Rect}
+use Rattle.layout.specs.Rect.{meet, isEmpty}
+use Rattle.block.specs.Inner.{innerOf}
+use Rattle.buffer.specs.declared.Screen.{Screen}
+use Rattle.buffer.specs.Drawing.{Drawing, over, onlyIf, inOrder, areaOf, styleAt}
+use Rattle.frame.specs.Frame.{frame}
+use Rattle.reflow.specs.declared.Rule.{Rule}
+use Rattle.compose.specs.declared.Method.{Method}
+use Rattle.compose.specs.declared.Method.the-variants.{Wrapped, Truncated}
+use Rattle.compose.specs.Lines.{Line, lines}
+use Rattle.lines.specs.List.{ruleOf}
+use Rattle.measure.specs.declared.Wrap.{Wrap}
+use Rattle.measure.specs.declared.Wrap.the-variants.{Off, On}
+use Rattle.rows.specs.declared.Rows.{Rows}
+use Rattle.rows.specs.Rows.{textOn, rowsDrawn, placedOn, clippedOn}
+use Rattle.paragraph.specs.declared.Notice.{Notice}
+
+-- wrapped lines are trimmed or not; unwrapped ones are truncated, scrolled to the right, and truncation never trims
+abbrev pub methodOf : Wrap → Method
+methodOf (On trim) = Wrapped
+methodOf (Off column) = Truncated column
+
+abbrev pub ruleAt : Wrap → ℕ → Rule
+ruleAt (On trim) limit = ruleOf limit trim
+ruleAt (Off column) limit = ruleOf limit false
+
+-- a notice's lines, "composed with the inner width as the limit"
+unfoldable pub noticeLines : Notice → List ℕ → ℕ → List Line
+noticeLines n text width = lines (ruleAt (n .wrap) width) (methodOf (n .wrap)) (n .alignment) text
+
+-- "inner area of the met area": of a notice that is drawn in an area of a screen
+unfoldable pub innerAreaOf : Screen → List ℕ → Notice → Rect → Rect
+innerAreaOf screen titles n area = innerOf (n .block) titles (meet area (areaOf screen))
+
+-- "paragraph style over that inner area, lines from the scroll row (16 bits). An empty inner area gets no line"
+unfoldable pub insideOf : List ℕ → List ℕ → Notice → Rect → Drawing
+insideOf styles text n inner =
+    inOrder
+    (over inner (styled (styleAt styles (n .style)))
+    ∷ onlyIf (not (isEmpty inner)) (textOn styles (n .«text_style») (noticeLines n text (inner .width)) inner (n .scroll))
+    ∷ [])
+
+-- "A notice is drawn as a `Paragraph` is: frame, inner area of the met area, …". 'Inner area and frame': "an empty meeting draws no
+-- cell. Then, over the met area: the paragraph style where a notice is drawn, block style, …"
+unfoldable pub noticeOf : List ℕ → Screen → List ℕ → List ℕ → Notice → Rect → Drawing
+noticeOf styles screen text titles n area =
+    let met = meet area (areaOf screen) in
+    onlyIf (not (isEmpty met))
+    (inOrder
+    (over met (styled (styleAt styles (n .style)))
+    ∷ frame styles screen titles (n .block) met
+    ∷ insideOf styles text n (innerAreaOf screen titles n area)
+    ∷ []))
+
+-- "The answer carries the rows drawn, glyphs placed and clipped."
+abbrev pub noRows : Rows
+noRows = record { rows = 0; placed = 0; clipped = 0 }
+
+-- "An empty inner area gets no line, and the counts are 0."
+unfoldable pub insideCounts : List ℕ → Notice → Rect → Rows
+insideCounts text n inner =
+    let composed = noticeLines n text (inner .width) in
+    cond (isEmpty inner)
+    noRows
+    (record {
+      rows = rowsDrawn composed inner (n .scroll);
+      placed = placedOn composed inner (n .scroll);
+      clipped = clippedOn composed inner (n .scroll);
+    })
+
+unfoldable pub noticeCounts : Screen → List ℕ → List ℕ → Notice → Rect → Rows
+noticeCounts screen text titles n area = insideCounts text n (innerAreaOf screen titles n area)

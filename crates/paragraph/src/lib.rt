@@ -1,0 +1,157 @@
+// What a notice draws: paragraph.rs' `render`.
+use block::Block;
+use buffer::Ink;
+use buffer::Screen;
+use compose::Method;
+use layout::Rect;
+use measure::Wrap;
+use reflow::Rule;
+use rows::Rows;
+use rows::Setting;
+use text::Alignment;
+ghost use mathlib.Core.Path.{_≡_};
+ghost use mathlib.Core.Bool.{false};
+ghost use mathlib.Core.List.{[], _∷_};
+ghost use Prim.Native.Nat.{_<_, _^_};
+ghost use lib.ListN.{length};
+ghost use Rattle.cell.specs.Cell.{styled};
+ghost use Rattle.layout.specs.Rect.{isEmpty};
+ghost use Rattle.buffer.specs.Drawing.{drawn, over, inOrder, styleAt};
+ghost use Rattle.buffer.specs.Parts.{OnScreen};
+ghost use Rattle.refuse.specs.Causes.{notOpening};
+ghost use Rattle.borders.specs.Fitting.{SymbolsFit};
+ghost use Rattle.block.specs.Inner.{innerOf};
+ghost use Rattle.frame.specs.Frame.{frame};
+ghost use Rattle.frame.specs.Fitting.{HasCells};
+ghost use Rattle.rows.specs.Drawing.{Composable, AreaOnScreen};
+ghost use Rattle.paragraph.specs.Notice.{insideOf, insideCounts, noticeOf, noticeCounts};
+ghost use Rattle.paragraph.specs.Settings.{settingOf};
+
+// A notice: its block, its style and its text's, its own alignment, how its lines are composed, and the first line drawn.
+pub struct Notice {
+    pub block: Block,
+    pub style: u8,
+    pub text_style: u8,
+    pub alignment: Alignment,
+    pub wrap: Wrap,
+    pub scroll: u16,
+}
+
+// How its lines are composed and drawn in so many columns.
+fn setting(notice: Notice, width: u16) -> Setting
+    ensures { λ r. ⌜ r ≡ settingOf notice width ⌝ }
+{
+    let limit = width as u32;
+    let own = notice.alignment;
+    let style = notice.text_style;
+    let scroll = notice.scroll;
+    let wrap = notice.wrap;
+    match wrap {
+        Wrap::On { trim } => Setting {
+            rule: Rule { limit, trim },
+            method: Method::Wrapped,
+            own,
+            style,
+            scroll,
+        },
+        Wrap::Off { column } => Setting {
+            rule: Rule { limit, trim: false },
+            method: Method::Truncated(column as u32),
+            own,
+            style,
+            scroll,
+        },
+    }
+}
+
+// Draws the notice's style and its lines over an area that lies on the screen and isn't empty.
+fn draw_lines(
+    screen: Screen,
+    cells: &mut [u64],
+    styles: &[u64],
+    text: &[u32],
+    inner: Rect,
+    notice: Notice,
+) -> Rows
+    requires { ⌜ Composable (now text) × (isEmpty inner ≡ false) ⌝ }
+    requires { ⌜ AreaOnScreen screen (length (now cells)) inner ⌝ }
+    ensures cells { λ r. ⌜ now (cells .exit) ≡ drawn (screen .columns) (insideOf (now (styles .entry)) (now (text .entry)) notice inner) (now (cells .entry)) ⌝ }
+    ensures counts { λ r. ⌜ r ≡ insideCounts (now (text .entry)) notice inner ⌝ }
+{
+    let ink = Ink::Style(buffer::style_at(styles, notice.style));
+    buffer::paint_area(screen, cells, inner, ink);
+    let setting = setting(notice, inner.width);
+    rows::draw_text(screen, cells, styles, text, inner, setting)
+}
+
+// Draws what stands in the frame of a rectangle that lies on the screen: an empty inner area gets nothing.
+fn draw_inside(
+    screen: Screen,
+    cells: &mut [u64],
+    styles: &[u64],
+    text: &[u32],
+    titles: &[u32],
+    met: Rect,
+    notice: Notice,
+) -> Rows
+    requires { ⌜ Composable (now text) × (screen .columns < 2 ^ 15) × (screen .rows < 2 ^ 15) ⌝ }
+    requires { ⌜ OnScreen screen (length (now cells)) met ⌝ }
+    ensures cells { λ r. ⌜ now (cells .exit) ≡ drawn (screen .columns) (insideOf (now (styles .entry)) (now (text .entry)) notice (innerOf (notice .block) (now (titles .entry)) met)) (now (cells .entry)) ⌝ }
+    ensures counts { λ r. ⌜ r ≡ insideCounts (now (text .entry)) notice (innerOf (notice .block) (now (titles .entry)) met) ⌝ }
+{
+    let block = notice.block;
+    let inner = block.inner_area(titles, met);
+    if inner.is_empty() {
+        return Rows {
+            rows: 0,
+            placed: 0,
+            clipped: 0,
+        };
+    }
+    draw_lines(screen, cells, styles, text, inner, notice)
+}
+
+// Draws the notice's style and its frame over a rectangle that lies on the screen and isn't empty.
+fn draw_frame(
+    screen: Screen,
+    cells: &mut [u64],
+    styles: &[u64],
+    titles: &[u32],
+    met: Rect,
+    notice: Notice,
+)
+    requires { ⌜ SymbolsFit (notice .block) × (isEmpty met ≡ false) × (screen .columns < 2 ^ 15) × (screen .rows < 2 ^ 15) × (notOpening (now titles) ≡ false) ⌝ }
+    requires { ⌜ OnScreen screen (length (now cells)) met ⌝ }
+    ensures { λ _. ⌜ now (cells .exit) ≡ drawn (screen .columns) (inOrder (over met (styled (styleAt (now (styles .entry)) (notice .style))) ∷ frame (now (styles .entry)) screen (now (titles .entry)) (notice .block) met ∷ [])) (now (cells .entry)) ⌝ }
+{
+    let ink = Ink::Style(buffer::style_at(styles, notice.style));
+    buffer::paint_area(screen, cells, met, ink);
+    frame::draw_frame(screen, cells, styles, titles, notice.block, met);
+}
+
+// Draws a notice on the cells that its area and the screen share, if there are any.
+pub fn draw_on(
+    screen: Screen,
+    cells: &mut [u64],
+    styles: &[u64],
+    text: &[u32],
+    titles: &[u32],
+    area: Rect,
+    notice: Notice,
+) -> Rows
+    requires { ⌜ SymbolsFit (notice .block) × HasCells screen (length (now cells)) × (notOpening (now titles) ≡ false) ⌝ }
+    requires { ⌜ Composable (now text) ⌝ }
+    ensures cells { λ r. ⌜ now (cells .exit) ≡ drawn (screen .columns) (noticeOf (now (styles .entry)) screen (now (text .entry)) (now (titles .entry)) notice area) (now (cells .entry)) ⌝ }
+    ensures counts { λ r. ⌜ r ≡ noticeCounts screen (now (text .entry)) (now (titles .entry)) notice area ⌝ }
+{
+    let met = area.intersection(screen.area());
+    if met.is_empty() {
+        return Rows {
+            rows: 0,
+            placed: 0,
+            clipped: 0,
+        };
+    }
+    draw_frame(screen, cells, styles, titles, met, notice);
+    draw_inside(screen, cells, styles, text, titles, met, notice)
+}
