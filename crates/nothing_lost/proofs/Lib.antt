@@ -4,4 +4,3 @@ pub mod Solid
 pub mod Accounted
 pub mod Bounds
 pub mod Few
-pub mod Examples

@@ -1,0 +1,35 @@
+// The framed notice: every call open to callers, and its types. No call requires anything, and each states its whole answer, where it
+// is declared. Nothing else in these crates is meant to be called.
+
+// The settings.
+pub use block::Block;
+pub use block::BorderSet;
+pub use block::Borders;
+pub use block::Effect;
+pub use block::Padding;
+pub use block::Shadow;
+pub use layout::Rect;
+pub use measure::Wrap;
+pub use paragraph::Notice;
+pub use text::Alignment;
+pub use text::TitlePosition;
+
+// What the calls answer.
+pub use block::InnerArea;
+pub use draw_block::Framed;
+pub use draw_notice::Drawn;
+pub use lines::Counts;
+pub use lines::Listed;
+pub use lines::Tallied;
+pub use measure::Measured;
+pub use refuse::Refusal;
+pub use rows::Rows;
+
+// The calls.
+pub use block::causes::inner;
+pub use draw_block::draw_block;
+pub use draw_notice::draw_notice;
+pub use lines::list_lines;
+pub use lines::tally;
+pub use measure::line_count;
+pub use measure::line_width;
