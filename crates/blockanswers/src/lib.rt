@@ -6,6 +6,7 @@ use block::InnerArea;
 use block::causes;
 use blockcases::Case;
 use blockcases::parts::Part;
+use blocksettings::areas::cells_of;
 use blocksettings::many_titles;
 use blocksettings::many_titles::Manner;
 use blocksettings::titles;
@@ -74,10 +75,6 @@ fn sum_drawn(
     Answer::Sum(checksum::sum_entries(cells))
 }
 
-fn cells_of(columns: u16, rows: u16) -> usize {
-    (columns as usize) * (rows as usize)
-}
-
 // The manner in which the titles of a case are made.
 fn manner(case: Case) -> Manner
     requires { ⌜ Writable case ⌝ }
@@ -118,7 +115,7 @@ fn drawn_with(case: Case, styles: &mut [u64], cells: &mut [u64]) -> Answer
 {
     let screen = case.screen;
     let count = case.styles as usize;
-    let size = cells_of(screen.columns, screen.rows);
+    let size = cells_of(screen);
     if cells.len() < size {
         return Answer::Refused;
     }

@@ -17,8 +17,8 @@ ghost use Prim.Native.Nat.{_<_, _≤_};
 ghost use Rattle.blocksettings.specs.Screens.{Accepted};
 ghost use Rattle.blockcases.specs.Sizes.{Writable};
 
-// The block of a number with so many styles, made of x and the numbers after it. Its shadow is moved by up to `reach`.
-pub fn block(number: u32, styles: u32, reach: u32, x: u32) -> Block
+// The block of a number with so many styles and a padding, made of x and the numbers after it. Its shadow is moved by up to `reach`.
+pub fn block(number: u32, styles: u32, reach: u32, padding: Padding, x: u32) -> Block
     requires { ⌜ (0 < styles) × (styles ≤ 8) ⌝ }
     requires { ⌜ reach ≤ 128 ⌝ }
 {
@@ -29,7 +29,7 @@ pub fn block(number: u32, styles: u32, reach: u32, x: u32) -> Block
         border_set: borders::border_set(x),
         border_style: style(a, styles),
         style: style(b, styles),
-        padding: Padding::uniform(1),
+        padding: padding,
         titles_style: style(four_on(b), styles),
         titles_alignment: alignment_of(number / 64),
         titles_position: position_of(number / 192),
@@ -46,7 +46,13 @@ fn case(number: u32, screen: Screen, reach: u32, x: u32) -> Case
     let y = next(x);
     let styles = 1 + below(x, 8);
     Case {
-        block: block(number, styles, reach, four_on(four_on(y))),
+        block: block(
+            number,
+            styles,
+            reach,
+            Padding::uniform(1),
+            four_on(four_on(y)),
+        ),
         area: area(y, screen),
         screen: screen,
         titles: 0,

@@ -1,5 +1,5 @@
 // Blocks to ask about, each made from its number.
-mod drawn;
+pub mod drawn;
 mod inner;
 pub mod parts;
 mod titled;

@@ -1,6 +1,7 @@
 // Blocks with titles to draw: up to 16, of every alignment and position.
 use crate::Case;
 use crate::drawn::block;
+use block::Padding;
 use blocksettings::areas::area;
 use blocksettings::areas::roomy;
 use blocksettings::words::four_on;
@@ -57,7 +58,7 @@ fn case(number: u32, screen: Screen, most: u32, x: u32) -> Case
     let z = seed(next(y));
     let styles = 1 + below(x, 8);
     Case {
-        block: block(number, styles, 4, four_on(four_on(y))),
+        block: block(number, styles, 4, Padding::uniform(1), four_on(four_on(y))),
         area: titled_area(number / 384, y, screen),
         screen: screen,
         titles: count(z),

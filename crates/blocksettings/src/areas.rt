@@ -7,6 +7,11 @@ use layout::Rect;
 ghost use Prim.Native.Nat.{_<_, _≤_};
 ghost use Rattle.blocksettings.specs.Screens.{Accepted};
 
+// How many cells a screen has.
+pub fn cells_of(screen: Screen) -> usize {
+    (screen.columns as usize) * (screen.rows as usize)
+}
+
 // A place among the cells of a row or a column.
 fn place(x: u32, cells: u16) -> u16
     requires { ⌜ 0 < cells ⌝ }

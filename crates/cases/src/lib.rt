@@ -6,7 +6,7 @@ pub mod random;
 mod records;
 mod several;
 mod short;
-mod texts;
+pub mod texts;
 
 use text::Alignment;
 

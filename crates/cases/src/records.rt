@@ -16,7 +16,7 @@ pub fn head(alignment: u32) -> u32
     2147483648 + alignment * 536870912
 }
 
-// A glyph. No answer looks at its symbol or its style, so they are any that x gives.
+// A glyph. Its symbol and its style are any that x gives.
 pub fn glyph(width: u32, space: u32, x: u32) -> u32
     requires { ⌜ width < 8 ⌝ }
     requires { ⌜ space < 2 ⌝ }

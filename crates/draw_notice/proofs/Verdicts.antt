@@ -18,7 +18,7 @@ use Rattle.buffer.specs.Drawing.{drawn}
 use Rattle.rows.specs.declared.Rows.{Rows}
 use Rattle.paragraph.specs.declared.Notice.{Notice}
 use Rattle.paragraph.specs.Notice.{noRows, noticeOf, noticeCounts}
-use Rattle.draw_notice.specs.declared.Drawn.the-variants.{Counts, Refused}
+use Rattle.draw_notice.specs.declared.Drawn.the-variants.{Shown, Refused}
 use Rattle.draw_notice.specs.Call.{noticeStyles, noticeVerdict, noticeAnswer, screenOf, noticeCells}
 
 -- cause 6: of the notice's two numbers, then of the text's glyphs, then of the block and its titles
@@ -64,7 +64,7 @@ module _ (most m : Ceilings) (columns rows : ℕ) (styles text titles : List ℕ
 
   pub notice-drawn : v ≡ Accepted → (r : Rows) (next : List ℕ) → r ≡ counts
       → next ≡ drawn columns (noticeOf styles (screenOf columns rows) text titles n area) cells
-      → (Counts r ≡ noticeAnswer verdict counts) × ((0 ≡ verdictNumber verdict)
+      → (Shown r ≡ noticeAnswer verdict counts) × ((0 ≡ verdictNumber verdict)
       × ((r ≡ unlessRefused verdict counts noRows) × (next ≡ noticeCells verdict columns rows styles text titles area n cells)))
   unfolding noticeCells
   notice-drawn a r next c p = let k : verdict ≡ Accepted = rw (← q, ← e) a in (rw (k, c), (rw k, (rw k c, rw k p)))

@@ -16,7 +16,7 @@ use Rattle.rows.specs.declared.Rows.{Rows}
 use Rattle.paragraph.specs.declared.Notice.{Notice}
 use Rattle.paragraph.specs.Notice.{noticeOf, noRows}
 use Rattle.draw_notice.specs.declared.Drawn.{Drawn}
-use Rattle.draw_notice.specs.declared.Drawn.the-variants.{Counts, Refused}
+use Rattle.draw_notice.specs.declared.Drawn.the-variants.{Shown, Refused}
 
 -- the style numbers that a notice gives: its own, its text's, its glyphs', and those of its block and of the titles' glyphs
 unfoldable pub noticeStyles : Notice → List ℕ → List ℕ → List ℕ
@@ -39,16 +39,16 @@ noticeVerdict most columns rows cellCount styles text titles n = firstCause (not
 
 -- its answer: the rows drawn, the glyphs placed and clipped, or why nothing is drawn
 abbrev pub noticeAnswer : Verdict → Rows → Drawn
-noticeAnswer Accepted counts = Counts counts
+noticeAnswer Accepted counts = Shown counts
 noticeAnswer (RefusedFor why) counts = Refused why
 
 -- the table's number for an answer, 0 where the notice is drawn, and the counts, "number, counts 0" where the call is refused
 abbrev pub drawnNumber : Drawn → ℕ
-drawnNumber (Counts counts) = 0
+drawnNumber (Shown counts) = 0
 drawnNumber (Refused why) = refusalNumber why
 
 abbrev pub drawnCounts : Drawn → Rows
-drawnCounts (Counts counts) = counts
+drawnCounts (Shown counts) = counts
 drawnCounts (Refused why) = noRows
 
 -- a screen of so many columns and rows

@@ -11,8 +11,8 @@ use Rattle.paragraph.specs.declared.Notice.{Notice}
 use Rattle.draw_notice.specs.Call.{noticeStyles}
 
 -- what the checks of 5, 6 and 7 find, with so many styles lent
-unfoldable pub settingsVerdict : Ceilings → ℕ → List ℕ → List ℕ → Notice → Verdict
-settingsVerdict most count text titles n =
+unfoldable pub verdictFrom5 : Ceilings → ℕ → List ℕ → List ℕ → Notice → Verdict
+verdictFrom5 most count text titles n =
     firstCause
     (Titles if titlesWrong most titles
     ∷ StyleNumber if styleNumbersWrong count (noticeStyles n text titles)
@@ -20,8 +20,8 @@ settingsVerdict most count text titles n =
     ∷ [])
 
 -- those of 3 to 7
-unfoldable pub textVerdict : Ceilings → ℕ → List ℕ → List ℕ → Notice → Verdict
-textVerdict most count text titles n =
+unfoldable pub verdictFrom3 : Ceilings → ℕ → List ℕ → List ℕ → Notice → Verdict
+verdictFrom3 most count text titles n =
     firstCause
     (TextLength if textTooLong most text
     ∷ TextHeads if textHeadsWrong text

@@ -15,11 +15,11 @@ ghost use Rattle.refuse.specs.Refusal.{verdictNumber, unlessRefused};
 ghost use Rattle.refuse.specs.Causes.{mostAccepted, styleNumbersWrong};
 ghost use Rattle.paragraph.specs.Notice.{noRows, noticeCounts};
 ghost use Rattle.draw_notice.specs.Call.{noticeStyles, noticeVerdict, noticeAnswer, drawnNumber, drawnCounts, screenOf, noticeCells};
-ghost use Rattle.draw_notice.specs.Checks.{settingsVerdict, textVerdict};
+ghost use Rattle.draw_notice.specs.Checks.{verdictFrom5, verdictFrom3};
 
 // What the call answers: the rows drawn and the glyphs placed and clipped, or why nothing is drawn.
 pub enum Drawn {
-    Counts(Rows),
+    Shown(Rows),
     Refused(Refusal),
 }
 
@@ -40,14 +40,14 @@ fn style_numbers_wrong(count: usize, text: &[u32], titles: &[u32], notice: Notic
 }
 
 // 5, 6 and 7.
-fn settings_verdict(
+fn verdict_from_5(
     most: Ceilings,
     count: usize,
     text: &[u32],
     titles: &[u32],
     notice: Notice,
 ) -> Verdict
-    ensures { λ r. ⌜ r ≡ settingsVerdict most count (now (text .entry)) (now (titles .entry)) notice ⌝ }
+    ensures { λ r. ⌜ r ≡ verdictFrom5 most count (now (text .entry)) (now (titles .entry)) notice ⌝ }
 {
     let block = notice.block;
     if records::titles_wrong(most, titles) {
@@ -63,14 +63,14 @@ fn settings_verdict(
 }
 
 // 3 to 7.
-fn text_verdict(
+fn verdict_from_3(
     most: Ceilings,
     count: usize,
     text: &[u32],
     titles: &[u32],
     notice: Notice,
 ) -> Verdict
-    ensures { λ r. ⌜ r ≡ textVerdict most count (now (text .entry)) (now (titles .entry)) notice ⌝ }
+    ensures { λ r. ⌜ r ≡ verdictFrom3 most count (now (text .entry)) (now (titles .entry)) notice ⌝ }
 {
     if records::text_too_long(most, text) {
         return Verdict::Refused(Refusal::TextLength);
@@ -78,7 +78,7 @@ fn text_verdict(
     if records::text_heads_wrong(text) {
         return Verdict::Refused(Refusal::TextHeads);
     }
-    settings_verdict(most, count, text, titles, notice)
+    verdict_from_5(most, count, text, titles, notice)
 }
 
 // What the call is refused for, on a screen of so many cells.
@@ -100,7 +100,7 @@ fn verdict(
     if styles::styles_wrong(most, styles) {
         return Verdict::Refused(Refusal::Styles);
     }
-    text_verdict(most, styles.len(), text, titles, notice)
+    verdict_from_3(most, styles.len(), text, titles, notice)
 }
 
 // Draws a notice: causes 1 to 7. A refused call changes no cell.
@@ -137,5 +137,5 @@ pub fn draw_notice(
         rows: rows as u16,
     };
     let counts = paragraph::draw_on(screen, cells, styles, text, titles, area, notice);
-    Drawn::Counts(counts)
+    Drawn::Shown(counts)
 }

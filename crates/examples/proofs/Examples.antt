@@ -6,23 +6,22 @@ use mathlib.Core.Path.{_≡_, refl}
 use mathlib.Core.Bool.{Bool, true, false}
 use mathlib.Core.List.{List, [], _∷_}
 use Rattle.text.specs.declared.Alignment.the-variants.{Center}
-use Rattle.text.specs.Line.{total}
 use Rattle.block.specs.declared.Block.{Block}
 use Rattle.block.specs.Padding.{paddingOf}
 use Rattle.block.specs.Inner.{innerOf}
 use Rattle.reflow.specs.Wrapping.{overWide, mustJoin, takesSpaces, gathered, joined, unjoined, full, emptied, drops, appended, emitting, filled, joining, step, lastLines, finish, wrap}
-use Rattle.compose.specs.Lines.{linesOf, lineLines, lines}
+use Rattle.compose.specs.Lines.{linesOf, lineLines, lines, composedOf}
 use Rattle.compose.specs.Places.{clipped}
-use Rattle.textline.specs.TextLine.{lineOffset}
+use Rattle.render_line.specs.RenderLine.{lineOffset}
 use Rattle.block.proofs.Examples.{rect, fourBorders, four-borders}
-use Rattle.examples.specs.Notation.{glyphs, wrapped, clippedOf}
+use Rattle.examples.specs.Notation.{glyphs, wrapped, widths, clippedOf}
 
 pub record Examples : Type 0 where
   -- limit 5 trim "___abc": empty | abc. Not trimmed: "___ab" | c.
   pub leading-trimmed : wrapped 5 true "___abc" ≡ [] ∷ glyphs 4 "abc" ∷ []
   pub leading-kept : wrapped 5 false "___abc" ≡ glyphs 1 "___ab" ∷ glyphs 6 "c" ∷ []
   -- limit 3 "abW": one line, width 4. limit 1 "aWb": a | b.
-  pub past-limit : (trim : Bool) → (wrapped 3 trim "abW" ≡ glyphs 1 "abW" ∷ []) × (total (glyphs 1 "abW") ≡ 4)
+  pub past-limit : (trim : Bool) → (wrapped 3 trim "abW" ≡ glyphs 1 "abW" ∷ []) × (widths 3 trim "abW" ≡ 4 ∷ [])
   pub over-wide : (trim : Bool) → wrapped 1 trim "aWb" ≡ glyphs 1 "a" ∷ glyphs 3 "b" ∷ []
   -- limit 3 trim "ZzabcD": Z | abcD, D clipped. limit 4 trim "___aWWx": a | WWx, x clipped.
   pub zero-width : (wrapped 3 true "ZzabcD" ≡ glyphs 1 "Z" ∷ glyphs 3 "abcD" ∷ [])
@@ -38,7 +37,7 @@ pub record Examples : Type 0 where
   pub inner : (b : Block) (titles : List ℕ) → b .borders ≡ fourBorders → b .padding ≡ paddingOf 0 0 0 0 → innerOf b titles (rect 0 0 1 1) ≡ rect 1 1 0 0
 
 pub examples : Examples
-unfolding overWide mustJoin takesSpaces gathered joined unjoined full emptied drops appended emitting filled joining step lastLines finish wrap linesOf lineLines lines clipped lineOffset
+unfolding overWide mustJoin takesSpaces gathered joined unjoined full emptied drops appended emitting filled joining step lastLines finish wrap linesOf lineLines lines composedOf clipped lineOffset
 examples =
     record {
       leading-trimmed = refl;

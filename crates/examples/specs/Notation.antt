@@ -7,8 +7,9 @@ use mathlib.Core.List.{List, [], _∷_, map}
 use lib.Dec.{eqb}
 use Rattle.text.specs.declared.Alignment.the-variants.{Left}
 use Rattle.text.specs.Line.{Glyph, numbered, startsFrom}
+use Rattle.cell.specs.Cell.{blankSymbol}
 use Rattle.compose.specs.declared.Method.the-variants.{Wrapped}
-use Rattle.compose.specs.Lines.{Line, lines}
+use Rattle.compose.specs.Lines.{Line, lines, composedOf}
 use Rattle.compose.specs.Places.{clipped}
 use Rattle.lines.specs.List.{ruleOf}
 
@@ -18,7 +19,7 @@ is a b = eqb (code a) (code b)
 -- a glyph's packed record: symbol 21 | width 3 | whitespace 1 | style 6
 abbrev pub packedGlyph : Char → ℕ
 packedGlyph c =
-    code c * 2 ^ 10
+    cond (is c "_" || is c "z") blankSymbol (code c) * 2 ^ 10
     + cond (is c "W") 2 (cond (is c "Z" || is c "z") 0 1) * 2 ^ 7
     + cond (is c "_" || is c "z") 1 0 * 2 ^ 6
 
@@ -37,6 +38,10 @@ glyphs number letters = numbered number (packedGlyphs letters)
 -- the glyphs of the text's composed lines
 abbrev pub wrapped : ℕ → Bool → String → List (List Glyph)
 wrapped limit trim letters = map (λ (line : Line). line .glyphs) (lines (ruleOf limit trim) Wrapped Left (textOf letters))
+
+-- the widths that are told of them
+abbrev pub widths : ℕ → Bool → String → List ℕ
+widths limit trim letters = map (λ (line : Line). composedOf line .width) (lines (ruleOf limit trim) Wrapped Left (textOf letters))
 
 -- which glyphs of a line are clipped
 abbrev pub clippedOf : ℕ → List Glyph → List Bool

@@ -16,7 +16,7 @@ use Rattle.borders.proofs.Keeps.{KeepsSymbol, order-keeps, style-keeps}
 use Rattle.frame.specs.Frame.{frame, blockOf}
 use Rattle.frame.proofs.Keeps.{block-keeps}
 use Rattle.compose.specs.Lines.{Line}
-use Rattle.textline.specs.TextLine.{lineOn}
+use Rattle.render_line.specs.RenderLine.{lineOn}
 use Rattle.rows.specs.Rows.{noLine, textOn}
 use Rattle.rows.proofs.RowDrawn.{right-is, bottom-is, row-end}
 use Rattle.paragraph.specs.Notice.{noticeLines, innerAreaOf, insideOf, noticeOf}

@@ -22,7 +22,7 @@ use Rattle.nothing_lost.proofs.Lists.{cases}
 use Rattle.compose.specs.declared.Method.the-variants.{Wrapped}
 use Rattle.compose.specs.Lines.{Line, lines}
 use Rattle.compose.specs.Places.{starts, placed, clipped}
-use Rattle.textline.specs.TextLine.{lineOffset, drawnStarts, placedIn, clippedIn}
+use Rattle.render_line.specs.RenderLine.{lineOffset, drawnStarts, placedIn, clippedIn}
 use Rattle.rows.specs.declared.Rows.{Rows}
 use Rattle.rows.specs.Rows.{linesDrawn, rowsDrawn, sumOf, placedOn, clippedOn}
 use Rattle.rows.proofs.Bounds.{sum-append}
@@ -34,7 +34,7 @@ use Rattle.lines.specs.Tallying.{lineCounts}
 use Rattle.lines.proofs.TallyCounts.{own-alignment}
 use Rattle.paragraph.specs.Notice.{noticeLines, innerAreaOf, insideCounts, noticeCounts}
 use Rattle.pages.specs.Pages.{Inputs, verdictAt, countsAt, innerArea, composedLines, pageCount, pagesOf, scrollOf}
-use Rattle.pages.specs.Reading.{summed, WrappedNotice, SameCounts}
+use Rattle.pages.specs.Reading.{summed, WrappedNotice, Reached, SameCounts}
 use Rattle.pages.proofs.Offset.{offset-fits, offset-none}
 use Rattle.pages.proofs.Reached.{wrapped-lines}
 use Rattle.pages.proofs.Screen.{inner-some}
@@ -153,12 +153,13 @@ module _ (i : Inputs) (w : WrappedNotice i) (accepted : (scroll : ℕ) → verdi
       ∙ sum-starts test count of-line (composedLines i)
       ∙ ap (λ (ls : List Line). countOf test (starts ls)) (wrapped-lines i w)
 
-  pub same-counts : textVerdict mostAccepted (innerArea i .width) (i .text) ≡ Accepted → SameCounts i (w .trim)
+  pub same-counts : Reached i → textVerdict mostAccepted (innerArea i .width) (i .text) ≡ Accepted → SameCounts i (w .trim)
   unfolding pagesOf lineCounts
-  same-counts answered =
+  same-counts reached answered =
       let width : ℕ = innerArea i .width in
       let tally = tally-own (ruleOf width (w .trim)) (i .notice .alignment) (i .text) (inner-some i w .0) in
       record {
+        reached = reached;
         answered = answered;
         rows =
             summed-same 0 (pagesOf i) _ _ (λ page. ap (λ (c : Rows). c .rows) (page-counts page))

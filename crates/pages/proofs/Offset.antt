@@ -4,7 +4,7 @@ use mathlib.Core.Path.{_≡_, refl}
 use native.Mathlib.Omega.{arith}
 use Rattle.text.specs.declared.Alignment.{Alignment}
 use Rattle.text.specs.declared.Alignment.the-variants.{Left, Center, Right}
-use Rattle.textline.specs.TextLine.{lineOffset}
+use Rattle.render_line.specs.RenderLine.{lineOffset}
 
 -- a line that fits ends in the area, and one that doesn't starts at its left edge
 pub offset-fits : (a : Alignment) (area line : ℕ) → line ≤ area → lineOffset a area line + line ≤ area

@@ -6,14 +6,18 @@ use Rattle.text.specs.Line.{Glyph, glyphsFrom}
 use Rattle.nothing_lost.specs.Glyphs.{solids}
 use Rattle.lines.specs.List.{ruleOf}
 use Rattle.draw_notice.proofs.Accepting.{text-opens}
-use Rattle.pages.specs.Pages.{Inputs, innerArea, composedLines, Placement, placements}
-use Rattle.pages.specs.Reading.{Seen, seen, pagesRead, OneCell, WrappedNotice, NothingLost, SameCounts}
+use Rattle.pages.specs.Pages.{Inputs, innerArea, composedLines, scrollOf, Placement, placements}
+use Rattle.pages.specs.Reading.{Seen, seen, pagesRead, OneCell, WrappedNotice, Reached, NothingLost, SameCounts}
 use Rattle.pages.proofs.Fit.{Fit}
 use Rattle.pages.proofs.Screen.{no-causes, accepted-at, inner-some}
 use Rattle.pages.proofs.Read.{pages-read}
 use Rattle.pages.proofs.Reached.{wrapped-lines, reached-16, text-accepted}
 use Rattle.pages.proofs.Text.{fit-text, placed-glyphs}
 use Rattle.pages.proofs.Counts.{same-counts}
+
+-- every page can be asked for, whatever the glyphs' widths
+pages-reached : (i : Inputs) → WrappedNotice i → Reached i
+pages-reached i w page there = (reached-16 i w page there, accepted-at i w (scrollOf i page))
 
 pub pages : (i : Inputs) → WrappedNotice i → OneCell (glyphsFrom 0 (i .text)) → NothingLost i
 unfolding placements
@@ -24,7 +28,7 @@ pages i w cells =
     let opens = text-opens (i .text) (no-causes i w .heads-right) in
     let fit : Fit (inner .width) (composedLines i) = rw (wrapped-lines i w) (fit-text rule own (i .text) (inner-some i w .0) opens cells) in
     record {
-      reached = λ page there. (reached-16 i w page there, accepted-at i w _);
+      reached = pages-reached i w;
       places = pages-read i w fit;
       glyphs = rw (wrapped-lines i w) (placed-glyphs inner rule own (i .text) refl (inner-some i w .0) opens cells);
     }
@@ -40,4 +44,4 @@ symbols-read i w cells =
     ∙ ap (map (λ (g : Glyph). g .symbol)) (p .glyphs)
 
 pub page-counts : (i : Inputs) (w : WrappedNotice i) → SameCounts i (w .trim)
-page-counts i w = same-counts i w (accepted-at i w) (text-accepted i w)
+page-counts i w = same-counts i w (accepted-at i w) (pages-reached i w) (text-accepted i w)

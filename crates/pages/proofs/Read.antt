@@ -10,7 +10,7 @@ use lib.ListN.{length, getD, List·getD-eq-default}
 use Rattle.text.specs.Line.{Start, total}
 use Rattle.layout.specs.declared.Rect.{Rect}
 use Rattle.compose.specs.Lines.{Line}
-use Rattle.textline.specs.TextLine.{drawnStarts, lineOn}
+use Rattle.render_line.specs.RenderLine.{drawnStarts, lineOn}
 use Rattle.rows.specs.Rows.{noLine}
 use Rattle.pages.specs.Pages.{Inputs, cellsAt, innerArea, composedLines, pageCount, pagesOf, scrollOf, Placement, placementOf, solidPlaced, placementsFrom, placements}
 use Rattle.pages.specs.Reading.{Seen, seen, each, look, pagesRead, OneCell, WrappedNotice}

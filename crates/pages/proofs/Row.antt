@@ -12,8 +12,8 @@ use Rattle.cell.specs.Cell.{cellFrom, blankSymbol}
 use Rattle.cell.proofs.Fields.{styled-symbol, symbol-set}
 use Rattle.compose.specs.Lines.{Line}
 use Rattle.compose.specs.Places.{placed}
-use Rattle.textline.specs.TextLine.{drawnStarts, glyphOn, glyphsOn, lineOn}
-use Rattle.textline.proofs.Moving.{glyphs-before}
+use Rattle.render_line.specs.RenderLine.{drawnStarts, glyphOn, glyphsOn, lineOn}
+use Rattle.render_line.proofs.Moving.{glyphs-before}
 use Rattle.pages.specs.Pages.{solidPlaced}
 use Rattle.pages.specs.Reading.{Seen, each, look, OneCell}
 use Rattle.pages.proofs.Each.{each-none, each-add}

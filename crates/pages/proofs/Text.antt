@@ -26,7 +26,7 @@ use Rattle.nothing_lost.proofs.Bounds.{no-wider-append, one-cell}
 use Rattle.compose.specs.declared.Method.the-variants.{Wrapped}
 use Rattle.compose.specs.Lines.{Line, lines}
 use Rattle.compose.specs.Places.{placed}
-use Rattle.textline.specs.TextLine.{drawnStarts}
+use Rattle.render_line.specs.RenderLine.{drawnStarts}
 use Rattle.lines.proofs.Emitted.{lists, wrapped, lines-wrapped}
 use Rattle.lines.proofs.TallyCounts.{opens-none}
 use Rattle.pages.specs.Pages.{Placement, placementOf, solidPlaced, placementsFrom}

@@ -11,7 +11,7 @@ use Rattle.refuse.specs.Refusal.{unlessRefused}
 use Rattle.refuse.specs.Causes.{mostAccepted}
 use Rattle.compose.specs.Lines.{Line}
 use Rattle.compose.specs.Places.{placed}
-use Rattle.textline.specs.TextLine.{drawnStarts}
+use Rattle.render_line.specs.RenderLine.{drawnStarts}
 use Rattle.rows.specs.declared.Rows.{Rows}
 use Rattle.paragraph.specs.declared.Notice.{Notice}
 use Rattle.paragraph.specs.Notice.{noticeLines, innerAreaOf, noRows, noticeCounts}
@@ -43,7 +43,8 @@ scrolledTo scroll n =
 abbrev pub blankCells : Inputs → List ℕ
 blankCells i = replicate (i .columns * i .rows) blankCell
 
--- what the call finds wrong at a scroll row, the cells it leaves of blank ones, and the counts it answers
+-- what the contract of `draw_notice` says of this notice on blank cells, at a scroll row: what is found wrong, the cells that are left,
+-- and the counts of the answer
 unfoldable pub verdictAt : Inputs → ℕ → Verdict
 verdictAt i scroll =
     noticeVerdict mostAccepted (i .columns) (i .rows) (length (blankCells i)) (i .styles) (i .text) (i .titles) (scrolledTo scroll (i .notice))
@@ -75,7 +76,7 @@ abbrev pub scrollOf : Inputs → ℕ → ℕ
 scrollOf i page = page * innerArea i .height
 
 -- "Line i, from 0, is on page i / h, rounded down, in the inner area's row i less page × h. A glyph's column is the inner area's left
--- edge plus its start as drawn."
+-- edge plus its start as drawn." Row and column are the screen's here.
 pub record Placement : Type 0 where
   pub page : ℕ
   pub row : ℕ

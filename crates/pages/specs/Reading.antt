@@ -59,17 +59,21 @@ OneCell [] = Unit {0}
 OneCell (g ∷ gs) = ((g .width ≡ 1) × (g .whitespace ≡ eqb (g .symbol) blankSymbol)) × OneCell gs
 
 -- "any accepted notice that is drawn wrapped, trimmed or not", with "an inner area of one cell or more". No cause looks at the scroll
--- row, so that it is accepted at row 0 is all that is asked.
+-- row, so being accepted at row 0 is all that is asked.
 pub record WrappedNotice (i : Inputs) : Type 0 where
   pub accepted : verdictAt i 0 ≡ Accepted
   pub trim : Bool
   pub wrapped : i .notice .wrap ≡ On trim
   pub some-cell : isEmpty (innerArea i) ≡ false
 
--- Demand 3, the pages: no page is refused, 16 bits reach each, and all pages together show each glyph of the text that isn't
--- whitespace once, in text order, in its place, and nothing else.
+-- Each page's scroll row fits in 16 bits, and "None is refused".
+abbrev pub Reached : Inputs → Type 0
+Reached i = (page : ℕ) → page < pagesOf i → (scrollOf i page < 65536) × (verdictAt i (scrollOf i page) ≡ Accepted)
+
+-- Demand 3, the pages: all together they show each glyph of the text that isn't whitespace once, in text order, in its place, and
+-- nothing else. So "Inner cells without a glyph hold the blank symbol": any other symbol would be read.
 pub record NothingLost (i : Inputs) : Type 0 where
-  pub reached : (page : ℕ) → page < pagesOf i → (scrollOf i page < 65536) × (verdictAt i (scrollOf i page) ≡ Accepted)
+  pub reached : Reached i
   pub places : pagesRead i ≡ map seen (placements i)
   pub glyphs : map (λ (p : Placement). p .glyph) (placements i) ≡ solids (glyphsFrom 0 (i .text))
 
@@ -77,9 +81,10 @@ pub record NothingLost (i : Inputs) : Type 0 where
 abbrev pub pagesTally : Inputs → Bool → Counts
 pagesTally i trim = tallyOf (ruleOf (innerArea i .width) trim) (i .text)
 
--- Demand 3, pages and counts together, for glyphs of any widths: the tally of the text at the inner width is answered, and what the
--- pages' answers count adds up to it.
+-- Beyond demand 3's words, and tying its pages to its counts, for glyphs of any widths: the tally of the text at the inner width is
+-- answered, and what the pages' answers count adds up to it. The tally's own sum is the theorem `counts` in `lines`.
 pub record SameCounts (i : Inputs) (trim : Bool) : Type 0 where
+  pub reached : Reached i
   pub answered : textVerdict mostAccepted (innerArea i .width) (i .text) ≡ Accepted
   pub rows : summed 0 (pagesOf i) (λ page. countsAt i (scrollOf i page) .rows) ≡ pagesTally i trim .lines
   pub placed : summed 0 (pagesOf i) (λ page. countsAt i (scrollOf i page) .placed) ≡ pagesTally i trim .placed

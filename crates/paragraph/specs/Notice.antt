@@ -57,11 +57,12 @@ noticeOf styles screen text titles n area =
     ∷ insideOf styles text n (innerAreaOf screen titles n area)
     ∷ []))
 
--- "The answer carries the rows drawn, glyphs placed and clipped."
+-- "the counts are 0"
 abbrev pub noRows : Rows
 noRows = record { rows = 0; placed = 0; clipped = 0 }
 
--- "An empty inner area gets no line, and the counts are 0."
+-- "The answer carries the rows drawn, glyphs placed and clipped." "An empty inner area gets no line, and the counts are 0": so where the
+-- meeting is empty, whose inner area is empty too.
 unfoldable pub insideCounts : List ℕ → Notice → Rect → Rows
 insideCounts text n inner =
     let composed = noticeLines n text (inner .width) in

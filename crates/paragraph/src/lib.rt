@@ -111,7 +111,7 @@ fn draw_inside(
     draw_lines(screen, cells, styles, text, inner, notice)
 }
 
-// Draws the notice's style and its frame over a rectangle that lies on the screen and isn't empty.
+// Draws the notice's style over a rectangle that lies on the screen and isn't empty, and its frame around it, with its shadow.
 fn draw_frame(
     screen: Screen,
     cells: &mut [u64],
@@ -129,7 +129,7 @@ fn draw_frame(
     frame::draw_frame(screen, cells, styles, titles, notice.block, met);
 }
 
-// Draws a notice on the cells that its area and the screen share, if there are any.
+// Draws a notice over what its area and the screen share, and its shadow beside it; nothing where they share no cell.
 pub fn draw_on(
     screen: Screen,
     cells: &mut [u64],

@@ -21,7 +21,7 @@ use Rattle.compose.specs.declared.Method.{Method}
 use Rattle.compose.specs.declared.Method.the-variants.{Wrapped, Truncated}
 use Rattle.compose.specs.Lines.{Line, aligned, linesOf, lineLines, allLines, lines}
 use Rattle.compose.specs.Places.{placed, clipped}
-use Rattle.textline.specs.TextLine.{drawnStarts, placedIn, clippedIn}
+use Rattle.render_line.specs.RenderLine.{drawnStarts, placedIn, clippedIn}
 use Rattle.rows.specs.Rows.{sumOf}
 
 -- how many glyphs a line has

@@ -16,7 +16,7 @@ use Rattle.buffer.proofs.Rows.{row-lent, row-fits}
 use Rattle.compose.specs.declared.Composed.{Composed}
 use Rattle.compose.specs.Lines.{Line, composedOf}
 use Rattle.compose.specs.Composing.{lineAt, Told}
-use Rattle.textline.specs.TextLine.{lineOn, placedIn, clippedIn}
+use Rattle.render_line.specs.RenderLine.{lineOn, placedIn, clippedIn}
 use Rattle.rows.specs.Drawing.{AreaOnScreen}
 
 -- the width that is told of a line is that of its glyphs

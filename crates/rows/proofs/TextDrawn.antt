@@ -25,8 +25,8 @@ use Rattle.compose.specs.declared.Pull.{Pull}
 use Rattle.compose.specs.declared.Pull.the-variants.{Line as PulledLine, Done}
 use Rattle.compose.specs.Lines.{Line, lines}
 use Rattle.compose.specs.Composing.{left, lineAt, Ready, Told, Pulled}
-use Rattle.textline.specs.declared.Glyphs.{Glyphs}
-use Rattle.textline.specs.TextLine.{drawnStarts, lineOn, placedIn, clippedIn}
+use Rattle.render_line.specs.declared.Glyphs.{Glyphs}
+use Rattle.render_line.specs.RenderLine.{drawnStarts, lineOn, placedIn, clippedIn}
 use Rattle.rows.specs.declared.Setting.{Setting}
 use Rattle.rows.specs.Rows.{noLine, textOn, linesDrawn, rowsDrawn, sumOf, placedOn, clippedOn}
 use Rattle.rows.specs.Drawing.{Composable, Stands, AreaOnScreen}

@@ -8,7 +8,7 @@ use Rattle.layout.specs.Rect.{rightOf, bottomOf}
 use Rattle.buffer.specs.Drawing.{Drawing}
 use Rattle.buffer.specs.Parts.{inRows}
 use Rattle.compose.specs.Lines.{Line}
-use Rattle.textline.specs.TextLine.{lineOn, placedIn, clippedIn}
+use Rattle.render_line.specs.RenderLine.{lineOn, placedIn, clippedIn}
 
 -- where there is no line
 abbrev pub noLine : Line

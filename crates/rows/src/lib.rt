@@ -6,8 +6,8 @@ use compose::Method;
 use compose::Pull;
 use layout::Rect;
 use reflow::Rule;
+use render_line::Glyphs;
 use text::Alignment;
-use textline::Glyphs;
 ghost use mathlib.Core.Path.{_≡_};
 ghost use Prim.Native.Nat.{_+_, _<_, _^_};
 ghost use lib.ListN.{length};
@@ -16,7 +16,7 @@ ghost use Rattle.buffer.specs.Drawing.{drawn};
 ghost use Rattle.buffer.specs.Parts.{inRow};
 ghost use Rattle.compose.specs.Lines.{lines};
 ghost use Rattle.compose.specs.Composing.{lineAt, Told};
-ghost use Rattle.textline.specs.TextLine.{lineOn, placedIn, clippedIn};
+ghost use Rattle.render_line.specs.RenderLine.{lineOn, placedIn, clippedIn};
 ghost use Rattle.rows.specs.Rows.{textOn, rowsDrawn, placedOn, clippedOn};
 ghost use Rattle.rows.specs.Drawing.{Composable, Stands, AreaOnScreen};
 
@@ -73,7 +73,7 @@ fn draw_row(
     let start_of_row = (area.y as usize + row as usize) * (screen.columns as usize);
     let start = start_of_row + (area.x as usize);
     let end = start_of_row + (area.right() as usize);
-    textline::draw_line(
+    render_line::draw_line(
         &mut cells[start..end],
         styles,
         setting.style,

@@ -1,4 +1,4 @@
-//! Holds document 01's sentences, written out on their own in `rules`, against the Rust's answers.
+//! Holds document 01's sentences, written out on their own in the crate `rules`, against the Rust's answers.
 //!
 //! Usage: `crosscheck [SEED]`. Short texts are tried exhaustively, long texts and whole notices at
 //! random. Prints what was compared, what was skipped and why, and the smallest input of each kind
@@ -8,7 +8,6 @@ mod cases;
 mod notices;
 mod random;
 mod report;
-mod rules;
 mod texts;
 
 use std::process::ExitCode;

@@ -1,12 +1,12 @@
 //! Inner areas, blocks, notices, and how much room they need.
 
 use oracle::{Notice, Outcome};
+use rules::screen::Screen;
+use rules::{frame, lines, measure, notice};
 
 use crate::cases::{self, Case};
 use crate::random::Random;
 use crate::report::Report;
-use crate::rules::screen::Screen;
-use crate::rules::{frame, lines, measure, notice};
 
 pub fn at_random(report: &mut Report, random: &mut Random, count: u32) {
     for _ in 0..count {

@@ -1,12 +1,12 @@
 //! Composed lines and tallies.
 
 use oracle::{Alignment, ComposedLine, Outcome, Wrap};
+use rules::compose::{Composed, compose, tally};
+use rules::width;
 
 use crate::cases;
 use crate::random::Random;
 use crate::report::Report;
-use crate::rules::compose::{Composed, compose, tally};
-use crate::rules::width;
 
 /// Solid glyphs of width 0 to 3 and spaces of width 0 to 2, as (width, whitespace).
 const KINDS: [(u32, u32); 7] = [(0, 0), (1, 0), (2, 0), (3, 0), (0, 1), (1, 1), (2, 1)];

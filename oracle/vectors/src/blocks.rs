@@ -1,14 +1,14 @@
 //! Blocks, and what is asked about them: `crates/blockcases` makes the same.
 
-mod areas;
-mod drawn;
+pub mod areas;
+pub mod drawn;
 pub mod inner;
-mod many_titles;
-mod settings;
+pub mod many_titles;
+pub mod settings;
 mod shadows;
 mod titled;
 mod titles;
-mod words;
+pub mod words;
 
 use oracle::{Block, Outcome, Rect};
 

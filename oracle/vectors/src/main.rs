@@ -1,15 +1,21 @@
-//! Writes what the Rust answered for `crates/replay` and `crates/replayblocks`, which make the same
-//! cases and compare.
+//! Writes what the Rust answered for `crates/replay`, `crates/replayblocks` and
+//! `crates/replaynotices`, which make the same cases and compare.
 //!
 //! Usage: `vectors [FOLDER]`, from the repository's root; the folder is `crates` where none is
 //! given. It gets a file for each question: `wrapped`, `tally`, `truncated` and `measures` in
-//! `replay/data`, `inner`, `blocks` and `titled` in `replayblocks/data`. A file has a sum of the
-//! answer to each case, 4 bytes each, high byte first: those of short lines, of several lines and
-//! of long texts; those of inner areas; those of blocks without titles on small screens and on
-//! large ones; those of blocks with titles on small screens and on wide ones. A panic of the Rust
-//! ends it with exit status 1.
+//! `replay/data`, `inner`, `blocks` and `titled` in `replayblocks/data`, `notices` in
+//! `replaynotices/data`. A file has a sum of the answer to each case, 4 bytes each, high byte first:
+//! those of short lines, of several lines and of long texts; those of inner areas; those of blocks
+//! without titles on small screens and on large ones; those of blocks with titles on small screens
+//! and on wide ones; those of notices on narrow, small and large screens. A panic of the Rust ends it
+//! with exit status 1.
+//!
+//! A notice that clips a glyph is the one case that the Rust isn't asked about: it writes the glyph
+//! outside the area or panics. Document 01's answer, by the crate `rules`, stands in the file, and
+//! the cases are counted.
 
 mod blocks;
+mod notices;
 mod random;
 mod sums;
 mod texts;
@@ -52,7 +58,10 @@ fn write_all(folder: &Path) -> Result<(), String> {
     }
     write(folder, &blocks::INNER, &blocks::AREAS)?;
     write(folder, &blocks::DRAWN, &blocks::SCREENS)?;
-    write(folder, &blocks::TITLED, &blocks::TITLED_SCREENS)
+    write(folder, &blocks::TITLED, &blocks::TITLED_SCREENS)?;
+    write(folder, &notices::DRAWN, &notices::SCREENS)?;
+    notices::print_kinds();
+    Ok(())
 }
 
 /// Writes the file of a question: the sums of some parts in their order.

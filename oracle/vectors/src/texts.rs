@@ -1,6 +1,6 @@
 //! Texts, and what is asked about them: `crates/cases` makes the same.
 
-mod case;
+pub mod case;
 mod long;
 mod questions;
 mod records;

@@ -1,7 +1,7 @@
 -- `draw_notice::verdict` meets its contract.
 use Rattle.refuse.proofs.Calls.{causes}
 use Rattle.draw_notice.specs.Call.{noticeCauses, noticeVerdict}
-use Rattle.draw_notice.specs.Checks.{textVerdict}
+use Rattle.draw_notice.specs.Checks.{verdictFrom3}
 use borrow.Author.Needs.{needs}
 use Rattle.draw_notice.proofs.verdict.Statement.{statement}
 use Rattle.draw_notice.proofs.verdict.Tie as tie
@@ -20,11 +20,11 @@ returns-2 : tie.Need-returns-2
 unfolding noticeVerdict noticeCauses
 returns-2 c = search causes
 
-text-verdict-requires : tie.Need-text-verdict-requires
-text-verdict-requires c κs = search needs
+verdict-from-3-requires : tie.Need-verdict-from-3-requires
+verdict-from-3-requires c κs = search needs
 
 returns-3 : tie.Need-returns-3
-unfolding noticeVerdict noticeCauses textVerdict
+unfolding noticeVerdict noticeCauses verdictFrom3
 returns-3 c = search causes
 
 pub verdict-spec : {M : Type 1} → statement M
@@ -35,5 +35,5 @@ verdict-spec =
     returns
     styles-wrong-requires
     returns-2
-    text-verdict-requires
+    verdict-from-3-requires
     returns-3)

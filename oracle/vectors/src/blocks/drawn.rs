@@ -1,6 +1,6 @@
 //! Blocks to draw: with every set of borders, with and without a shadow.
 
-use oracle::Block;
+use oracle::{Block, Padding};
 
 use super::Case;
 use super::areas::area;
@@ -26,7 +26,7 @@ fn case(number: u32, columns: u16, rows: u16, reach: u32, x: u32) -> Case {
     let y = next(x);
     let styles = 1 + below(x, 8);
     Case {
-        block: block(number, styles, reach, four_on(four_on(y))),
+        block: block(number, styles, reach, Padding::uniform(1), four_on(four_on(y))),
         area: area(y, columns, rows),
         titles: Vec::new(),
         columns,
@@ -36,14 +36,15 @@ fn case(number: u32, columns: u16, rows: u16, reach: u32, x: u32) -> Case {
     }
 }
 
-/// The block of a number with so many styles, made of x and the numbers after it. Its shadow is
-/// moved by up to `reach`.
-pub fn block(number: u32, styles: u32, reach: u32, x: u32) -> Block {
+/// The block of a number with so many styles and a padding, made of x and the numbers after it. Its
+/// shadow is moved by up to `reach`.
+pub fn block(number: u32, styles: u32, reach: u32, padding: Padding, x: u32) -> Block {
     let a = four_on(four_on(x));
     let b = next(a);
     Block {
         border_style: below(a, styles) as u8,
         style: below(b, styles) as u8,
+        padding,
         titles_style: below(four_on(b), styles) as u8,
         titles_alignment: alignment(number / 64),
         titles_position: position(number / 192),

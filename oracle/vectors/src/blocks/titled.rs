@@ -1,6 +1,6 @@
 //! Blocks with titles to draw: up to 16, of every alignment and position.
 
-use oracle::Rect;
+use oracle::{Padding, Rect};
 
 use super::Case;
 use super::areas::{area, roomy};
@@ -29,7 +29,7 @@ fn case(number: u32, columns: u16, rows: u16, most: u32, x: u32) -> Case {
     let styles = 1 + below(x, 8);
     let glyphs = most >> below(next(next(z)), 4);
     Case {
-        block: block(number, styles, 4, four_on(four_on(y))),
+        block: block(number, styles, 4, Padding::uniform(1), four_on(four_on(y))),
         area: titled_area(number / 384, y, columns, rows),
         titles: many_titles(count(z), glyphs, styles, four_on(z)),
         columns,

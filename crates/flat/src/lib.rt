@@ -1,0 +1,256 @@
+// The settings that callers without enums give: flat structs of numbers, and what each number names. include/notice.h says them in C.
+use block::Block;
+use block::BorderSet;
+use block::Borders;
+use block::Effect;
+use block::Padding;
+use block::Shadow;
+use layout::Rect;
+use measure::Wrap;
+use paragraph::Notice;
+use refuse::styles;
+use text::Alignment;
+use text::TitlePosition;
+ghost use mathlib.Core.Path.{_≡_};
+ghost use Rattle.flat.specs.Flat.{unnamed, flagNamed, alignmentNamed, positionNamed, shadowNamed, wrapNamed, areaFrom, blockKnown, blockFrom, textKnown, noticeFrom};
+
+// A rectangle.
+#[repr(C)]
+pub struct FlatArea {
+    pub x: u16,
+    pub y: u16,
+    pub width: u16,
+    pub height: u16,
+}
+
+// A block's settings. Borders: 0 no, 1 yes. Titles' alignment: 0 left, 1 centre, 2 right; position: 0 top, 1 bottom. Shadow: 0 none,
+// 1 an overlay, 2 a symbol.
+#[repr(C)]
+pub struct FlatBlock {
+    pub top_left: u32,
+    pub top_right: u32,
+    pub bottom_left: u32,
+    pub bottom_right: u32,
+    pub vertical_left: u32,
+    pub vertical_right: u32,
+    pub horizontal_top: u32,
+    pub horizontal_bottom: u32,
+    pub shadow_symbol: u32,
+    pub shadow_x: i32,
+    pub shadow_y: i32,
+    pub padding_left: u16,
+    pub padding_right: u16,
+    pub padding_top: u16,
+    pub padding_bottom: u16,
+    pub border_top: u8,
+    pub border_right: u8,
+    pub border_bottom: u8,
+    pub border_left: u8,
+    pub border_style: u8,
+    pub style: u8,
+    pub titles_style: u8,
+    pub titles_alignment: u8,
+    pub titles_position: u8,
+    pub shadow: u8,
+    pub shadow_style: u8,
+}
+
+// What a notice has beside its block. Alignment: 0 left, 1 centre, 2 right. Wrap: 0 not wrapped, and scrolled to the right by `column`;
+// 1 wrapped, 2 wrapped and trimmed.
+#[repr(C)]
+pub struct FlatText {
+    pub scroll: u16,
+    pub column: u16,
+    pub style: u8,
+    pub text_style: u8,
+    pub alignment: u8,
+    pub wrap: u8,
+}
+
+// Of so many cases, numbered from 0, one of the numbers names none: as a style number does that isn't below the count of styles.
+fn any_unnamed(cases: usize, numbers: &[u8]) -> bool
+    ensures { λ r. ⌜ r ≡ unnamed cases (now (numbers .entry)) ⌝ }
+{
+    styles::style_numbers_wrong(cases, numbers)
+}
+
+// The alignment of a number; one that names none is taken as the last.
+pub fn alignment_named(number: u8) -> Alignment
+    ensures { λ r. ⌜ r ≡ alignmentNamed number ⌝ }
+{
+    if number == 0 {
+        return Alignment::Left;
+    }
+    if number == 1 {
+        return Alignment::Center;
+    }
+    Alignment::Right
+}
+
+// The position of a number.
+fn position_named(number: u8) -> TitlePosition
+    ensures { λ r. ⌜ r ≡ positionNamed number ⌝ }
+{
+    if number == 0 {
+        return TitlePosition::Top;
+    }
+    TitlePosition::Bottom
+}
+
+// The shadow of a number.
+fn shadow_named(kind: u8, symbol: u32, style: u8, x: i32, y: i32) -> Shadow
+    ensures { λ r. ⌜ r ≡ shadowNamed kind symbol style x y ⌝ }
+{
+    if kind == 0 {
+        return Shadow::Absent;
+    }
+    if kind == 1 {
+        return Shadow::Present {
+            effect: Effect::Overlay,
+            style,
+            x,
+            y,
+        };
+    }
+    Shadow::Present {
+        effect: Effect::Symbol(symbol),
+        style,
+        x,
+        y,
+    }
+}
+
+impl FlatArea {
+    pub fn area(self) -> Rect
+        ensures { λ r. ⌜ r ≡ areaFrom self ⌝ }
+    {
+        Rect {
+            x: self.x,
+            y: self.y,
+            width: self.width,
+            height: self.height,
+        }
+    }
+}
+
+impl FlatBlock {
+    // Every number names a case.
+    pub fn is_known(self) -> bool
+        ensures { λ r. ⌜ r ≡ blockKnown self ⌝ }
+    {
+        if any_unnamed(
+            2,
+            &[
+                self.border_top,
+                self.border_right,
+                self.border_bottom,
+                self.border_left,
+                self.titles_position,
+            ],
+        ) {
+            return false;
+        }
+        if any_unnamed(3, &[self.titles_alignment, self.shadow]) {
+            return false;
+        }
+        true
+    }
+
+    // The borders that stand.
+    fn borders(self) -> Borders
+        ensures { λ r. ⌜ r ≡ blockFrom self .borders ⌝ }
+    {
+        Borders {
+            top: self.border_top == 1,
+            right: self.border_right == 1,
+            bottom: self.border_bottom == 1,
+            left: self.border_left == 1,
+        }
+    }
+
+    // The block, where every number names a case.
+    pub fn block(self) -> Block
+        ensures { λ r. ⌜ r ≡ blockFrom self ⌝ }
+    {
+        let borders = self.borders();
+        let titles_alignment = alignment_named(self.titles_alignment);
+        let titles_position = position_named(self.titles_position);
+        let shadow = shadow_named(
+            self.shadow,
+            self.shadow_symbol,
+            self.shadow_style,
+            self.shadow_x,
+            self.shadow_y,
+        );
+        let border_set = BorderSet {
+            top_left: self.top_left,
+            top_right: self.top_right,
+            bottom_left: self.bottom_left,
+            bottom_right: self.bottom_right,
+            vertical_left: self.vertical_left,
+            vertical_right: self.vertical_right,
+            horizontal_top: self.horizontal_top,
+            horizontal_bottom: self.horizontal_bottom,
+        };
+        let padding = Padding {
+            left: self.padding_left,
+            right: self.padding_right,
+            top: self.padding_top,
+            bottom: self.padding_bottom,
+        };
+        Block {
+            borders,
+            border_set,
+            border_style: self.border_style,
+            style: self.style,
+            padding,
+            titles_style: self.titles_style,
+            titles_alignment,
+            titles_position,
+            shadow,
+        }
+    }
+}
+
+impl FlatText {
+    // Every number names a case.
+    pub fn is_known(self) -> bool
+        ensures { λ r. ⌜ r ≡ textKnown self ⌝ }
+    {
+        if any_unnamed(3, &[self.alignment, self.wrap]) {
+            return false;
+        }
+        true
+    }
+
+    // How lines are composed.
+    pub fn named_wrap(self) -> Wrap
+        ensures { λ r. ⌜ r ≡ wrapNamed self ⌝ }
+    {
+        if self.wrap == 0 {
+            return Wrap::Off {
+                column: self.column,
+            };
+        }
+        Wrap::On {
+            trim: self.wrap == 2,
+        }
+    }
+
+    // The notice with this block, where every number names a case.
+    pub fn notice(self, block: FlatBlock) -> Notice
+        ensures { λ r. ⌜ r ≡ noticeFrom block self ⌝ }
+    {
+        let alignment = alignment_named(self.alignment);
+        let wrap = self.named_wrap();
+        let block = block.block();
+        Notice {
+            block,
+            style: self.style,
+            text_style: self.text_style,
+            alignment,
+            wrap,
+            scroll: self.scroll,
+        }
+    }
+}

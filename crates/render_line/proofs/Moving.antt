@@ -1,0 +1,93 @@
+-- The glyphs of records that start at 0, and the same at a line's start column: columns, starts and the right edge move together.
+use Prim.Native.Nat.{ℕ, zero, suc, compare, compare·suc-suc, _+_, _<_}
+use mathlib.Core.Path.{_≡_, refl, _∙_}
+use mathlib.Core.Bool.{Bool, true, false, cond, and-false}
+use mathlib.Core.List.{List, [], _∷_}
+use native.Mathlib.Nat.{add-assoc, add-suc, suc-add, zero-add}
+use native.Mathlib.Omega.{arith}
+use borrow.Author.Tests.{ne-eqb}
+use lib.Dec.{eqb, leb, ltb}
+use Rattle.text.specs.Record.{widthOf}
+use Rattle.text.specs.Line.{Glyph, Start, glyphFrom, numbered, startsFrom}
+use Rattle.text.specs.Lists.{countOf}
+use Rattle.reflow.specs.declared.Rule.{Rule}
+use Rattle.reflow.specs.Wrapping.{overWide, notOverWide}
+use Rattle.compose.specs.Places.{placed, clipped}
+use Rattle.render_line.specs.RenderLine.{glyphOn, glyphsOn}
+use Rattle.render_line.proofs.OneGlyph.{startOf}
+
+-- what holds of no glyphs, and of a glyph before others of which it holds, holds of all the glyphs of records; their numbers may
+-- differ, and the first list starts so many columns further
+along : (a : ℕ) (P : List Start → List Start → Type 0) → P [] []
+    → ((m n column word : ℕ) (ss ts : List Start) → P ss ts → P (startOf m (a + column) word ∷ ss) (startOf n column word ∷ ts))
+    → (u : Rule) (m n column : ℕ) (records : List ℕ)
+    → P (startsFrom (a + column) (notOverWide u (numbered m records))) (startsFrom column (notOverWide u (numbered n records)))
+unfolding overWide
+along a P none more u m n column [] = none
+along a P none more u m n column (r ∷ rs) =
+    go (ltb (u .limit) (widthOf r)) (λ c. along a P none more u (suc m) (suc n) c rs)
+  where
+    Holds : ℕ → List Glyph → List Glyph → Type 0
+    Holds c gs hs = P (startsFrom (a + c) gs) (startsFrom c hs)
+
+    go : (b : Bool) → ((c : ℕ) → Holds c (notOverWide u (numbered (suc m) rs)) (notOverWide u (numbered (suc n) rs)))
+        → Holds column (cond b (notOverWide u (numbered (suc m) rs)) (glyphFrom m r ∷ notOverWide u (numbered (suc m) rs)))
+        (cond b (notOverWide u (numbered (suc n) rs)) (glyphFrom n r ∷ notOverWide u (numbered (suc n) rs)))
+    go true others = others column
+    go false others = more m n column r _ _ (rw add-assoc (others (column + widthOf r)))
+
+-- tests of numbers that move together
+compare-moved : (a m n : ℕ) → compare (a + m) (a + n) ≡ compare m n
+compare-moved zero m n = simp zero-add
+compare-moved (suc a) m n = simp (suc-add, compare·suc-suc) (compare-moved a m n)
+
+leb-moved : (a m n : ℕ) → leb (a + m) (a + n) ≡ leb m n
+leb-moved a m n = rw (compare-moved a m n)
+
+eqb-moved : (a m n : ℕ) → eqb (a + m) (a + n) ≡ eqb m n
+eqb-moved a m n = rw (compare-moved a m n)
+
+module _ (a area m n column word : ℕ) where
+  placed-moved : placed (a + area) (startOf m (a + column) word) ≡ placed area (startOf n column word)
+  unfolding placed
+  placed-moved = rw (← add-suc, leb-moved a (suc column) area)
+
+  clipped-moved : clipped (a + area) (startOf m (a + column) word) ≡ clipped area (startOf n column word)
+  unfolding clipped
+  clipped-moved = rw (leb-moved a area column)
+
+  glyph-moved : (styles : List ℕ) (style i cell : ℕ)
+      → glyphOn styles style (a + area) (startOf m (a + column) word) (a + i) cell ≡ glyphOn styles style area (startOf n column word) i cell
+  unfolding glyphOn
+  glyph-moved styles style i cell = rw (placed-moved, eqb-moved a i column)
+
+module _ (a area : ℕ) (u : Rule) (m n column : ℕ) (records : List ℕ) where
+  abbrev moved : List Start
+  moved = startsFrom (a + column) (notOverWide u (numbered m records))
+
+  abbrev unmoved : List Start
+  unmoved = startsFrom column (notOverWide u (numbered n records))
+
+  pub placed-same : countOf (placed (a + area)) moved ≡ countOf (placed area) unmoved
+  placed-same =
+      along a (λ ss ts. countOf (placed (a + area)) ss ≡ countOf (placed area) ts) refl
+      (λ m n c word ss ts e. rw (placed-moved a area m n c word, e)) u m n column records
+
+  pub clipped-same : countOf (clipped (a + area)) moved ≡ countOf (clipped area) unmoved
+  clipped-same =
+      along a (λ ss ts. countOf (clipped (a + area)) ss ≡ countOf (clipped area) ts) refl
+      (λ m n c word ss ts e. rw (clipped-moved a area m n c word, e)) u m n column records
+
+  pub glyphs-same : (styles : List ℕ) (style i cell : ℕ) → glyphsOn styles style (a + area) moved (a + i) cell ≡ glyphsOn styles style area unmoved i cell
+  glyphs-same styles style i cell =
+      along a (λ ss ts. (cell : ℕ) → glyphsOn styles style (a + area) ss (a + i) cell ≡ glyphsOn styles style area ts i cell) (λ _. refl)
+      (λ m n c word ss ts e cell. rw (glyph-moved a area m n c word styles style i cell) (e _)) u m n column records cell
+
+-- no glyph changes a cell before the first
+pub glyphs-before : (styles : List ℕ) (style area column : ℕ) (gs : List Glyph) (i cell : ℕ) → i < column
+    → glyphsOn styles style area (startsFrom column gs) i cell ≡ cell
+unfolding glyphOn
+glyphs-before styles style area column [] i cell h = refl
+glyphs-before styles style area column (g ∷ gs) i cell h =
+    let other : eqb i column ≡ false = ne-eqb i column (λ e. omega arith) in
+    glyphs-before styles style area (column + g .width) gs i _ (omega arith) ∙ simp (other, and-false)

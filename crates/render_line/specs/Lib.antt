@@ -1,0 +1,2 @@
+pub mod RenderLine
+pub mod Writing

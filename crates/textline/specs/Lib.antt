@@ -1,2 +1,0 @@
-pub mod TextLine
-pub mod Writing

@@ -1,0 +1,138 @@
+//! 'Wrapping', the tally, and `LineTruncator` of 'After the pages'.
+
+use oracle::{Alignment, Tally, Wrap};
+
+use crate::{Glyph, Line, lines, width};
+
+/// A composed line.
+#[derive(Debug, PartialEq)]
+pub struct Composed {
+    pub glyphs: Vec<Glyph>,
+    pub alignment: Alignment,
+}
+
+/// The composed lines of a text, and the glyphs that wrapping skips or drops.
+#[derive(Default)]
+pub struct Text {
+    pub lines: Vec<Composed>,
+    pub over_wide: Vec<Glyph>,
+    pub dropped: Vec<Glyph>,
+}
+
+pub fn compose(records: &[u32], own: Alignment, limit: i64, wrap: Wrap) -> Text {
+    let mut text = Text::default();
+    if limit == 0 {
+        return text;
+    }
+    for line in lines(records) {
+        let alignment =
+            [Alignment::Left, Alignment::Center, Alignment::Right, own][line.alignment as usize];
+        let composed = match wrap {
+            Wrap::On { trim } => wrapped(&line, limit, trim, &mut text),
+            Wrap::Off { column } => vec![truncated(&line, limit, i64::from(column), alignment)],
+        };
+        let aligned = composed.into_iter().map(|glyphs| Composed { glyphs, alignment });
+        text.lines.extend(aligned);
+    }
+    text
+}
+
+fn wrapped(line: &Line, limit: i64, trim: bool, text: &mut Text) -> Vec<Vec<Glyph>> {
+    let mut emitted: Vec<Vec<Glyph>> = vec![];
+    let (mut row, mut spaces, mut word) = (vec![], vec![], vec![]);
+    let mut previous_solid = false;
+    for &glyph in &line.glyphs {
+        let w = glyph.width;
+        // 1.
+        if w > limit {
+            text.over_wide.push(glyph);
+            continue;
+        }
+        // 2.
+        let overflows = if trim {
+            width(&word) + w > limit || width(&spaces) + w > limit
+        } else {
+            width(&word) + width(&spaces) + w > limit
+        };
+        if glyph.space && previous_solid || row.is_empty() && overflows {
+            if !row.is_empty() || !trim {
+                row.append(&mut spaces);
+            }
+            row.append(&mut word);
+            text.dropped.append(&mut spaces);
+        }
+        // 3.
+        let pending = width(&row) + width(&spaces) + width(&word);
+        if width(&row) >= limit || w > 0 && pending >= limit {
+            let mut room = (limit - width(&row)).max(0);
+            emitted.push(std::mem::take(&mut row));
+            while spaces.first().is_some_and(|space: &Glyph| space.width <= room) {
+                room -= spaces[0].width;
+                text.dropped.push(spaces.remove(0));
+            }
+            if glyph.space && spaces.is_empty() {
+                text.dropped.push(glyph);
+                continue;
+            }
+        }
+        // 4.
+        if glyph.space { &mut spaces } else { &mut word }.push(glyph);
+        previous_solid = !glyph.space;
+    }
+    // At the line's end.
+    if row.is_empty() && word.is_empty() && !spaces.is_empty() && trim {
+        emitted.push(vec![]);
+    }
+    if !row.is_empty() || !trim {
+        row.append(&mut spaces);
+    }
+    row.append(&mut word);
+    if !row.is_empty() {
+        emitted.push(row);
+    }
+    if emitted.is_empty() {
+        emitted.push(vec![]);
+    }
+    text.dropped.append(&mut spaces);
+    emitted
+}
+
+fn truncated(line: &Line, limit: i64, mut offset: i64, alignment: Alignment) -> Vec<Glyph> {
+    if alignment != Alignment::Left {
+        offset = 0;
+    }
+    let mut shown = vec![];
+    for &glyph in line.glyphs.iter().filter(|glyph| glyph.width <= limit) {
+        if width(&shown) + glyph.width > limit {
+            break;
+        }
+        if offset > 0 && glyph.width <= offset {
+            offset -= glyph.width;
+        } else {
+            offset = 0;
+            shown.push(glyph);
+        }
+    }
+    shown
+}
+
+pub fn tally(records: &[u32], limit: i64, trim: bool) -> Tally {
+    let text = compose(records, Alignment::Left, limit, Wrap::On { trim });
+    let mut tally = Tally {
+        lines: text.lines.len() as u32,
+        over_wide: text.over_wide.len() as u32,
+        dropped: text.dropped.len() as u32,
+        ..Tally::default()
+    };
+    for line in &text.lines {
+        for (place, glyph) in line.glyphs.iter().enumerate() {
+            let start = width(&line.glyphs[..place]);
+            match glyph.width {
+                0 => tally.zero_width += 1,
+                _ if start < limit => tally.placed += 1,
+                _ => tally.clipped += 1,
+            }
+        }
+    }
+    tally
+}

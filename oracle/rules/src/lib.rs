@@ -1,0 +1,60 @@
+//! Document 01 written out, sentence by sentence, on plain numbers and lists. Nothing here is
+//! shared with the stand-ins; only the types of settings and counts are the oracle's. `crosscheck`
+//! holds it against the Rust, and `vectors` takes the answers from here where a glyph is clipped.
+
+pub mod compose;
+pub mod frame;
+pub mod measure;
+pub mod notice;
+pub mod screen;
+pub mod titles;
+
+/// A glyph with its record number: "0 | symbol 21 | width 3 | whitespace 1 | style 6".
+#[derive(Debug, Clone, Copy, PartialEq)]
+pub struct Glyph {
+    pub number: u32,
+    pub symbol: u64,
+    pub width: i64,
+    pub space: bool,
+    pub style: usize,
+}
+
+/// A line and the alignment and position of its head: "1 | alignment 2 | position 2 | 27 zeros".
+pub struct Line {
+    pub alignment: u32,
+    pub position: u32,
+    pub glyphs: Vec<Glyph>,
+}
+
+/// The lines of some records; "a head opens a line".
+pub fn lines(records: &[u32]) -> Vec<Line> {
+    let mut lines: Vec<Line> = Vec::new();
+    for (number, &record) in (0..).zip(records) {
+        if record / (1 << 31) == 1 {
+            lines.push(Line {
+                alignment: record / (1 << 29) % 4,
+                position: record / (1 << 27) % 4,
+                glyphs: Vec::new(),
+            });
+        } else if let Some(line) = lines.last_mut() {
+            line.glyphs.push(Glyph {
+                number,
+                symbol: u64::from(record / 1024),
+                width: i64::from(record / 128 % 8),
+                space: record / 64 % 2 == 1,
+                style: (record % 64) as usize,
+            });
+        }
+    }
+    lines
+}
+
+/// "A list's width is its sum."
+pub fn width(glyphs: &[Glyph]) -> i64 {
+    glyphs.iter().map(|glyph| glyph.width).sum()
+}
+
+/// "All sums and differences here are held in 16 bits."
+pub fn held(number: i64) -> i64 {
+    number.clamp(0, 65_535)
+}
