@@ -1,10 +1,11 @@
 // The calls, one for each set of causes.
-use crate::cells;
-use crate::inputs;
-use crate::inputs::Causes;
+use crate::causes::Causes;
 use crate::report;
 use draw_block::Framed;
-use layout::Rect;
+use refusedcalls::cells;
+use refusedcalls::inputs;
+use refusedcalls::is_right;
+use refusedcalls::report::print_counts;
 ghost use mathlib.Core.Path.{_≡_};
 ghost use Prim.Native.Nat.{_≤_};
 ghost use Rattle.draw_block.specs.Call.{framedNumber};
@@ -26,14 +27,9 @@ fn call(causes: Causes, cells: &mut [u64]) -> u32 {
         inputs::head(causes.titles),
         inputs::glyph(causes.style_number),
     ];
-    let block = inputs::block(causes.symbol);
+    let block = inputs::block(4, inputs::wrong_symbol(causes.symbol));
     let columns = inputs::columns(causes.screen);
-    let area = Rect {
-        x: 0,
-        y: 0,
-        width: 4,
-        height: 3,
-    };
+    let area = inputs::area();
     answer_number(draw_block::draw_block(columns, 3, cells, &styles, &titles, area, block))
 }
 
@@ -49,17 +45,6 @@ fn lowest(number: u32) -> u32 {
     }
 }
 
-// Whether a call has answered the lowest number, and has changed cells only where no cause holds.
-fn is_right(number: u32, answer: u32, kept: bool) -> bool {
-    if answer != lowest(number) {
-        return false;
-    }
-    if kept {
-        return number != 0;
-    }
-    number == 0
-}
-
 // 1 where the call of a number isn't right, or 0.
 fn differs(number: u32, cells: &mut [u64]) -> u32
     ensures { λ r. ⌜ r ≤ 1 ⌝ }
@@ -69,7 +54,7 @@ fn differs(number: u32, cells: &mut [u64]) -> u32
     let answer = call(causes, cells);
     let kept = cells::are_kept(cells);
     report::print_call(causes, answer, kept);
-    if is_right(number, answer, kept) {
+    if is_right(lowest(number), answer, kept) {
         return 0;
     }
     1
@@ -82,7 +67,7 @@ fn call_each(cells: &mut [u64]) {
         differ += differs(number, cells);
         number += 1;
     }
-    report::print_counts(number, differ);
+    print_counts(number, differ);
 }
 
 pub fn call_all() {

@@ -1,10 +1,10 @@
--- `refusedblocks::cells::are_kept` meets its contract.
+-- `refusedcalls::cells::are_kept` meets its contract.
 use Prim.Native.Nat.{_-_}
 use lib.ListN.{length}
-use Rattle.refusedblocks.proofs.Keeping.{Keeping, keeping}
+use Rattle.refusedcalls.proofs.Keeping.{Keeping, keeping}
 use borrow.Author.Needs.{needs}
-use Rattle.refusedblocks.proofs.cells.are_kept.Statement.{statement}
-use Rattle.refusedblocks.proofs.cells.are_kept.Tie as tie
+use Rattle.refusedcalls.proofs.cells.are_kept.Statement.{statement}
+use Rattle.refusedcalls.proofs.cells.are_kept.Tie as tie
 
 abbrev Inv-loop : tie.InvT-loop
 Inv-loop cells i₀ i = Keeping cells i

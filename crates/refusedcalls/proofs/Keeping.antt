@@ -9,7 +9,7 @@ use borrow.Author.Tests.{eq-eqb, ne-eqb}
 use lib.Dec.{eqb}
 use lib.ListN.{length, getD, drop}
 use lib.Seq.{drop-cons, drop-length}
-use Rattle.refusedblocks.specs.Cells.{cellBefore, keptFrom}
+use Rattle.refusedcalls.specs.Cells.{cellBefore, keptFrom}
 
 -- the cells left say what all say
 pub record Keeping (cells : List ℕ) (i : ℕ) : Type 0 where

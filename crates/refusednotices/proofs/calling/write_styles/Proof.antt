@@ -1,28 +1,28 @@
--- `refusedblocks::cells::fill` meets its contract.
+-- `refusednotices::calling::write_styles` meets its contract.
 use Prim.Native.Nat.{_-_}
 use mathlib.Core.Path.{_≡_}
 use lib.ListN.{length, length-set}
 use borrow.Author.Needs.{needs}
-use Rattle.refusedblocks.proofs.cells.fill.Statement.{statement}
-use Rattle.refusedblocks.proofs.cells.fill.Tie as tie
+use Rattle.refusednotices.proofs.calling.write_styles.Statement.{statement}
+use Rattle.refusednotices.proofs.calling.write_styles.Tie as tie
 
 abbrev Inv-loop : tie.InvT-loop
-Inv-loop cells₀ i₀ cells i = length cells ≡ length cells₀
+Inv-loop styles₀ given i₀ styles i = length styles ≡ length styles₀
 
 abbrev μ-loop : tie.MeasureT-loop
-μ-loop cells₀ i₀ cells i = length cells - i
+μ-loop styles₀ given i₀ styles i = length styles - i
 
 loop-holds : tie.Need-loop-holds Inv-loop μ-loop
 loop-holds c = search needs
 
-before-requires : tie.Need-before-requires Inv-loop μ-loop
-before-requires c κs = search needs
+style-at-requires : tie.Need-style-at-requires Inv-loop μ-loop
+style-at-requires c κs = search needs
 
-mul-cells : tie.Need-mul-cells Inv-loop μ-loop
-mul-cells c = search needs
+mul-styles : tie.Need-mul-styles Inv-loop μ-loop
+mul-styles c = search needs
 
-slice-write-cells : tie.Need-slice-write-cells Inv-loop μ-loop
-slice-write-cells c = search needs
+slice-write-styles : tie.Need-slice-write-styles Inv-loop μ-loop
+slice-write-styles c = search needs
 
 add-i : tie.Need-add-i Inv-loop μ-loop
 add-i c = search needs
@@ -39,16 +39,16 @@ same-length c = search needs
 returns : tie.Need-returns Inv-loop μ-loop
 returns c = search needs
 
-pub fill-spec : {M : Type 1} → statement M
-fill-spec =
+pub write-styles-spec : {M : Type 1} → statement M
+write-styles-spec =
     tie.close
     (tie.spec
     Inv-loop
     μ-loop
     loop-holds
-    before-requires
-    mul-cells
-    slice-write-cells
+    style-at-requires
+    mul-styles
+    slice-write-styles
     add-i
     loop-less
     loop-again

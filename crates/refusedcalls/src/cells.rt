@@ -1,6 +1,6 @@
 // The cells that a call is given.
 ghost use mathlib.Core.Path.{_≡_};
-ghost use Rattle.refusedblocks.specs.Cells.{cellBefore, keptFrom};
+ghost use Rattle.refusedcalls.specs.Cells.{cellBefore, keptFrom};
 
 // What stands in a cell before the call: eight bytes that tell its place.
 fn before(place: usize) -> u64
