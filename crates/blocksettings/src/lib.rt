@@ -3,6 +3,7 @@ pub mod areas;
 pub mod axes;
 pub mod borders;
 pub mod many_titles;
+pub mod plain;
 pub mod shadows;
 pub mod titles;
 pub mod words;

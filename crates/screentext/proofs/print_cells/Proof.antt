@@ -1,9 +1,9 @@
--- `replayblocks::examples::print_cells` meets its contract.
+-- `screentext::print_cells` meets its contract.
 use borrow.Author.Needs.{needs}
 use Prim.Native.Nat.{_-_, _≤_}
 use lib.ListN.{length}
-use Rattle.replayblocks.proofs.examples.print_cells.Statement.{statement}
-use Rattle.replayblocks.proofs.examples.print_cells.Tie as tie
+use Rattle.screentext.proofs.print_cells.Statement.{statement}
+use Rattle.screentext.proofs.print_cells.Tie as tie
 
 abbrev Inv-loop : tie.InvT-loop
 Inv-loop cells i₀ i = i ≤ length cells
