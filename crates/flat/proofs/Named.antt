@@ -1,7 +1,7 @@
 -- What a number names: one law for each way through the code.
 use Prim.Native.Nat.{ℕ}
 use mathlib.Core.Path.{_≡_}
-use mathlib.Core.Bool.{Bool, true, false, cond, not, _||_, or-true}
+use mathlib.Core.Bool.{Bool, true, false, _&&_, or-true}
 use mathlib.Core.List.{[], _∷_}
 use borrow.Author.Tests.{eq-eqb, ne-eqb}
 use lib.Dec.{eqb}
@@ -113,3 +113,13 @@ module _ (t : FlatText) where
   notice-from b block alignment wrap p q r = rw (p, q, r)
 
 pub ruleset texts = (wrap-off, wrap-on, text-unknown, text-known)
+
+-- both structs
+module _ (b : FlatBlock) (t : FlatText) (found : Bool) (e : found ≡ blockKnown b) where
+  pub block-unknown : found ≡ false → false ≡ (blockKnown b && textKnown t)
+  block-unknown f = rw (← e, f)
+
+  pub both-known : (r : Bool) → found ≡ true → r ≡ textKnown t → r ≡ (blockKnown b && textKnown t)
+  both-known r f p = rw (← e, f) p
+
+pub ruleset boths = (block-unknown, both-known)

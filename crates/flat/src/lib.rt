@@ -12,7 +12,8 @@ use refuse::styles;
 use text::Alignment;
 use text::TitlePosition;
 ghost use mathlib.Core.Path.{_≡_};
-ghost use Rattle.flat.specs.Flat.{unnamed, flagNamed, alignmentNamed, positionNamed, shadowNamed, wrapNamed, areaFrom, blockKnown, blockFrom, textKnown, noticeFrom};
+ghost use mathlib.Core.Bool.{_&&_};
+ghost use Rattle.flat.specs.Flat.{unnamed, alignmentNamed, positionNamed, shadowNamed, wrapNamed, areaFrom, blockKnown, blockFrom, textKnown, noticeFrom};
 
 // A rectangle.
 #[repr(C)]
@@ -253,4 +254,14 @@ impl FlatText {
             scroll: self.scroll,
         }
     }
+}
+
+// Every number of a notice's settings names a case.
+pub fn all_known(block: FlatBlock, text: FlatText) -> bool
+    ensures { λ r. ⌜ r ≡ (blockKnown block && textKnown text) ⌝ }
+{
+    if block.is_known() {
+        return text.is_known();
+    }
+    false
 }

@@ -1,0 +1,68 @@
+-- The calls' answers as flat structs: one law for each of their cases.
+use Prim.Native.Nat.{ℕ}
+use mathlib.Core.Path.{_≡_}
+use Rattle.layout.specs.declared.Rect.{Rect}
+use Rattle.refuse.specs.declared.Refusal.{Refusal}
+use Rattle.refuse.specs.Refusal.{refusalNumber}
+use Rattle.block.specs.declared.InnerArea.{InnerArea}
+use Rattle.block.specs.declared.InnerArea.the-variants.{Area, Refused as NoArea}
+use Rattle.lines.specs.declared.Listed.{Listed}
+use Rattle.lines.specs.declared.Listed.the-variants.{Written, Refused as NotListed}
+use Rattle.lines.specs.declared.Counts.{Counts}
+use Rattle.lines.specs.declared.Tallied.{Tallied}
+use Rattle.lines.specs.declared.Tallied.the-variants.{Counted, Refused as NotTallied}
+use Rattle.measure.specs.declared.Measured.{Measured}
+use Rattle.measure.specs.declared.Measured.the-variants.{Value, Refused as NotMeasured}
+use Rattle.rows.specs.declared.Rows.{Rows}
+use Rattle.draw_notice.specs.declared.Drawn.{Drawn}
+use Rattle.draw_notice.specs.declared.Drawn.the-variants.{Shown, Refused as NotDrawn}
+use Rattle.ffi.specs.Answer.{listFlat, tallyFlat, areaFlat, drawFlat, measureFlat}
+
+module _ (a : Listed) where
+  pub list-written : (count : ℕ) → a ≡ Written count → record { lines = count; number = 0 } ≡ listFlat a
+  unfolding listFlat
+  list-written count e = rw e
+
+  pub list-refused : (why : Refusal) (number : ℕ) → a ≡ NotListed why → number ≡ refusalNumber why → record { lines = 0; number = number } ≡ listFlat a
+  unfolding listFlat
+  list-refused why number e n = rw (e, n)
+
+module _ (a : Tallied) where
+  pub tally-counted : (c : Counts) → a ≡ Counted c
+      → record { number = 0; lines = c .lines; placed = c .placed; clipped = c .clipped; «zero_width» = c .«zero_width»; «over_wide» = c .«over_wide»; dropped = c .dropped } ≡ tallyFlat a
+  unfolding tallyFlat
+  tally-counted c e = rw e
+
+  pub tally-refused : (why : Refusal) (number : ℕ) → a ≡ NotTallied why → number ≡ refusalNumber why
+      → record { number = number; lines = 0; placed = 0; clipped = 0; «zero_width» = 0; «over_wide» = 0; dropped = 0 } ≡ tallyFlat a
+  unfolding tallyFlat
+  tally-refused why number e n = rw (e, n)
+
+module _ (a : InnerArea) where
+  pub area-there : (r : Rect) → a ≡ Area r → record { number = 0; x = r .x; y = r .y; width = r .width; height = r .height } ≡ areaFlat a
+  unfolding areaFlat
+  area-there r e = rw e
+
+  pub area-refused : (why : Refusal) (number : ℕ) → a ≡ NoArea why → number ≡ refusalNumber why → record { number = number; x = 0; y = 0; width = 0; height = 0 } ≡ areaFlat a
+  unfolding areaFlat
+  area-refused why number e n = rw (e, n)
+
+module _ (a : Drawn) where
+  pub draw-shown : (r : Rows) → a ≡ Shown r → record { number = 0; rows = r .rows; placed = r .placed; clipped = r .clipped } ≡ drawFlat a
+  unfolding drawFlat
+  draw-shown r e = rw e
+
+  pub draw-refused : (why : Refusal) (number : ℕ) → a ≡ NotDrawn why → number ≡ refusalNumber why → record { number = number; rows = 0; placed = 0; clipped = 0 } ≡ drawFlat a
+  unfolding drawFlat
+  draw-refused why number e n = rw (e, n)
+
+module _ (a : Measured) where
+  pub measure-value : (value : ℕ) → a ≡ Value value → record { number = 0; value = value } ≡ measureFlat a
+  unfolding measureFlat
+  measure-value value e = rw e
+
+  pub measure-refused : (why : Refusal) (number : ℕ) → a ≡ NotMeasured why → number ≡ refusalNumber why → record { number = number; value = 0 } ≡ measureFlat a
+  unfolding measureFlat
+  measure-refused why number e n = rw (e, n)
+
+pub ruleset flattened = (list-written, list-refused, tally-counted, tally-refused, area-there, area-refused, draw-shown, draw-refused, measure-value, measure-refused)
