@@ -11,20 +11,28 @@ use oracle::{Alignment, Outcome};
 use original::{over_lean, over_oracle};
 use ratatui_core::glyph::Glyph;
 
+/// include/notice.h: lines written, and 0 or the number of a refusal.
+#[repr(C)]
+struct ListAnswer {
+    lines: usize,
+    number: u32,
+}
+
 unsafe extern "C" {
     /// include/notice.h
     fn notice_list_lines(
         text: *const u32,
         text_len: usize,
+        alignment: u8,
         limit: u16,
-        trim: bool,
+        trim: u8,
         list: *mut u64,
         list_len: usize,
-    ) -> u64;
+    ) -> ListAnswer;
 }
 
-/// What an answer that refuses starts from.
-const REFUSED: u64 = 1 << 32;
+/// The number of the alignment left.
+const LEFT: u8 = 0;
 
 /// Every case is repeated so often, and smaller texts more often, in each of so many rounds: a busy
 /// minute spoils none.
@@ -73,18 +81,27 @@ struct Ready<'a> {
 
 impl Ready<'_> {
     /// The list call with some limit and the first entries of the list.
-    fn call(&mut self, limit: u16, entries: usize) -> u64 {
-        let (text, list, trim) = (self.records, &mut self.list[..entries], self.case.trim);
+    fn call(&mut self, limit: u16, entries: usize) -> ListAnswer {
+        let (text, list) = (self.records, &mut self.list[..entries]);
+        let trim = self.case.trim.into();
         // SAFETY: the pointers are those of slices of these lengths.
         unsafe {
-            notice_list_lines(text.as_ptr(), text.len(), limit, trim, list.as_mut_ptr(), list.len())
+            notice_list_lines(
+                text.as_ptr(),
+                text.len(),
+                LEFT,
+                limit,
+                trim,
+                list.as_mut_ptr(),
+                list.len(),
+            )
         }
     }
 
     fn ours(&mut self) -> usize {
         let answer = self.call(self.case.limit, self.list.len());
-        assert!(answer < REFUSED, "refused with {}", answer - REFUSED);
-        answer as usize
+        assert_eq!(answer.number, 0, "refused");
+        answer.lines
     }
 
     fn ours_listed(&mut self) {
@@ -93,12 +110,12 @@ impl Ready<'_> {
 
     /// Causes 3 and 4 are looked for, and cause 8, a limit too high, ends the call.
     fn ours_checked(&mut self) {
-        assert_eq!(self.call(4097, 0), REFUSED + 8);
+        assert_eq!(self.call(4097, 0).number, 8);
     }
 
     /// The lines are counted, and cause 9, a list too short, ends the call.
     fn ours_counted(&mut self) {
-        assert_eq!(self.call(self.case.limit, 0), REFUSED + 9);
+        assert_eq!(self.call(self.case.limit, 0).number, 9);
     }
 
     fn lean(&mut self) {

@@ -5,7 +5,7 @@ use lib.ListN.{length}
 use Rattle.text.specs.Alignment.{alignmentNumber}
 use Rattle.compose.specs.declared.Composed.{Composed}
 use Rattle.compose.specs.Lines.{Line, composedOf}
-use Rattle.lines.specs.declared.Counts.{Counts}
+use Rattle.tally.specs.declared.Counts.{Counts}
 use Rattle.checksum.specs.Sums.{withNumber}
 
 -- the sum of a tally's six counts

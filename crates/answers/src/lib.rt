@@ -4,10 +4,10 @@ mod sums;
 
 use cases::Case;
 use lines::Listed;
-use lines::Tallied;
 use reflow::Rule;
 use refuse::Ceilings;
 use refuse::records;
+use tally::Tallied;
 
 // What is asked about a text.
 pub enum Question {
@@ -35,7 +35,7 @@ fn wrapped_lines(case: Case, text: &[u32], list: &mut [u64]) -> Answer {
 }
 
 fn counts(case: Case, text: &[u32]) -> Answer {
-    let Tallied::Counted(counts) = lines::tally(text, case.limit, case.trim) else {
+    let Tallied::Counted(counts) = tally::tally(text, case.limit, case.trim) else {
         return Answer::Refused;
     };
     Answer::Sum(sums::sum_counts(counts))

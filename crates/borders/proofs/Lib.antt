@@ -1,4 +1,3 @@
 pub mod Parts
 pub mod Symbols
 pub mod Borders
-pub mod Keeps

@@ -1,1 +1,1 @@
-// Document 01's starred examples, in one theorem. No code: it is in proofs/.
+// Document 01's examples: the starred ones in one theorem, and its two worked title examples. No code: they are in proofs/.

@@ -8,9 +8,9 @@ use Rattle.block.specs.declared.InnerArea.{InnerArea}
 use Rattle.block.specs.declared.InnerArea.the-variants.{Area, Refused as NoArea}
 use Rattle.lines.specs.declared.Listed.{Listed}
 use Rattle.lines.specs.declared.Listed.the-variants.{Written, Refused as NotListed}
-use Rattle.lines.specs.declared.Counts.{Counts}
-use Rattle.lines.specs.declared.Tallied.{Tallied}
-use Rattle.lines.specs.declared.Tallied.the-variants.{Counted, Refused as NotTallied}
+use Rattle.tally.specs.declared.Counts.{Counts}
+use Rattle.tally.specs.declared.Tallied.{Tallied}
+use Rattle.tally.specs.declared.Tallied.the-variants.{Counted, Refused as NotTallied}
 use Rattle.measure.specs.declared.Measured.{Measured}
 use Rattle.measure.specs.declared.Measured.the-variants.{Value, Refused as NotMeasured}
 use Rattle.rows.specs.declared.Rows.{Rows}

@@ -8,9 +8,9 @@ use Rattle.block.specs.declared.InnerArea.{InnerArea}
 use Rattle.block.specs.Causes.{innerNumber, innerRect}
 use Rattle.lines.specs.declared.Listed.{Listed}
 use Rattle.lines.specs.List.{listedNumber, listedCount}
-use Rattle.lines.specs.declared.Counts.{Counts}
-use Rattle.lines.specs.declared.Tallied.{Tallied}
-use Rattle.lines.specs.Tally.{talliedNumber, talliedCounts}
+use Rattle.tally.specs.declared.Counts.{Counts}
+use Rattle.tally.specs.declared.Tallied.{Tallied}
+use Rattle.tally.specs.Tally.{talliedNumber, talliedCounts}
 use Rattle.measure.specs.declared.Measured.{Measured}
 use Rattle.measure.specs.Calls.{measuredNumber, measuredValue}
 use Rattle.rows.specs.declared.Rows.{Rows}

@@ -18,7 +18,7 @@ ghost use Rattle.compose.specs.declared.Method.the-variants.{Wrapped};
 ghost use Rattle.compose.specs.Lines.{lines};
 ghost use Rattle.lines.specs.Causes.{textVerdict};
 ghost use Rattle.lines.specs.List.{listed, ruleOf, listVerdict, listAnswer, listAfter};
-ghost use Rattle.lines.specs.Tally.{tallyOf, tallyAnswer};
+ghost use Rattle.tally.specs.Tally.{tallyOf, tallyAnswer};
 ghost use Rattle.block.specs.Inner.{innerOf};
 ghost use Rattle.block.specs.Causes.{innerVerdict, innerAnswer};
 ghost use Rattle.measure.specs.Measures.{lineCount, lineWidth};

@@ -18,12 +18,12 @@ use Rattle.buffer.specs.declared.Screen.{Screen}
 use Rattle.buffer.specs.Drawing.{over, onlyIf, areaOf, styleAt}
 use Rattle.buffer.proofs.Within.{cell-inside as inside-cell}
 use Rattle.borders.specs.Borders.{sides, corners}
-use Rattle.borders.proofs.Keeps.{KeepsSymbol, Between, order-keeps, alone-keeps, style-keeps, between, takes-one, cell-between, cell-inside, sides-keep, corners-keep}
 use Rattle.titles.specs.Titles.{titlesRow, titlesOn}
 use Rattle.titles.proofs.OtherRows.{titles-alone}
 use Rattle.shadow.specs.Shadow.{shadowOf}
 use Rattle.shadow.proofs.Keeps.{shadow-spares}
 use Rattle.frame.specs.Frame.{frame, blockOf}
+use Rattle.frame.proofs.KeepsSymbols.{KeepsSymbol, Between, order-keeps, alone-keeps, style-keeps, between, takes-one, cell-between, cell-inside, sides-keep, corners-keep}
 
 module _ (b : Block) (titles : List ℕ) (met : Rect) (across : met .x + met .width ≤ 65535) (down : met .y + met .height ≤ 65535)
     (column row : ℕ) (inner : contains (innerOf b titles met) column row ≡ true) where

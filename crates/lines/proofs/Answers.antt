@@ -1,4 +1,4 @@
--- What the answers of a list call and of a tally say in document 01's numbers, and that their causes come lowest first.
+-- What the answers of a list call say in document 01's numbers, and that its causes come lowest first.
 use Prim.Native.Nat.{ℕ, _<_, _≤_}
 use mathlib.Core.Path.{_≡_, refl}
 use mathlib.Core.Bool.{true}
@@ -9,10 +9,7 @@ use Rattle.refuse.specs.declared.Verdict.{Verdict}
 use Rattle.refuse.specs.declared.Verdict.the-variants.{Accepted, Refused}
 use Rattle.refuse.specs.Refusal.{firstCause, refusalNumber, verdictNumber}
 use Rattle.refuse.proofs.Lowest.{ascending, Holds, lowest, only}
-use Rattle.lines.specs.declared.Counts.{Counts}
-use Rattle.lines.specs.Causes.{textCauses, textVerdict}
 use Rattle.lines.specs.List.{listCauses, listAnswer, listedNumber, listedCount}
-use Rattle.lines.specs.Tally.{noCounts, tallyAnswer, talliedNumber, talliedCounts}
 
 -- the answer's number is the verdict's
 pub answer-number : (verdict : Verdict) (count : ℕ) → listedNumber (listAnswer verdict count) ≡ verdictNumber verdict
@@ -37,24 +34,3 @@ module _ (most : Ceilings) (limit : ℕ) (text : List ℕ) (count entries : ℕ)
   -- and a refusal is for a cause that holds
   pub list-only : (why : Refusal) → firstCause (listCauses most limit text count entries) ≡ Refused why → Holds why (listCauses most limit text count entries)
   list-only why e = only (listCauses most limit text count entries) why e
-
--- the same of a tally: its number is the verdict's
-pub tally-number : (verdict : Verdict) (counts : Counts) → talliedNumber (tallyAnswer verdict counts) ≡ verdictNumber verdict
-tally-number Accepted counts = refl
-tally-number (Refused why) counts = refl
-
--- "number, counts 0"
-pub refused-counts : (why : Refusal) (counts : Counts) → talliedCounts (tallyAnswer (Refused why) counts) ≡ noCounts
-refused-counts why counts = refl
-
-module _ (most : Ceilings) (limit : ℕ) (text : List ℕ) where
-  -- a cause that holds means a refusal, with its number or a lower one
-  pub tally-lowest : (why : Refusal) → Holds why (textCauses most limit text)
-      → (0 < verdictNumber (textVerdict most limit text)) × (verdictNumber (textVerdict most limit text) ≤ refusalNumber why)
-  unfolding textVerdict textCauses
-  tally-lowest why h = lowest 0 (textCauses most limit text) why refl h
-
-  -- and a refusal is for a cause that holds
-  pub tally-only : (why : Refusal) → textVerdict most limit text ≡ Refused why → Holds why (textCauses most limit text)
-  unfolding textVerdict
-  tally-only why e = only (textCauses most limit text) why e

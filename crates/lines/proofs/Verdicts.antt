@@ -1,12 +1,14 @@
 -- The list call in its two stages comes to its list of causes, and what an accepted call knows.
 use Prim.Native.Nat.{ℕ, _≤_}
-use mathlib.Core.Path.{_≡_, sym, ap, _∙_}
+use mathlib.Core.Path.{_≡_, refl, sym, ap, _∙_}
 use mathlib.Core.Bool.{Bool, true, false}
 use mathlib.Core.List.{List, [], _∷_, _++_, map}
-use borrow.Author.Tests.{ltb-false}
+use borrow.Author.Tests.{ltb-false, not-false}
 use lib.Dec.{ltb}
 use lib.ListN.{length, drop, length-map}
 use Rattle.text.specs.declared.Alignment.{Alignment}
+use Rattle.text.specs.Record.{isHead}
+use Rattle.text.specs.Line.{untilHead}
 use Rattle.text.proofs.Bools.{neither}
 use Rattle.refuse.specs.declared.Ceilings.{Ceilings}
 use Rattle.refuse.specs.declared.Refusal.{Refusal}
@@ -19,11 +21,8 @@ use Rattle.refuse.proofs.Calls.{passed, early-refused, early-accepted}
 use Rattle.compose.specs.declared.Method.the-variants.{Wrapped}
 use Rattle.compose.specs.Lines.{Line, lines}
 use Rattle.lines.specs.declared.Listed.the-variants.{Written, Refused}
-use Rattle.lines.specs.declared.Counts.{Counts}
-use Rattle.lines.specs.declared.Tallied.the-variants.{Counted, Refused as RefusedTally}
 use Rattle.lines.specs.List.{listed, ruleOf, listCauses, listVerdict, listAnswer, listAfter}
 use Rattle.lines.specs.Causes.{textCauses, textVerdict}
-use Rattle.lines.specs.Tally.{noCounts, tallyAnswer}
 
 -- v is what the checks of the text answered, with the ceilings m
 module _ (most m : Ceilings) (limit : ℕ) (text : List ℕ) (v : Verdict) (q : m ≡ most) (e : v ≡ textVerdict m limit text) where
@@ -68,18 +67,6 @@ module _ (most m : Ceilings) (limit : ℕ) (text : List ℕ) (v : Verdict) (q : 
           let k : verdict ≡ Accepted = later ∙ rw f in
           (rw (k, c), (rw k, (rw k c, rw (k, length-map) w)))
 
-  -- a tally has no other cause
-  module _ (counts : Counts) where
-    pub tally-refused : (why : Refusal) → v ≡ RefusedFor why
-        → (RefusedTally why ≡ tallyAnswer (textVerdict most limit text) counts) × ((refusalNumber why ≡ verdictNumber (textVerdict most limit text))
-        × (noCounts ≡ unlessRefused (textVerdict most limit text) counts noCounts))
-    tally-refused why r = let k : textVerdict most limit text ≡ RefusedFor why = rw (← q, ← e) r in (rw k, (rw k, rw k))
-
-    pub tally-counted : v ≡ Accepted → (c : Counts) → c ≡ counts
-        → (Counted c ≡ tallyAnswer (textVerdict most limit text) counts) × ((0 ≡ verdictNumber (textVerdict most limit text))
-        × (c ≡ unlessRefused (textVerdict most limit text) counts noCounts))
-    tally-counted a c p = let k : textVerdict most limit text ≡ Accepted = rw (← q, ← e) a in (rw (k, p), (rw k, rw k p))
-
   -- no cause of the text holds
   module _ (a : v ≡ Accepted) where
     first : (textTooLong most text ≡ false) × (firstCause (TextHeads if textHeadsWrong text ∷ Limit if limitWrong most limit ∷ []) ≡ Accepted)
@@ -100,3 +87,8 @@ module _ (most m : Ceilings) (limit : ℕ) (text : List ℕ) (v : Verdict) (q : 
 
 pub list-room : (entries n count : ℕ) (b : Bool) → count ≡ n → b ≡ listTooShort entries count → b ≡ false → n ≤ entries
 list-room entries n count b c p f = rw c at (ltb-false entries count (sym p ∙ f))
+
+-- a text that opens with a head has no glyph before it
+pub opens-none : (text : List ℕ) → notOpening text ≡ false → untilHead text ≡ []
+opens-none [] o = refl
+opens-none (r ∷ rs) o = rw (not-false (isHead r) o)

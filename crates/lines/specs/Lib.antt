@@ -1,4 +1,2 @@
 pub mod Causes
 pub mod List
-pub mod Tally
-pub mod Tallying

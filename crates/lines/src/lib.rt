@@ -1,7 +1,5 @@
 // The calls on composed lines that are open to callers.
 
-mod tallying;
-
 use compose::Composed;
 use compose::Composer;
 use compose::Method;
@@ -24,42 +22,11 @@ ghost use Rattle.compose.specs.declared.Method.the-variants.{Wrapped};
 ghost use Rattle.compose.specs.Lines.{lines};
 ghost use Rattle.lines.specs.List.{packed, listed, ruleOf, listVerdict, listAnswer, listedNumber, listedCount, listAfter};
 ghost use Rattle.lines.specs.Causes.{textVerdict};
-ghost use Rattle.lines.specs.Tally.{noCounts, tallyOf, tallyAnswer, talliedNumber, talliedCounts};
 
 // What a list call answers: how many lines it wrote, or why it wrote none.
 pub enum Listed {
     Written(usize),
     Refused(Refusal),
-}
-
-// The tally of a text: its composed lines, and what becomes of its glyphs.
-pub struct Counts {
-    pub lines: u32,
-    pub placed: u32,
-    pub clipped: u32,
-    pub zero_width: u32,
-    pub over_wide: u32,
-    pub dropped: u32,
-}
-
-// What a tally call answers: the counts, or why nothing was counted.
-pub enum Tallied {
-    Counted(Counts),
-    Refused(Refusal),
-}
-
-// Composed lines, and what becomes of their glyphs.
-pub struct LineCounts {
-    pub lines: u32,
-    pub placed: u32,
-    pub clipped: u32,
-    pub zero_width: u32,
-}
-
-// The glyphs of a text, and how many of them are over-wide.
-pub struct GlyphCounts {
-    pub glyphs: u32,
-    pub over_wide: u32,
 }
 
 // The entry of a composed line.
@@ -75,7 +42,7 @@ fn pack(line: Composed) -> u64
 }
 
 // Causes 3, 4 and 8.
-fn check_text(most: Ceilings, limit: u16, text: &[u32]) -> Verdict
+pub fn check_text(most: Ceilings, limit: u16, text: &[u32]) -> Verdict
     ensures { λ r. ⌜ r ≡ textVerdict most limit (now (text .entry)) ⌝ }
 {
     if records::text_too_long(most, text) {
@@ -145,21 +112,4 @@ pub fn list_lines(text: &[u32], own: Alignment, limit: u16, trim: bool, list: &m
     }
     write_lines(rule, own, text, list);
     Listed::Written(count)
-}
-
-// Tallies a text at a limit: causes 3, 4, 8.
-pub fn tally(text: &[u32], limit: u16, trim: bool) -> Tallied
-    ensures answer { λ r. ⌜ r ≡ tallyAnswer (textVerdict mostAccepted limit (now (text .entry))) (tallyOf (ruleOf limit trim) (now (text .entry))) ⌝ }
-    ensures number { λ r. ⌜ talliedNumber r ≡ verdictNumber (textVerdict mostAccepted limit (now (text .entry))) ⌝ }
-    ensures counts { λ r. ⌜ talliedCounts r ≡ unlessRefused (textVerdict mostAccepted limit (now (text .entry))) (tallyOf (ruleOf limit trim) (now (text .entry))) noCounts ⌝ }
-{
-    let most = Ceilings::accepted();
-    if let Verdict::Refused(why) = check_text(most, limit, text) {
-        return Tallied::Refused(why);
-    }
-    let rule = Rule {
-        limit: limit as u32,
-        trim,
-    };
-    Tallied::Counted(tallying::text_counts(rule, text))
 }

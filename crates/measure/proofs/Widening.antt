@@ -10,7 +10,7 @@ use lib.Seq.{drop-cons}
 use Rattle.text.specs.Record.{isHead, widthOf}
 use Rattle.text.specs.Line.{numbered, total, untilHead, linesFrom}
 use Rattle.refuse.specs.Causes.{notOpening}
-use Rattle.lines.proofs.TallyCounts.{opens-none}
+use Rattle.lines.proofs.Verdicts.{opens-none}
 use Rattle.measure.specs.Measures.{widest}
 
 -- the widest of the lines that records open and of the line that they go on with, of which so much was passed

@@ -18,18 +18,18 @@ pub use text::TitlePosition;
 pub use block::InnerArea;
 pub use draw_block::Framed;
 pub use draw_notice::Drawn;
-pub use lines::Counts;
 pub use lines::Listed;
-pub use lines::Tallied;
 pub use measure::Measured;
 pub use refuse::Refusal;
 pub use rows::Rows;
+pub use tally::Counts;
+pub use tally::Tallied;
 
 // The calls.
 pub use block::causes::inner;
 pub use draw_block::draw_block;
 pub use draw_notice::draw_notice;
 pub use lines::list_lines;
-pub use lines::tally;
 pub use measure::line_count;
 pub use measure::line_width;
+pub use tally::tally;

@@ -12,8 +12,8 @@ use Rattle.buffer.specs.Drawing.{Drawing, drawn, over, inOrder, styleAt}
 use Rattle.buffer.proofs.Drawn.{drawn-at}
 use Rattle.buffer.proofs.Rows.{rows-inside}
 use Rattle.buffer.proofs.Within.{cell-inside}
-use Rattle.borders.proofs.Keeps.{KeepsSymbol, order-keeps, style-keeps}
 use Rattle.frame.specs.Frame.{frame, blockOf}
+use Rattle.frame.proofs.KeepsSymbols.{KeepsSymbol, order-keeps, style-keeps}
 use Rattle.frame.proofs.Keeps.{block-keeps}
 use Rattle.compose.specs.Lines.{Line}
 use Rattle.render_line.specs.RenderLine.{lineOn}

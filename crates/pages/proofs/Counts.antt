@@ -26,12 +26,12 @@ use Rattle.render_line.specs.RenderLine.{lineOffset, drawnStarts, placedIn, cli
 use Rattle.rows.specs.declared.Rows.{Rows}
 use Rattle.rows.specs.Rows.{linesDrawn, rowsDrawn, sumOf, placedOn, clippedOn}
 use Rattle.rows.proofs.Bounds.{sum-append}
-use Rattle.lines.specs.declared.LineCounts.{LineCounts}
 use Rattle.lines.specs.Causes.{textVerdict}
 use Rattle.lines.specs.List.{ruleOf}
-use Rattle.lines.specs.Tally.{tallyOf}
-use Rattle.lines.specs.Tallying.{lineCounts}
-use Rattle.lines.proofs.TallyCounts.{own-alignment}
+use Rattle.tally.specs.declared.LineCounts.{LineCounts}
+use Rattle.tally.specs.Tally.{tallyOf}
+use Rattle.tally.specs.Tallying.{lineCounts}
+use Rattle.tally.proofs.TallyCounts.{own-alignment}
 use Rattle.paragraph.specs.Notice.{noticeLines, innerAreaOf, insideCounts, noticeCounts}
 use Rattle.pages.specs.Pages.{Inputs, verdictAt, countsAt, innerArea, composedLines, pageCount, pagesOf, scrollOf}
 use Rattle.pages.specs.Reading.{summed, WrappedNotice, Reached, SameCounts}

@@ -27,8 +27,8 @@ use Rattle.compose.specs.declared.Method.the-variants.{Wrapped}
 use Rattle.compose.specs.Lines.{Line, lines}
 use Rattle.compose.specs.Places.{placed}
 use Rattle.render_line.specs.RenderLine.{drawnStarts}
-use Rattle.lines.proofs.Emitted.{lists, wrapped, lines-wrapped}
-use Rattle.lines.proofs.TallyCounts.{opens-none}
+use Rattle.lines.proofs.Verdicts.{opens-none}
+use Rattle.tally.proofs.Emitted.{lists, wrapped, lines-wrapped}
 use Rattle.pages.specs.Pages.{Placement, placementOf, solidPlaced, placementsFrom}
 use Rattle.pages.specs.Reading.{OneCell}
 use Rattle.pages.proofs.Fit.{Fit}

@@ -12,10 +12,10 @@ use Rattle.refuse.specs.declared.Verdict.the-variants.{Accepted}
 use Rattle.measure.specs.declared.Wrap.the-variants.{On}
 use Rattle.refuse.specs.Causes.{mostAccepted}
 use Rattle.nothing_lost.specs.Glyphs.{solids}
-use Rattle.lines.specs.declared.Counts.{Counts}
 use Rattle.lines.specs.Causes.{textVerdict}
 use Rattle.lines.specs.List.{ruleOf}
-use Rattle.lines.specs.Tally.{tallyOf}
+use Rattle.tally.specs.declared.Counts.{Counts}
+use Rattle.tally.specs.Tally.{tallyOf}
 use Rattle.pages.specs.Pages.{Inputs, Placement, verdictAt, cellsAt, countsAt, innerArea, pagesOf, scrollOf, placements}
 
 -- a symbol read on a page, in a row and a column of the screen

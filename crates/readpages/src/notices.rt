@@ -13,8 +13,6 @@ use blocksettings::words::write_words;
 use cases::random::below;
 use cases::random::next;
 use cases::random::seed;
-use lines::Counts;
-use lines::Tallied;
 use measure::Measured;
 use measure::Wrap;
 use noticepages::frames;
@@ -26,6 +24,8 @@ use noticepages::reading;
 use noticepages::screens::screen;
 use noticepages::texts;
 use paragraph::Notice;
+use tally::Counts;
+use tally::Tallied;
 ghost use Prim.Native.Nat.{_<_, _≤_};
 ghost use lib.ListN.{length};
 
@@ -138,7 +138,7 @@ fn compare(
     if height == 0 {
         return Outcome::without_pages();
     }
-    let Tallied::Counted(counts) = lines::tally(text, inner.width, trim) else {
+    let Tallied::Counted(counts) = tally::tally(text, inner.width, trim) else {
         return Outcome::without_pages();
     };
     let sums = pages::read_pages(framing, lines, height, styles, text, titles, cells, symbols);

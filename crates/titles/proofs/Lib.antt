@@ -10,4 +10,3 @@ pub mod LastTitle
 pub mod RightTitles
 pub mod Positions
 pub mod OtherRows
-pub mod Examples

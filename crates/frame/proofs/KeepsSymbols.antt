@@ -1,0 +1,145 @@
+-- The sides and corners that are drawn lie outside the inner area, so they keep its symbols.
+use Prim.Native.Nat.{ℕ, _+_, _-_, _<_, _≤_}
+use mathlib.Core.Path.{_≡_, refl, ap, _∙_}
+use mathlib.Core.Bool.{Bool, true, false, cond, _&&_, and-eq-true-iff}
+use mathlib.Core.Logic.{inl, inr}
+use mathlib.Core.List.{List, [], _∷_}
+use native.Mathlib.Omega.{arith}
+use borrow.Author.Tests.{leb-true, ltb-true}
+use Rattle.layout.specs.declared.Rect.{Rect}
+use Rattle.layout.specs.Rect.{rightOf, bottomOf, within, contains}
+use Rattle.cell.specs.Cell.{cellFrom, styled}
+use Rattle.cell.proofs.Fields.{styled-symbol}
+use Rattle.block.specs.declared.Block.{Block}
+use Rattle.block.specs.Inner.{atLeft, atTop, atRight, atBottom, taken, innerOf}
+use Rattle.block.proofs.Within.{Inside, inside}
+use Rattle.buffer.specs.Drawing.{Drawing, over, onlyIf, inOrder}
+use Rattle.buffer.proofs.Over.{over-outside}
+use Rattle.buffer.proofs.Within.{cell-outside}
+use Rattle.borders.specs.Borders.{leftSide, topSide, rightSide, bottomSide, bottomRight, topRight, bottomLeft, topLeft, border, sides, corners}
+
+-- a drawing keeps the symbol of the cell in a column and a row, whatever the cell
+abbrev pub KeepsSymbol : Drawing → ℕ → ℕ → Type 0
+KeepsSymbol d column row = (cell : ℕ) → cellFrom (d column row cell) .symbol ≡ cellFrom cell .symbol
+
+-- each of some drawings does
+abbrev pub EachKeeps : List Drawing → ℕ → ℕ → Type 0
+EachKeeps [] column row = Unit {0}
+EachKeeps (d ∷ ds) column row = KeepsSymbol d column row × EachKeeps ds column row
+
+-- then so do all of them in order
+pub order-keeps : (ds : List Drawing) (column row : ℕ) → EachKeeps ds column row → KeepsSymbol (inOrder ds) column row
+order-keeps [] column row keeps cell = refl
+order-keeps (d ∷ ds) column row keeps cell = order-keeps ds column row (keeps .1) (d column row cell) ∙ keeps .0 cell
+
+-- a drawing that leaves a cell as it is keeps its symbol
+pub alone-keeps : (d : Drawing) (column row : ℕ) → ((cell : ℕ) → d column row cell ≡ cell) → KeepsSymbol d column row
+alone-keeps d column row alone cell = ap (λ (c : ℕ). cellFrom c .symbol) (alone cell)
+
+-- a style keeps the symbol of every cell
+pub style-keeps : (r : Rect) (style column row : ℕ) → KeepsSymbol (over r (styled style)) column row
+unfolding over
+style-keeps r style column row cell = go (contains r column row)
+  where
+    go : (b : Bool) → cellFrom (cond b (styled style cell) cell) .symbol ≡ cellFrom cell .symbol
+    go true = styled-symbol style cell
+    go false = refl
+
+-- a cell that lies in a rectangle lies between its edges
+pub record Between (r : Rect) (column row : ℕ) : Type 0 where
+  pub left : r .x ≤ column
+  pub right : column < rightOf r
+  pub top : r .y ≤ row
+  pub bottom : row < bottomOf r
+
+pub between : (r : Rect) (column row : ℕ) → contains r column row ≡ true → Between r column row
+between r column row h =
+    let both = and-eq-true-iff (within (r .x) (rightOf r) column) (within (r .y) (bottomOf r) row) .0 h in
+    let across = and-eq-true-iff _ _ .0 (both .0) in
+    let down = and-eq-true-iff _ _ .0 (both .1) in
+    record {
+      left = leb-true (r .x) column (across .0);
+      right = ltb-true column (rightOf r) (across .1);
+      top = leb-true (r .y) row (down .0);
+      bottom = ltb-true row (bottomOf r) (down .1);
+    }
+
+-- a side or a corner leaves a cell alone that doesn't lie in it
+pub border-alone : (styles : List ℕ) (b : Block) (part : Rect) (symbol column row cell : ℕ) → contains part column row ≡ false → border styles b part symbol column row cell ≡ cell
+unfolding border
+border-alone styles b part symbol column row cell h = over-outside part _ column row cell h
+
+-- so it keeps the symbol of a cell that doesn't lie in it, and of every cell where it doesn't stand
+part-keeps : (styles : List ℕ) (b : Block) (part : Rect) (symbol : ℕ) (stands : Bool) (column row : ℕ) → (stands ≡ true → contains part column row ≡ false)
+    → KeepsSymbol (onlyIf stands (border styles b part symbol)) column row
+part-keeps styles b part symbol true column row outside =
+    alone-keeps (border styles b part symbol) column row (λ cell. border-alone styles b part symbol column row cell (outside refl))
+part-keeps styles b part symbol false column row outside = λ cell. refl
+
+-- a corner needs two borders: it is enough that one of them keeps the cell out
+corner-keeps : (styles : List ℕ) (b : Block) (part : Rect) (symbol : ℕ) (one other : Bool) (column row : ℕ) → (one ≡ true → contains part column row ≡ false)
+    → KeepsSymbol (onlyIf (one && other) (border styles b part symbol)) column row
+corner-keeps styles b part symbol one other column row outside =
+    part-keeps styles b part symbol (one && other) column row (λ both. outside (and-eq-true-iff one other .0 both .0))
+
+-- what stands takes a cell
+pub takes-one : (stands : Bool) → stands ≡ true → taken stands ≡ 1
+takes-one stands on = rw on
+
+module _ (b : Block) (titles : List ℕ) (met : Rect) (across : met .x + met .width ≤ 65535) (down : met .y + met .height ≤ 65535)
+    (column row : ℕ) (inner : contains (innerOf b titles met) column row ≡ true) where
+  -- a cell of the inner area lies between the inner area's edges, and these lie inside the borders
+  pub cell-between : Between (innerOf b titles met) column row
+  cell-between = between (innerOf b titles met) column row inner
+
+  pub cell-inside : Inside b titles met
+  cell-inside =
+      let c = cell-between in
+      inside b titles met across down (omega arith) (omega arith)
+
+  -- where a left border stands, it lies in no part that is in the first column alone; so for the other three borders
+  clear-left : (part : Rect) → part .x ≡ met .x → part .width ≡ 1 → b .borders .left ≡ true → contains part column row ≡ false
+  clear-left part starts wide on =
+      let c = cell-between in
+      let i = cell-inside in
+      let one = takes-one (atLeft b) on in
+      cell-outside _ _ _ _ column row (inr (inl (omega arith)))
+
+  clear-top : (part : Rect) → part .y ≡ met .y → part .height ≡ 1 → b .borders .top ≡ true → contains part column row ≡ false
+  clear-top part starts high on =
+      let c = cell-between in
+      let i = cell-inside in
+      let one = takes-one (atTop b titles) (rw on) in
+      cell-outside _ _ _ _ column row (inr (inr (inr (omega arith))))
+
+  clear-right : (part : Rect) → part .x ≡ rightOf met - 1 → b .borders .right ≡ true → contains part column row ≡ false
+  clear-right part starts on =
+      let c = cell-between in
+      let i = cell-inside in
+      let one = takes-one (atRight b) on in
+      cell-outside _ _ _ _ column row (inl (omega arith))
+
+  clear-bottom : (part : Rect) → part .y ≡ bottomOf met - 1 → b .borders .bottom ≡ true → contains part column row ≡ false
+  clear-bottom part starts on =
+      let c = cell-between in
+      let i = cell-inside in
+      let one = takes-one (atBottom b titles) (rw on) in
+      cell-outside _ _ _ _ column row (inr (inr (inl (omega arith))))
+
+  -- the sides keep the symbols of the inner area
+  pub sides-keep : (styles : List ℕ) → KeepsSymbol (sides styles b met) column row
+  unfolding sides
+  sides-keep styles cell =
+      part-keeps styles b (bottomSide met) _ (b .borders .bottom) column row (clear-bottom (bottomSide met) refl) _
+      ∙ part-keeps styles b (rightSide met) _ (b .borders .right) column row (clear-right (rightSide met) refl) _
+      ∙ part-keeps styles b (topSide met) _ (b .borders .top) column row (clear-top (topSide met) refl refl) _
+      ∙ part-keeps styles b (leftSide met) _ (b .borders .left) column row (clear-left (leftSide met) refl refl) cell
+
+  -- and so do the corners
+  pub corners-keep : (styles : List ℕ) → KeepsSymbol (corners styles b met) column row
+  unfolding corners
+  corners-keep styles cell =
+      corner-keeps styles b (topLeft met) _ (b .borders .left) (b .borders .top) column row (clear-left (topLeft met) refl refl) _
+      ∙ corner-keeps styles b (bottomLeft met) _ (b .borders .left) (b .borders .bottom) column row (clear-left (bottomLeft met) refl refl) _
+      ∙ corner-keeps styles b (topRight met) _ (b .borders .right) (b .borders .top) column row (clear-right (topRight met) refl) _
+      ∙ corner-keeps styles b (bottomRight met) _ (b .borders .right) (b .borders .bottom) column row (clear-right (bottomRight met) refl) cell

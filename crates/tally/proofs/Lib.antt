@@ -1,0 +1,9 @@
+pub mod Verdicts
+pub mod Answers
+pub mod Ways
+pub mod Sums
+pub mod Emitted
+pub mod Summing
+pub mod Glyphs
+pub mod TallyCounts
+pub mod Rest

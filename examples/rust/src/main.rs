@@ -1,0 +1,154 @@
+//! Draws the notice of examples/c: two pages on blank cells, and the tally under them.
+#![forbid(unsafe_code)]
+
+use notice::{
+    Alignment, Block, BorderSet, Borders, Effect, Notice, Padding, Rect, Refusal, Screen, Shadow,
+    TitlePosition, Wrap, list_lines, tally,
+};
+
+const COLUMNS: usize = 34;
+const ROWS: usize = 9;
+const BLANK: u64 = 32 << 43;
+
+// Numbers of the styles in the table.
+const PLAIN: u8 = 0;
+const FRAME: u8 = 1;
+const HEADLINE: u8 = 2;
+const SHADE: u8 = 3;
+const BADGE: u8 = 4;
+
+/// Heads that leave alignment, and in a title position too, to the notice and the block.
+const TEXT_HEAD: u32 = 1 << 31 | 3 << 29;
+const TITLE_HEAD: u32 = TEXT_HEAD | 2 << 27;
+
+const TEXT: &str = "\
+Barred since this morning: 1041, 1177, 2063 and 3310.
+
+Holders of these badges go to the desk in the lobby. \
+Doors 7 and 12 stay locked for all others until noon, and door 3 after it.";
+
+const AREA: Rect = Rect { x: 1, y: 1, width: 30, height: 7 };
+
+fn notice() -> Notice {
+    let block = Block {
+        borders: Borders { top: true, right: true, bottom: true, left: true },
+        border_set: BorderSet {
+            top_left: '╭'.into(),
+            top_right: '╮'.into(),
+            bottom_left: '╰'.into(),
+            bottom_right: '╯'.into(),
+            vertical_left: '│'.into(),
+            vertical_right: '│'.into(),
+            horizontal_top: '─'.into(),
+            horizontal_bottom: '─'.into(),
+        },
+        border_style: FRAME,
+        style: PLAIN,
+        padding: Padding { left: 2, right: 1, top: 0, bottom: 0 },
+        titles_style: FRAME,
+        titles_alignment: Alignment::Center,
+        titles_position: TitlePosition::Top,
+        shadow: Some(Shadow { effect: Effect::Symbol('▒'.into()), style: SHADE, x: 2, y: 1 }),
+    };
+    Notice {
+        block,
+        style: PLAIN,
+        text_style: PLAIN,
+        alignment: Alignment::Left,
+        wrap: Wrap::On { trim: true },
+        scroll: 0,
+    }
+}
+
+/// A style that gives a foreground and adds modifiers.
+fn style(foreground: u64, add: u64) -> u64 {
+    1 << 63 | foreground << 55 | add << 37
+}
+
+fn glyph(symbol: char, style: u8) -> u32 {
+    let (width, whitespace) = (1, u32::from(symbol == ' '));
+    u32::from(symbol) << 10 | width << 7 | whitespace << 6 | u32::from(style)
+}
+
+/// The records of some lines; digits have a style of their own.
+fn packed(head: u32, lines: &str, letters: u8, digits: u8) -> Vec<u32> {
+    let record = |c: char| match c {
+        '\n' => head,
+        '0'..='9' => glyph(c, digits),
+        _ => glyph(c, letters),
+    };
+    std::iter::once(head).chain(lines.chars().map(record)).collect()
+}
+
+/// Each row's symbols, and beside them its foregrounds, a dot for none.
+fn print_screen(cells: &[u64]) {
+    let symbol = |cell: &u64| char::from_u32((cell >> 43) as u32).unwrap_or('?');
+    let foreground = |cell: &u64| match (cell >> 35) as u8 {
+        0 => '.',
+        number => char::from(b'0' + number % 10),
+    };
+    for row in cells.chunks(COLUMNS) {
+        let symbols: String = row.iter().map(symbol).collect();
+        let foregrounds: String = row.iter().map(foreground).collect();
+        println!("{symbols}  {foregrounds}");
+    }
+}
+
+fn main() -> Result<(), Refusal> {
+    let styles = [0, style(4, 0), style(3, 1), style(8, 0), style(1, 1)];
+    let text = packed(TEXT_HEAD, TEXT, PLAIN, BADGE);
+    let titles = packed(TITLE_HEAD, " Lobby ", HEADLINE, HEADLINE);
+    let mut notice = notice();
+
+    let inner = notice.block.inner(&titles, AREA)?;
+    println!("inner area: {} {}, {} x {}", inner.x, inner.y, inner.width, inner.height);
+    let counts = tally(&text, inner.width, true)?;
+    let pages = counts.lines.div_ceil(inner.height.into());
+    let mut cells = [BLANK; COLUMNS * ROWS];
+    let (mut rows, mut placed) = (0, 0);
+    for page in 0..pages {
+        notice.scroll = page as u16 * inner.height;
+        cells.fill(BLANK);
+        let mut screen = Screen {
+            columns: COLUMNS as u32,
+            rows: ROWS as u32,
+            cells: &mut cells,
+            styles: &styles,
+        };
+        let drawn = notice.draw(&mut screen, &text, &titles, AREA)?;
+        rows += drawn.rows;
+        placed += drawn.placed;
+        print!("page {} of {pages}: rows {}, ", page + 1, drawn.rows);
+        println!("placed {}, clipped {}", drawn.placed, drawn.clipped);
+        print_screen(&cells);
+    }
+    print!("tally: lines {}, placed {}, ", counts.lines, counts.placed);
+    print!("clipped {}, zero-width {}, ", counts.clipped, counts.zero_width);
+    println!("over-wide {}, dropped {}", counts.over_wide, counts.dropped);
+    assert_eq!((rows, placed), (counts.lines, counts.placed), "every line and glyph on the pages");
+
+    let count = notice.line_count(&text, &titles, inner.width)?;
+    let width = notice.block.line_width(&text, &titles)?;
+    println!("on one page: {count} rows; unwrapped: {width} columns");
+    let mut list = vec![0; counts.lines as usize];
+    let written = list_lines(&text, Alignment::Left, inner.width, true, &mut list)?;
+    let line = |entry: &u64| format!(" {}-{}", entry >> 49, entry >> 34 & 0x7FFF);
+    println!("lines:{}", list[..written].iter().map(line).collect::<String>());
+
+    cells.fill(BLANK);
+    let mut screen =
+        Screen { columns: COLUMNS as u32, rows: ROWS as u32, cells: &mut cells, styles: &styles };
+    let corner = Rect { x: 28, y: 6, width: 20, height: 20 };
+    notice.block.draw(&mut screen, &[], corner)?;
+    println!("a block over the edge of the screen, without titles:");
+    print_screen(screen.cells);
+
+    let before = screen.cells.to_vec();
+    notice.block.border_style = styles.len() as u8;
+    let refused = notice.draw(&mut screen, &text, &titles, AREA);
+    assert_eq!(refused, Err(Refusal::StyleNumber));
+    assert_eq!(screen.cells, before, "cells as they were");
+    println!("a style number too high: {}", Refusal::StyleNumber as u32);
+    println!("all as promised");
+    Ok(())
+}
