@@ -82,7 +82,7 @@ abbrev pub pagesTally : Inputs → Bool → Counts
 pagesTally i trim = tallyOf (ruleOf (innerArea i .width) trim) (i .text)
 
 -- Beyond demand 3's words, and tying its pages to its counts, for glyphs of any widths: the tally of the text at the inner width is
--- answered, and what the pages' answers count adds up to it. The tally's own sum is the theorem `counts` in `lines`.
+-- answered, and what the pages' answers count adds up to it. The tally's own sum is the theorem `counts` in `tally`.
 pub record SameCounts (i : Inputs) (trim : Bool) : Type 0 where
   pub reached : Reached i
   pub answered : textVerdict mostAccepted (innerArea i .width) (i .text) ≡ Accepted
