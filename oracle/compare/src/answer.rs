@@ -1,0 +1,48 @@
+//! All that a call answers and writes.
+
+use crate::input::Call;
+
+#[derive(Clone, PartialEq, Eq)]
+pub struct Answer {
+    /// 0, or why the call is refused.
+    pub number: u32,
+    /// The other fields of the answer, in the order of [`fields`].
+    pub values: [u64; 6],
+    /// The cells of a call that draws, or the list, as they are after it.
+    pub words: Vec<u64>,
+}
+
+impl Answer {
+    /// An accepted call that writes nothing.
+    pub fn of<const N: usize>(values: [u64; N]) -> Self {
+        Self::drawn(values, Vec::new())
+    }
+
+    pub fn drawn<const N: usize>(values: [u64; N], words: Vec<u64>) -> Self {
+        let mut all = [0; 6];
+        all[..N].copy_from_slice(&values);
+        Self { number: 0, values: all, words }
+    }
+
+    /// The field of a name, 0 where the call has none of it.
+    pub fn named(&self, call: Call, name: &str) -> u64 {
+        let place = fields(call).iter().position(|field| *field == name);
+        place.map_or(0, |place| self.values[place])
+    }
+
+    pub fn refused(number: u32, words: Vec<u64>) -> Self {
+        Self { number, values: [0; 6], words }
+    }
+}
+
+/// The names of a call's fields, beside its number.
+pub fn fields(call: Call) -> &'static [&'static str] {
+    match call {
+        Call::ListLines => &["lines"],
+        Call::Tally => &["lines", "placed", "clipped", "zero_width", "over_wide", "dropped"],
+        Call::Inner => &["x", "y", "width", "height"],
+        Call::DrawBlock => &[],
+        Call::DrawNotice => &["rows", "placed", "clipped"],
+        Call::LineCount | Call::LineWidth => &["value"],
+    }
+}

@@ -1,0 +1,181 @@
+//! What is expected of a call: the Rust's answer, and document 01's where the Rust has none.
+
+use oracle::{Alignment, ComposedLine, Drawn, Outcome, Tally, Wrap};
+use rules::compose::{Composed, compose, tally};
+use rules::screen::Screen;
+use rules::{frame, lines, measure, notice, width};
+
+use crate::answer::Answer;
+use crate::input::{Call, Input};
+use crate::{refusals, settings};
+
+/// Answers that must all be given, each with who says so, and what kind of input it is.
+#[derive(Default)]
+pub struct Expected {
+    pub answers: Vec<(&'static str, Answer)>,
+    pub refused: bool,
+    pub clipped: bool,
+    pub panicked: bool,
+}
+
+const RUST: &str = "the Rust";
+const RULES: &str = "document 01";
+const COUNTS: &str = "document 01, counts over the Rust's lines";
+
+pub fn expected(call: Call, input: &Input) -> Expected {
+    let number = refusals::number(call, input);
+    if number != 0 {
+        return refused(number, call, input);
+    }
+    match call {
+        Call::ListLines => list_lines(input),
+        Call::Tally => tallied(input),
+        Call::Inner => inner(input),
+        Call::DrawBlock => draw_block(input),
+        Call::DrawNotice => draw_notice(input),
+        Call::LineCount | Call::LineWidth => measured(call, input),
+    }
+}
+
+/// A refused call answers its number and zeros, and leaves cells and list as they were.
+fn refused(number: u32, call: Call, input: &Input) -> Expected {
+    let words = match call {
+        Call::ListLines => input.list.clone(),
+        Call::DrawBlock | Call::DrawNotice => input.cells.clone(),
+        _ => Vec::new(),
+    };
+    let answers = vec![(RULES, Answer::refused(number, words))];
+    Expected { answers, refused: true, ..Expected::default() }
+}
+
+/// The Rust's answer, or where it panicked document 01's.
+fn settled<T>(
+    outcome: Outcome<T>,
+    rules: impl FnOnce() -> T,
+    answer: impl FnOnce(T) -> Answer,
+) -> Expected {
+    let (who, value, panicked) = match outcome {
+        Outcome::Value(value) => (RUST, value, false),
+        Outcome::Panicked(_) => (RULES, rules(), true),
+    };
+    Expected { answers: vec![(who, answer(value))], panicked, ..Expected::default() }
+}
+
+fn list_lines(input: &Input) -> Expected {
+    let (own, trim) = (settings::alignment(input.settings.alignment), input.trim == 1);
+    let outcome = oracle::wrapped_lines(&input.text, own, input.limit, trim);
+    let rules = || listed(&input.text, own, input.limit, trim);
+    let mut short = false;
+    let expected = settled(outcome, rules, |lines| {
+        let mut list = input.list.clone();
+        short = lines.len() > list.len();
+        for (entry, line) in list.iter_mut().zip(&lines) {
+            *entry = line.packed();
+        }
+        Answer::drawn([lines.len() as u64], list)
+    });
+    if short { refused(refusals::SHORT_LIST, Call::ListLines, input) } else { expected }
+}
+
+fn listed(text: &[u32], own: Alignment, limit: u16, trim: bool) -> Vec<ComposedLine> {
+    let line = |line: Composed| ComposedLine {
+        glyphs: line.glyphs.iter().map(|glyph| glyph.number).collect(),
+        width: width(&line.glyphs) as u16,
+        alignment: line.alignment,
+    };
+    compose(text, own, limit.into(), Wrap::On { trim }).lines.into_iter().map(line).collect()
+}
+
+/// Where a glyph is clipped the tally must be document 01's as well.
+fn tallied(input: &Input) -> Expected {
+    let (text, limit, trim) = (&input.text, input.limit, input.trim == 1);
+    let rules = || tally(text, limit.into(), trim);
+    let values = |tally: Tally| {
+        let Tally { lines, placed, clipped, zero_width, over_wide, dropped } = tally;
+        Answer::of([lines, placed, clipped, zero_width, over_wide, dropped].map(u64::from))
+    };
+    let mut expected = settled(oracle::tally(text, limit, trim), rules, values);
+    expected.clipped = expected.answers[0].1.named(Call::Tally, "clipped") > 0;
+    if expected.clipped {
+        expected.answers.push((RULES, values(rules())));
+    }
+    expected
+}
+
+fn inner(input: &Input) -> Expected {
+    let (block, area) = (settings::block(input.block), settings::rect(input.area));
+    let outcome = oracle::inner(block, &input.titles, area)
+        .map(|area| [area.x, area.y, area.width, area.height].map(u64::from));
+    let rules = || {
+        let area = frame::inner(&block, &lines(&input.titles), area.into());
+        [area.x, area.y, area.width, area.height].map(|number| number as u64)
+    };
+    settled(outcome, rules, Answer::of)
+}
+
+fn screen(input: &Input) -> Screen {
+    Screen {
+        columns: input.columns.into(),
+        rows: input.rows.into(),
+        cells: input.cells.clone(),
+        styles: input.styles.clone(),
+    }
+}
+
+fn draw_block(input: &Input) -> Expected {
+    let Input { columns, rows, ref styles, ref titles, area, block, .. } = *input;
+    let (area, block) = (settings::rect(area), settings::block(block));
+    let mut cells = input.cells.clone();
+    let outcome = oracle::draw_block(columns, rows, &mut cells, styles, titles, area, block);
+    let rules = || {
+        let mut screen = screen(input);
+        let met = frame::met(area.into(), &screen);
+        frame::draw(&mut screen, &block, &lines(titles), met);
+        screen.cells
+    };
+    settled(outcome.map(|()| cells), rules, |cells| Answer::drawn([], cells))
+}
+
+/// Where a glyph is clipped the cells are document 01's, and the counts are as well those over the
+/// Rust's inner area and lines.
+fn draw_notice(input: &Input) -> Expected {
+    let Input { columns, rows, ref styles, ref text, ref titles, .. } = *input;
+    let area = settings::rect(input.area);
+    let settings = settings::notice(input.block, input.settings);
+    let mut cells = input.cells.clone();
+    let answer = |drawn: Drawn, cells| {
+        Answer::drawn([drawn.rows, drawn.placed, drawn.clipped].map(u64::from), cells)
+    };
+    let drawn =
+        oracle::draw_notice(columns, rows, &mut cells, styles, text, titles, area, settings);
+    let panicked = match drawn {
+        Outcome::Value(drawn) if drawn.clipped == 0 => {
+            let answers = vec![(RUST, answer(drawn, cells))];
+            return Expected { answers, ..Expected::default() };
+        }
+        Outcome::Value(_) => false,
+        Outcome::Panicked(_) => true,
+    };
+    let mut screen = screen(input);
+    let drawn = notice::draw(&mut screen, text, titles, area.into(), &settings);
+    let mut answers = vec![(RULES, answer(drawn, screen.cells.clone()))];
+    if let Outcome::Value(counts) =
+        oracle::notice_counts(columns, rows, text, titles, area, settings)
+    {
+        answers.push((COUNTS, answer(counts, screen.cells)));
+    }
+    Expected { answers, refused: false, clipped: drawn.clipped > 0, panicked }
+}
+
+fn measured(call: Call, input: &Input) -> Expected {
+    let Input { ref text, ref titles, limit, .. } = *input;
+    let block = settings::block(input.block);
+    let value = |value: u32| Answer::of([u64::from(value)]);
+    if call == Call::LineWidth {
+        let rules = || measure::line_width(text, &block);
+        return settled(oracle::line_width(text, titles, block), rules, value);
+    }
+    let wrap = settings::wrap(input.settings);
+    let rules = || measure::line_count(text, titles, &block, wrap, limit);
+    settled(oracle::line_count(text, titles, block, wrap, limit), rules, value)
+}

@@ -1,0 +1,70 @@
+//! Families of inputs. Each input is made from its number, whichever thread asks for it.
+
+mod frames;
+mod texts;
+
+use crate::arguments::Arguments;
+use crate::input::{Call, Input};
+use crate::random::Random;
+use crate::{scenes, ways};
+
+pub struct Family {
+    pub name: &'static str,
+    /// How many there are; without a number, as many as are wanted.
+    pub inputs: Option<u64>,
+    pub make: Box<dyn Fn(u64) -> (Input, &'static [Call]) + Sync>,
+}
+
+pub fn all(arguments: &Arguments) -> Vec<Family> {
+    let seed = arguments.seed;
+    let [text_glyphs, notice_glyphs] = if arguments.short { [4, 3] } else { [6, 5] };
+    let short = |name, inputs, make: fn(u64) -> (Input, &'static [Call])| Family {
+        name,
+        inputs: Some(inputs),
+        make: Box::new(make),
+    };
+    vec![
+        short("short texts", texts::count(text_glyphs), texts::text),
+        short("short notices", texts::notice_count(notice_glyphs), texts::notice),
+        short("inner areas", frames::INNER, frames::inner),
+        short("small blocks", frames::BLOCKS, frames::block),
+        short("pairs of titles", frames::PAIRS, frames::pair),
+        Family {
+            name: "pairs of causes",
+            inputs: Some(ways::pairs()),
+            make: Box::new(move |number| (ways::pair(&mut random(seed, number), number), EACH)),
+        },
+        Family {
+            name: "random inputs",
+            inputs: None,
+            make: Box::new(move |number| (scenes::scene(&mut random(seed, number)), EACH)),
+        },
+    ]
+}
+
+const EACH: &[Call] = &Call::ALL;
+
+/// Numbers of their own for each input.
+fn random(seed: u64, number: u64) -> Random {
+    Random::new(seed.rotate_left(40) ^ number)
+}
+
+/// Cells that all differ, with bits set in every field.
+fn cells(count: u32) -> Vec<u64> {
+    (0..u64::from(count)).map(|place| (place << 43) + 0x7ff_0f0f_0f0f + place).collect()
+}
+
+/// A number taken apart into digits of any bases, so that all numbers give all choices.
+struct Digits(u64);
+
+impl Digits {
+    fn below(&mut self, base: u64) -> u64 {
+        let digit = self.0 % base;
+        self.0 /= base;
+        digit
+    }
+
+    fn of<T: Copy>(&mut self, choices: &[T]) -> T {
+        choices[self.below(choices.len() as u64) as usize]
+    }
+}

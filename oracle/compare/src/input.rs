@@ -1,0 +1,128 @@
+//! The input of a call: all that any of the calls is given, of which each takes its part.
+
+use crate::raw::{Area, Block, Text};
+
+#[derive(Clone, Copy, PartialEq, Eq)]
+pub enum Call {
+    ListLines,
+    Tally,
+    Inner,
+    DrawBlock,
+    DrawNotice,
+    LineCount,
+    LineWidth,
+}
+
+impl Call {
+    pub const ALL: [Self; 7] = [
+        Self::ListLines,
+        Self::Tally,
+        Self::Inner,
+        Self::DrawBlock,
+        Self::DrawNotice,
+        Self::LineCount,
+        Self::LineWidth,
+    ];
+
+    pub fn name(self) -> &'static str {
+        match self {
+            Self::ListLines => "list_lines",
+            Self::Tally => "tally",
+            Self::Inner => "inner",
+            Self::DrawBlock => "draw_block",
+            Self::DrawNotice => "draw_notice",
+            Self::LineCount => "line_count",
+            Self::LineWidth => "line_width",
+        }
+    }
+
+    pub fn draws(self) -> bool {
+        matches!(self, Self::DrawBlock | Self::DrawNotice)
+    }
+
+    /// Whether the call is given a text.
+    pub fn reads_text(self) -> bool {
+        !matches!(self, Self::Inner | Self::DrawBlock)
+    }
+
+    /// Whether the call is given a block and its titles.
+    pub fn has_block(self) -> bool {
+        !matches!(self, Self::ListLines | Self::Tally)
+    }
+
+    /// Whether the call is given the settings of a notice.
+    pub fn has_settings(self) -> bool {
+        matches!(self, Self::DrawNotice | Self::LineCount)
+    }
+}
+
+#[derive(Clone)]
+pub struct Input {
+    pub text: Vec<u32>,
+    pub titles: Vec<u32>,
+    pub styles: Vec<u64>,
+    pub columns: u32,
+    pub rows: u32,
+    pub cells: Vec<u64>,
+    pub area: Area,
+    pub block: Block,
+    /// The alignment of `list_lines` is here too.
+    pub settings: Text,
+    /// The limit of `list_lines` and `tally`, the width of `line_count`.
+    pub limit: u16,
+    pub trim: u8,
+    pub list: Vec<u64>,
+}
+
+impl Input {
+    /// An empty text on a screen of one blank cell, with one style that changes nothing.
+    pub fn plain() -> Self {
+        let mut input = Self {
+            text: Vec::new(),
+            titles: Vec::new(),
+            styles: vec![0],
+            columns: 1,
+            rows: 1,
+            cells: vec![crate::records::BLANK],
+            area: Area { x: 0, y: 0, width: 1, height: 1 },
+            block: NO_FRAME,
+            settings: Text { scroll: 0, column: 0, style: 0, text_style: 0, alignment: 0, wrap: 0 },
+            limit: 1,
+            trim: 0,
+            list: Vec::new(),
+        };
+        for knob in crate::knobs::SYMBOLS {
+            (knob.set)(&mut input, i64::from(b'#'));
+        }
+        input
+    }
+}
+
+const NO_FRAME: Block = Block {
+    top_left: 0,
+    top_right: 0,
+    bottom_left: 0,
+    bottom_right: 0,
+    vertical_left: 0,
+    vertical_right: 0,
+    horizontal_top: 0,
+    horizontal_bottom: 0,
+    shadow_symbol: 0,
+    shadow_x: 0,
+    shadow_y: 0,
+    padding_left: 0,
+    padding_right: 0,
+    padding_top: 0,
+    padding_bottom: 0,
+    border_top: 0,
+    border_right: 0,
+    border_bottom: 0,
+    border_left: 0,
+    border_style: 0,
+    style: 0,
+    titles_style: 0,
+    titles_alignment: 0,
+    titles_position: 0,
+    shadow: 0,
+    shadow_style: 0,
+};

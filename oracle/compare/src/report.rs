@@ -1,0 +1,103 @@
+//! What was compared, of what kind it was, and what differs.
+
+use std::io::{self, Write};
+use std::process::ExitCode;
+use std::sync::Mutex;
+use std::sync::atomic::{AtomicBool, AtomicU64, Ordering};
+use std::time::Instant;
+
+use crate::expected::Expected;
+use crate::input::Call;
+
+/// The columns of the table.
+const NAMES: [&str; 7] = [
+    "compared",
+    "refused",
+    "place a glyph",
+    "clip one",
+    "panic in the Rust",
+    "of these clip none",
+    "differ",
+];
+const COMPARED: usize = 0;
+const REFUSED: usize = 1;
+const DIFFER: usize = 6;
+
+/// The counts of one call.
+#[derive(Default)]
+struct Row {
+    counts: [AtomicU64; NAMES.len()],
+    /// Whether a difference was printed.
+    shown: AtomicBool,
+}
+
+pub struct Report {
+    rows: [Row; Call::ALL.len()],
+    printing: Mutex<()>,
+    start: Instant,
+}
+
+impl Report {
+    pub fn new() -> Self {
+        Self { rows: Default::default(), printing: Mutex::new(()), start: Instant::now() }
+    }
+
+    pub fn count(&self, call: Call, expected: &Expected, differ: bool) {
+        let Expected { refused, clipped, panicked, .. } = *expected;
+        let places = expected.answers.iter().any(|(_, answer)| answer.named(call, "placed") > 0);
+        let kinds = [true, refused, places, clipped, panicked, panicked && !clipped, differ];
+        for (count, is_so) in self.rows[call as usize].counts.iter().zip(kinds) {
+            count.fetch_add(is_so.into(), Ordering::Relaxed);
+        }
+    }
+
+    /// Whether no difference of this call was printed, and none will be after this one.
+    pub fn is_first(&self, call: Call) -> bool {
+        !self.rows[call as usize].shown.swap(true, Ordering::Relaxed)
+    }
+
+    fn sum(&self, column: usize) -> u64 {
+        self.rows.iter().map(|row| row.counts[column].load(Ordering::Relaxed)).sum()
+    }
+
+    pub fn cases(&self) -> u64 {
+        self.sum(COMPARED)
+    }
+
+    /// Prints at once, and nothing of another thread in between.
+    pub fn print(&self, shown: &str) {
+        let _printing = self.printing.lock();
+        println!("{}", shown.trim_end());
+        // A closed output is found out by the next line.
+        let _ = io::stdout().flush();
+    }
+
+    pub fn progress(&self, family: &str) {
+        let seconds = self.start.elapsed().as_secs_f64();
+        let (cases, differ) = (self.cases(), self.sum(DIFFER));
+        let rate = cases as f64 / seconds;
+        self.print(&format!(
+            "{seconds:.0} s: {cases} cases, {differ} differ, {rate:.0} a second; {family}"
+        ));
+    }
+
+    /// The table, and the last line.
+    pub fn finish(&self) -> ExitCode {
+        println!("\n| call | {} |", NAMES.join(" | "));
+        println!("|{}", "---|".repeat(NAMES.len() + 1));
+        for call in Call::ALL {
+            let counts = &self.rows[call as usize].counts;
+            let counts = counts.iter().map(|count| count.load(Ordering::Relaxed).to_string());
+            println!("| {} | {} |", call.name(), counts.collect::<Vec<_>>().join(" | "));
+        }
+        let sums: Vec<_> = (0..NAMES.len()).map(|column| self.sum(column).to_string()).collect();
+        println!("| all | {} |\n", sums.join(" | "));
+        println!(
+            "{:.0} seconds, {} accepted",
+            self.start.elapsed().as_secs_f64(),
+            self.cases() - self.sum(REFUSED)
+        );
+        println!("{} cases, {} differ", self.cases(), self.sum(DIFFER));
+        if self.sum(DIFFER) == 0 { ExitCode::SUCCESS } else { ExitCode::FAILURE }
+    }
+}

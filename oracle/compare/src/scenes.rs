@@ -1,0 +1,182 @@
+//! Random inputs, which all calls are asked with.
+
+use oracle::Outcome;
+
+use crate::input::Input;
+use crate::knobs::SYMBOLS;
+use crate::random::Random;
+use crate::raw::{Area, Text};
+use crate::records::head;
+use crate::{settings, ways};
+
+/// The most of everything.
+#[derive(Clone, Copy)]
+struct Sizes {
+    columns: u32,
+    rows: u32,
+    records: u32,
+    /// A text's lines have up to about so many glyphs.
+    line: u32,
+    titles: u32,
+    title: u32,
+    limit: u32,
+}
+
+const SMALL: Sizes =
+    Sizes { columns: 12, rows: 6, records: 24, line: 12, titles: 4, title: 6, limit: 10 };
+const MIDDLE: Sizes =
+    Sizes { columns: 80, rows: 25, records: 400, line: 80, titles: 16, title: 20, limit: 60 };
+const LARGE: Sizes = Sizes {
+    columns: 512,
+    rows: 256,
+    records: 16_384,
+    line: 900,
+    titles: 16,
+    title: 256,
+    limit: 400,
+};
+
+/// Mostly a small input, now and then a large one; one in five at the edge of what is accepted.
+pub fn scene(random: &mut Random) -> Input {
+    let sizes = match random.below(3_000) {
+        0 => LARGE,
+        1..=60 => MIDDLE,
+        _ => SMALL,
+    };
+    let mut input = sized(random, sizes);
+    if random.once_in(5) {
+        ways::some(&mut input, random);
+    }
+    input
+}
+
+pub fn small(random: &mut Random) -> Input {
+    sized(random, SMALL)
+}
+
+fn sized(random: &mut Random, sizes: Sizes) -> Input {
+    let mut input = Input::plain();
+    let styles = if random.once_in(50) { 64 } else { 1 + random.below(4) };
+    input.styles = (0..styles).map(|_| random.word() & !0xfff_ffff).collect();
+    (input.columns, input.rows) = (1 + random.below(sizes.columns), 1 + random.below(sizes.rows));
+    input.cells = (0..input.columns * input.rows).map(|_| random.word()).collect();
+    input.text = text(random, styles, sizes);
+    let titles = if random.once_in(2) { 0 } else { random.below(sizes.titles + 1) };
+    input.titles = (0..titles).flat_map(|_| title(random, styles, sizes.title)).collect();
+    let (x, width) = side(random, input.columns);
+    let (y, height) = side(random, input.rows);
+    input.area = Area { x, y, width, height };
+    input.settings = notice(random, styles, sizes.rows);
+    block(random, &mut input, styles);
+    input.limit = match random.below(12) {
+        0 => random.below(4_097),
+        1 => 4_096,
+        _ => random.below(sizes.limit),
+    } as u16;
+    input.trim = random.below(2) as u8;
+    list(random, &mut input);
+    input
+}
+
+/// Mostly a letter, now and then a symbol at one of the ends.
+fn symbol(random: &mut Random) -> u32 {
+    match random.below(12) {
+        0 => random.pick(&[0, 1, 31, 32, 0x1f_fffe, 0x1f_ffff]),
+        _ => 97 + random.below(26),
+    }
+}
+
+/// Mostly one cell wide, now and then of any width.
+pub fn glyph(random: &mut Random, styles: u32) -> u32 {
+    let width = match random.below(10) {
+        0 => 0,
+        1 => 2,
+        2 => random.below(8),
+        _ => 1,
+    };
+    let whitespace = u32::from(random.once_in(3));
+    crate::records::glyph(symbol(random), width, whitespace, random.below(styles))
+}
+
+/// Up to so many records, now and then as many; sometimes no record at all.
+fn text(random: &mut Random, styles: u32, sizes: Sizes) -> Vec<u32> {
+    let most = if random.once_in(10) { sizes.records } else { random.below(sizes.records + 1) };
+    let line = 1 + random.below(sizes.line);
+    let record = |place| match place {
+        0 => head(random.below(4), 0),
+        _ if random.once_in(line) => head(random.below(4), 0),
+        _ => glyph(random, styles),
+    };
+    (0..most).map(record).collect()
+}
+
+fn title(random: &mut Random, styles: u32, most: u32) -> Vec<u32> {
+    let mut records = vec![head(random.below(4), random.below(3))];
+    records.extend((0..random.below(most + 1)).map(|_| glyph(random, styles)));
+    records
+}
+
+/// A number below `end`, or now and then close to the end of 16 bits.
+fn size(random: &mut Random, end: u32) -> u16 {
+    match random.below(40) {
+        0 => u16::MAX - random.below16(4),
+        _ => random.below(end) as u16,
+    }
+}
+
+/// Where an area starts and how long it is, beside a side of the screen.
+fn side(random: &mut Random, screen: u32) -> (u16, u16) {
+    let start = if random.once_in(2) { 0 } else { size(random, screen / 2 + 2) };
+    let length = if random.once_in(2) { screen as u16 } else { size(random, screen + 4) };
+    (start, length)
+}
+
+fn notice(random: &mut Random, styles: u32, rows: u32) -> Text {
+    Text {
+        scroll: if random.once_in(3) { size(random, rows) } else { 0 },
+        column: if random.once_in(2) { size(random, 6) } else { 0 },
+        style: random.below(styles) as u8,
+        text_style: random.below(styles) as u8,
+        alignment: random.below(3) as u8,
+        wrap: random.below(3) as u8,
+    }
+}
+
+fn block(random: &mut Random, input: &mut Input, styles: u32) {
+    for knob in SYMBOLS {
+        (knob.set)(input, symbol(random).into());
+    }
+    let framed = random.once_in(3);
+    let mut side = || u8::from(framed || random.once_in(3));
+    let block = &mut input.block;
+    [block.border_top, block.border_right] = [side(), side()];
+    [block.border_bottom, block.border_left] = [side(), side()];
+    let mut padding = || if random.once_in(8) { size(random, 3) } else { 0 };
+    [block.padding_left, block.padding_right] = [padding(), padding()];
+    [block.padding_top, block.padding_bottom] = [padding(), padding()];
+    let mut style = || random.below(styles) as u8;
+    [block.border_style, block.style] = [style(), style()];
+    [block.titles_style, block.shadow_style] = [style(), style()];
+    block.titles_alignment = random.below(3) as u8;
+    block.titles_position = random.below(2) as u8;
+    block.shadow = random.below(3) as u8;
+    block.shadow_symbol = symbol(random);
+    let mut offset = || match random.below(10) {
+        0 => random.pick(&[i32::MIN, i32::MAX, 65_535, -65_535]),
+        _ => random.below(9) as i32 - 4,
+    };
+    [block.shadow_x, block.shadow_y] = [offset(), offset()];
+}
+
+/// A list with room to spare, or now and then with just enough or one too few.
+fn list(random: &mut Random, input: &mut Input) {
+    let mut length = input.text.len() + 3;
+    if random.once_in(8) {
+        let own = settings::alignment(input.settings.alignment);
+        let lines = oracle::wrapped_lines(&input.text, own, input.limit, input.trim == 1);
+        if let Outcome::Value(lines) = lines {
+            length = lines.len().saturating_sub(random.below(2) as usize);
+        }
+    }
+    input.list = (0..length).map(|_| random.word()).collect();
+}
