@@ -6,7 +6,6 @@ use cases::Case;
 use lines::Listed;
 use reflow::Rule;
 use refuse::Ceilings;
-use refuse::records;
 use tally::Tallied;
 
 // What is asked about a text.
@@ -43,10 +42,10 @@ fn counts(case: Case, text: &[u32]) -> Answer {
 
 // No call of ours lists truncated lines, so they are pulled, and a text that a call would refuse is refused here.
 fn truncated_lines(case: Case, text: &[u32]) -> Answer {
-    if records::text_too_long(Ceilings::accepted(), text) {
+    if check_records::text_too_long(Ceilings::accepted(), text) {
         return Answer::Refused;
     }
-    if records::text_heads_wrong(text) {
+    if check_records::text_heads_wrong(text) {
         return Answer::Refused;
     }
     let own = case.own;

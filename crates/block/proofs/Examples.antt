@@ -6,7 +6,7 @@ use mathlib.Core.List.{List}
 use Rattle.layout.specs.declared.Rect.{Rect}
 use Rattle.block.specs.declared.Block.{Block}
 use Rattle.block.specs.declared.Borders.{Borders}
-use Rattle.block.specs.Padding.{paddingOf}
+use Rattle.padding.specs.Padding.{paddingOf}
 use Rattle.block.specs.Inner.{innerOf}
 
 abbrev pub rect : ℕ → ℕ → ℕ → ℕ → Rect

@@ -1,7 +1,5 @@
 pub mod Either
 pub mod Titles
 pub mod Settings
-pub mod Verdicts
-pub mod Answers
 pub mod Within
 pub mod Examples

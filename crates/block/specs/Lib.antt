@@ -1,3 +1,2 @@
-pub mod Padding
 pub mod Inner
 pub mod Causes

@@ -1,20 +1,12 @@
-// Causes 6 and 7 of a block's settings, and the call `inner`.
+// Causes 6 and 7 of a block's settings.
 use crate::Block;
 use crate::BorderSet;
 use crate::Effect;
-use crate::InnerArea;
 use crate::Shadow;
-use layout::Rect;
-use refuse::Ceilings;
-use refuse::Refusal;
-use refuse::Verdict;
-use refuse::records;
-use refuse::styles;
+use check_settings::styles;
 ghost use mathlib.Core.Path.{_≡_};
-ghost use Rattle.refuse.specs.Refusal.{verdictNumber, unlessRefused};
-ghost use Rattle.refuse.specs.Causes.{mostAccepted, styleNumbersWrong, symbolsWrong};
-ghost use Rattle.block.specs.Inner.{innerOf};
-ghost use Rattle.block.specs.Causes.{shadowStyles, blockStyles, shadowSymbols, borderSymbols, blockSymbols, innerVerdict, innerAnswer, innerNumber, noRect, innerRect};
+ghost use Rattle.refuse.specs.Causes.{styleNumbersWrong, symbolsWrong};
+ghost use Rattle.block.specs.Causes.{shadowStyles, blockStyles, shadowSymbols, borderSymbols, blockSymbols};
 
 // 6, of a shadow.
 fn shadow_style_wrong(count: usize, shadow: Shadow) -> bool
@@ -94,30 +86,4 @@ fn shadow_symbol_wrong(shadow: Shadow) -> bool
         return false;
     };
     styles::symbols_wrong(&[symbol])
-}
-
-// What the call `inner` is refused for.
-fn inner_verdict(most: Ceilings, titles: &[u32], block: Block) -> Verdict
-    ensures { λ r. ⌜ r ≡ innerVerdict most (now (titles .entry)) block ⌝ }
-{
-    if records::titles_wrong(most, titles) {
-        return Verdict::Refused(Refusal::Titles);
-    }
-    if block.symbols_wrong() {
-        return Verdict::Refused(Refusal::Symbol);
-    }
-    Verdict::Accepted
-}
-
-// The inner area of a block: causes 5, 7.
-pub fn inner(block: Block, titles: &[u32], area: Rect) -> InnerArea
-    ensures answer { λ r. ⌜ r ≡ innerAnswer (innerVerdict mostAccepted (now (titles .entry)) block) (innerOf block (now (titles .entry)) area) ⌝ }
-    ensures number { λ r. ⌜ innerNumber r ≡ verdictNumber (innerVerdict mostAccepted (now (titles .entry)) block) ⌝ }
-    ensures rect { λ r. ⌜ innerRect r ≡ unlessRefused (innerVerdict mostAccepted (now (titles .entry)) block) (innerOf block (now (titles .entry)) area) noRect ⌝ }
-{
-    let most = Ceilings::accepted();
-    if let Verdict::Refused(why) = inner_verdict(most, titles, block) {
-        return InnerArea::Refused(why);
-    }
-    InnerArea::Area(block.inner_area(titles, area))
 }

@@ -1,12 +1,10 @@
-// A block's settings, and what its frame leaves inside: block.rs and padding.rs.
-use layout::Rect;
-use refuse::Refusal;
+// A block's settings, and what its frame leaves inside: block.rs.
+use padding::Padding;
 use text::Alignment;
 use text::TitlePosition;
 
 pub mod causes;
 pub mod inner_area;
-mod paddings;
 pub mod titled;
 
 // The sides that have a border.
@@ -27,14 +25,6 @@ pub struct BorderSet {
     pub vertical_right: u32,
     pub horizontal_top: u32,
     pub horizontal_bottom: u32,
-}
-
-// The cells left free inside the borders.
-pub struct Padding {
-    pub left: u16,
-    pub right: u16,
-    pub top: u16,
-    pub bottom: u16,
 }
 
 // What a shadow's cells get beside its style: nothing, or a symbol.
@@ -70,10 +60,4 @@ pub struct Block {
 pub struct Space {
     pub before: u16,
     pub after: u16,
-}
-
-// What the call `inner` answers: the inner area, or why there is none.
-pub enum InnerArea {
-    Area(Rect),
-    Refused(Refusal),
 }

@@ -2,8 +2,6 @@
 mod sums;
 
 use block::Block;
-use block::InnerArea;
-use block::causes;
 use blockcases::Case;
 use blockcases::parts::Part;
 use blocksettings::areas::cells_of;
@@ -17,6 +15,7 @@ use cases::random::next;
 use cases::random::seed;
 use draw_block::Framed;
 use draw_block::draw_block;
+use inner::InnerArea;
 use layout::Rect;
 ghost use Prim.Native.Nat.{_≤_};
 ghost use lib.ListN.{length};
@@ -31,7 +30,7 @@ enum Answer {
 
 // The inner area, and what the frame takes at the left, right, top and bottom.
 fn sum_inner(block: Block, titles: &[u32], area: Rect) -> Answer {
-    let InnerArea::Area(inner) = causes::inner(block, titles, area) else {
+    let InnerArea::Area(inner) = inner::inner(block, titles, area) else {
         return Answer::Refused;
     };
     let across = sums::with_space(sums::sum_area(inner), block.horizontal_space());

@@ -1,7 +1,6 @@
 // Blocks to draw: with every set of borders, with and without a shadow.
 use crate::Case;
 use block::Block;
-use block::Padding;
 use blocksettings::areas::area;
 use blocksettings::borders;
 use blocksettings::shadows::shadow;
@@ -13,6 +12,7 @@ use buffer::Screen;
 use cases::random::below;
 use cases::random::next;
 use cases::random::seed;
+use padding::Padding;
 ghost use Prim.Native.Nat.{_<_, _≤_};
 ghost use Rattle.blocksettings.specs.Screens.{Accepted};
 ghost use Rattle.blockcases.specs.Sizes.{Writable};

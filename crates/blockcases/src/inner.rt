@@ -3,7 +3,6 @@
 use crate::Case;
 use block::Block;
 use block::Borders;
-use block::Padding;
 use block::Shadow;
 use blocksettings::axes::Axis;
 use blocksettings::axes::axis_of;
@@ -13,6 +12,7 @@ use buffer::Screen;
 use cases::random::below;
 use cases::random::seed;
 use layout::Rect;
+use padding::Padding;
 use text::Alignment;
 use text::TitlePosition;
 ghost use Rattle.blockcases.specs.Sizes.{Writable};

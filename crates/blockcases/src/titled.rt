@@ -1,7 +1,6 @@
 // Blocks with titles to draw: up to 16, of every alignment and position.
 use crate::Case;
 use crate::drawn::block;
-use block::Padding;
 use blocksettings::areas::area;
 use blocksettings::areas::roomy;
 use blocksettings::words::four_on;
@@ -10,6 +9,7 @@ use cases::random::below;
 use cases::random::next;
 use cases::random::seed;
 use layout::Rect;
+use padding::Padding;
 ghost use Prim.Native.Nat.{_≤_};
 ghost use Rattle.blocksettings.specs.Screens.{Accepted};
 ghost use Rattle.blockcases.specs.Sizes.{Writable};

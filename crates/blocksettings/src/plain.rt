@@ -1,8 +1,8 @@
 // Settings that change nothing.
 use crate::borders;
 use block::Block;
-use block::Padding;
 use block::Shadow;
+use padding::Padding;
 use text::Alignment;
 use text::TitlePosition;
 

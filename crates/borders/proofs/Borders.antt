@@ -9,8 +9,8 @@ use Rattle.buffer.specs.declared.Ink.the-variants.{Both}
 use Rattle.buffer.specs.Drawing.{Drawing, drawn, over, onlyIf, inOrder, styleAt}
 use Rattle.buffer.specs.Ink.{inked}
 use Rattle.buffer.proofs.Order.{first-then, only-drawn, only-spared}
-use Rattle.borders.specs.declared.Edge.{Edge}
-use Rattle.borders.specs.Edges.{leftEdge, topEdge, rightEdge, bottomEdge, bottomRightEdge, topRightEdge, bottomLeftEdge, topLeftEdge}
+use Rattle.edges.specs.declared.Edge.{Edge}
+use Rattle.edges.specs.Edges.{leftEdge, topEdge, rightEdge, bottomEdge, bottomRightEdge, topRightEdge, bottomLeftEdge, topLeftEdge}
 use Rattle.borders.specs.Borders.{border, sides, corners}
 
 -- a side or a corner drawn where it stands: the cells before and after

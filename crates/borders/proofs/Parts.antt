@@ -1,36 +1,16 @@
 -- The sides and corners of a rectangle that isn't empty lie on the screen where it does.
-use Prim.Native.Nat.{ℕ, _<_, _≤_}
+use Prim.Native.Nat.{ℕ, _≤_}
 use mathlib.Core.Path.{_≡_}
 use mathlib.Core.Bool.{false}
-use mathlib.Mathlib.Data.Bool.Basic.{or-eq-false-eq-eq-false-and-eq-false}
 use native.Mathlib.Omega.{arith}
-use borrow.Author.Tests.{eqb-false}
-use lib.Dec.{eqb}
 use Rattle.layout.specs.declared.Rect.{Rect}
 use Rattle.layout.specs.Rect.{rightOf, bottomOf, isEmpty}
 use Rattle.block.specs.declared.Block.{Block}
 use Rattle.buffer.specs.declared.Screen.{Screen}
 use Rattle.buffer.specs.Parts.{OnScreen}
-use Rattle.borders.specs.declared.Edge.{Edge}
-use Rattle.borders.specs.Edges.{leftEdge, topEdge, rightEdge, bottomEdge, bottomRightEdge, topRightEdge, bottomLeftEdge, topLeftEdge}
-
--- a rectangle that isn't empty has a column and a row
-pub not-empty : (r : Rect) → isEmpty r ≡ false → (0 < r .width) × (0 < r .height)
-not-empty r h =
-    let sizes = or-eq-false-eq-eq-false-and-eq-false (eqb (r .width) 0) (eqb (r .height) 0) .0 h in
-    let wide : r .width ≡ 0 → ⊥ = eqb-false (r .width) 0 (sizes .0) in
-    let high : r .height ≡ 0 → ⊥ = eqb-false (r .height) 0 (sizes .1) in
-    (omega (arith, wide), omega (arith, high))
-
--- so it ends past a column and past a row
-module _ (r : Rect) (end : ℕ) (some : isEmpty r ≡ false) where
-  pub past-a-column : end ≡ rightOf r → 1 ≤ end
-  past-a-column e = omega (arith, not-empty r some .0)
-
-  pub past-a-row : end ≡ bottomOf r → 1 ≤ end
-  past-a-row e = omega (arith, not-empty r some .1)
-
-pub ruleset ends = (past-a-column, past-a-row)
+use Rattle.edges.specs.declared.Edge.{Edge}
+use Rattle.edges.specs.Edges.{leftEdge, topEdge, rightEdge, bottomEdge, bottomRightEdge, topRightEdge, bottomLeftEdge, topLeftEdge}
+use Rattle.edges.proofs.Ends.{not-empty}
 
 -- a rectangle that ends no further than one on the screen lies on it too, whatever was drawn on its cells since
 pub part-on-screen : (s : Screen) (m n : ℕ) (r part : Rect) → OnScreen s m r → n ≡ m → rightOf part ≤ rightOf r → bottomOf part ≤ bottomOf r → OnScreen s n part

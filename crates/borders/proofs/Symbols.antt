@@ -17,8 +17,8 @@ use Rattle.block.specs.declared.Shadow.the-variants.{Absent, Present}
 use Rattle.block.specs.Causes.{effectSymbols, shadowSymbols, borderSymbols, blockSymbols}
 use Rattle.block.proofs.Either.{some-append}
 use Rattle.shadow.specs.Around.{EffectFits, ShadowFits}
-use Rattle.borders.specs.declared.Edge.{Edge}
-use Rattle.borders.specs.Edges.{leftEdge, topEdge, rightEdge, bottomEdge, bottomRightEdge, topRightEdge, bottomLeftEdge, topLeftEdge}
+use Rattle.edges.specs.declared.Edge.{Edge}
+use Rattle.edges.specs.Edges.{leftEdge, topEdge, rightEdge, bottomEdge, bottomRightEdge, topRightEdge, bottomLeftEdge, topLeftEdge}
 use Rattle.borders.specs.Fitting.{SymbolsFit}
 
 -- a test that holds of nothing in a list fails of each of its elements

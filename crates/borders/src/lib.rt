@@ -1,10 +1,8 @@
 // The sides and the corners of a block.
-
-mod edges;
-
 use block::Block;
 use buffer::Ink;
 use buffer::Screen;
+use edges::Edge;
 use layout::Rect;
 ghost use mathlib.Core.Path.{_≡_};
 ghost use mathlib.Core.Bool.{false};
@@ -16,13 +14,6 @@ ghost use Rattle.buffer.specs.Drawing.{drawn, onlyIf, inOrder};
 ghost use Rattle.buffer.specs.Parts.{OnScreen};
 ghost use Rattle.borders.specs.Borders.{border, sides, corners};
 ghost use Rattle.borders.specs.Fitting.{SymbolsFit};
-
-// A side or a corner of a rectangle: whether it stands, its cells and its symbol.
-pub struct Edge {
-    pub stands: bool,
-    pub part: Rect,
-    pub symbol: u32,
-}
 
 // Draws a side or a corner where it stands: its cells get the symbol, then the border style.
 fn draw_border(screen: Screen, cells: &mut [u64], styles: &[u64], block: Block, edge: Edge)

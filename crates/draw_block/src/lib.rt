@@ -1,13 +1,12 @@
 // The call `draw_block`.
 use block::Block;
 use buffer::Screen;
+use check_settings::screen;
+use check_settings::styles;
 use layout::Rect;
 use refuse::Ceilings;
 use refuse::Refusal;
 use refuse::Verdict;
-use refuse::records;
-use refuse::screen;
-use refuse::styles;
 ghost use mathlib.Core.Path.{_≡_};
 ghost use mathlib.Core.List.{_++_};
 ghost use lib.ListN.{length};
@@ -30,14 +29,14 @@ pub fn style_numbers_wrong(count: usize, titles: &[u32], block: Block) -> bool
     if block.style_numbers_wrong(count) {
         return true;
     }
-    records::glyph_styles_wrong(count, titles)
+    check_records::glyph_styles_wrong(count, titles)
 }
 
 // 5, 6 and 7.
 fn settings_verdict(most: Ceilings, count: usize, titles: &[u32], block: Block) -> Verdict
     ensures { λ r. ⌜ r ≡ settingsVerdict most count (now (titles .entry)) block ⌝ }
 {
-    if records::titles_wrong(most, titles) {
+    if check_records::titles_wrong(most, titles) {
         return Verdict::Refused(Refusal::Titles);
     }
     if style_numbers_wrong(count, titles, block) {

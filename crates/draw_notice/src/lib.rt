@@ -1,13 +1,12 @@
 // The call `draw_notice`.
 use buffer::Screen;
+use check_settings::screen;
+use check_settings::styles;
 use layout::Rect;
 use paragraph::Notice;
 use refuse::Ceilings;
 use refuse::Refusal;
 use refuse::Verdict;
-use refuse::records;
-use refuse::screen;
-use refuse::styles;
 use rows::Rows;
 ghost use mathlib.Core.Path.{_≡_};
 ghost use lib.ListN.{length};
@@ -33,7 +32,7 @@ fn style_numbers_wrong(count: usize, text: &[u32], titles: &[u32], notice: Notic
     if count <= notice.text_style as usize {
         return true;
     }
-    if records::glyph_styles_wrong(count, text) {
+    if check_records::glyph_styles_wrong(count, text) {
         return true;
     }
     draw_block::style_numbers_wrong(count, titles, notice.block)
@@ -50,7 +49,7 @@ fn verdict_from_5(
     ensures { λ r. ⌜ r ≡ verdictFrom5 most count (now (text .entry)) (now (titles .entry)) notice ⌝ }
 {
     let block = notice.block;
-    if records::titles_wrong(most, titles) {
+    if check_records::titles_wrong(most, titles) {
         return Verdict::Refused(Refusal::Titles);
     }
     if style_numbers_wrong(count, text, titles, notice) {
@@ -72,10 +71,10 @@ fn verdict_from_3(
 ) -> Verdict
     ensures { λ r. ⌜ r ≡ verdictFrom3 most count (now (text .entry)) (now (titles .entry)) notice ⌝ }
 {
-    if records::text_too_long(most, text) {
+    if check_records::text_too_long(most, text) {
         return Verdict::Refused(Refusal::TextLength);
     }
-    if records::text_heads_wrong(text) {
+    if check_records::text_heads_wrong(text) {
         return Verdict::Refused(Refusal::TextHeads);
     }
     verdict_from_5(most, count, text, titles, notice)

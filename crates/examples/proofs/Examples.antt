@@ -7,7 +7,7 @@ use mathlib.Core.Bool.{Bool, true, false}
 use mathlib.Core.List.{List, [], _∷_}
 use Rattle.text.specs.declared.Alignment.the-variants.{Center}
 use Rattle.block.specs.declared.Block.{Block}
-use Rattle.block.specs.Padding.{paddingOf}
+use Rattle.padding.specs.Padding.{paddingOf}
 use Rattle.block.specs.Inner.{innerOf}
 use Rattle.reflow.specs.Wrapping.{overWide, mustJoin, takesSpaces, gathered, joined, unjoined, full, emptied, drops, appended, emitting, filled, joining, step, lastLines, finish, wrap}
 use Rattle.compose.specs.Lines.{linesOf, lineLines, lines, composedOf}

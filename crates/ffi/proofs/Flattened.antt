@@ -4,8 +4,8 @@ use mathlib.Core.Path.{_≡_}
 use Rattle.layout.specs.declared.Rect.{Rect}
 use Rattle.refuse.specs.declared.Refusal.{Refusal}
 use Rattle.refuse.specs.Refusal.{refusalNumber}
-use Rattle.block.specs.declared.InnerArea.{InnerArea}
-use Rattle.block.specs.declared.InnerArea.the-variants.{Area, Refused as NoArea}
+use Rattle.inner.specs.declared.InnerArea.{InnerArea}
+use Rattle.inner.specs.declared.InnerArea.the-variants.{Area, Refused as NoArea}
 use Rattle.lines.specs.declared.Listed.{Listed}
 use Rattle.lines.specs.declared.Listed.the-variants.{Written, Refused as NotListed}
 use Rattle.tally.specs.declared.Counts.{Counts}

@@ -4,8 +4,8 @@ use Prim.Native.Nat.{ℕ}
 use mathlib.Core.Bool.{Bool, _&&_}
 use lib.Dec.{leb}
 use Rattle.layout.specs.declared.Rect.{Rect}
-use Rattle.block.specs.declared.InnerArea.{InnerArea}
-use Rattle.block.specs.Causes.{innerNumber, innerRect}
+use Rattle.inner.specs.declared.InnerArea.{InnerArea}
+use Rattle.inner.specs.Call.{innerNumber, innerRect}
 use Rattle.lines.specs.declared.Listed.{Listed}
 use Rattle.lines.specs.List.{listedNumber, listedCount}
 use Rattle.tally.specs.declared.Counts.{Counts}

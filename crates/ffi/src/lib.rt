@@ -20,7 +20,7 @@ ghost use Rattle.lines.specs.Causes.{textVerdict};
 ghost use Rattle.lines.specs.List.{listed, ruleOf, listVerdict, listAnswer, listAfter};
 ghost use Rattle.tally.specs.Tally.{tallyOf, tallyAnswer};
 ghost use Rattle.block.specs.Inner.{innerOf};
-ghost use Rattle.block.specs.Causes.{innerVerdict, innerAnswer};
+ghost use Rattle.inner.specs.Call.{innerVerdict, innerAnswer};
 ghost use Rattle.measure.specs.Measures.{lineCount, lineWidth};
 ghost use Rattle.measure.specs.Calls.{widthVerdict, countVerdict, measuredAnswer};
 ghost use Rattle.paragraph.specs.Notice.{noticeCounts};

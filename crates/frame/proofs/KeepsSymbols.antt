@@ -16,7 +16,8 @@ use Rattle.block.proofs.Within.{Inside, inside}
 use Rattle.buffer.specs.Drawing.{Drawing, over, onlyIf, inOrder}
 use Rattle.buffer.proofs.Over.{over-outside}
 use Rattle.buffer.proofs.Within.{cell-outside}
-use Rattle.borders.specs.Borders.{leftSide, topSide, rightSide, bottomSide, bottomRight, topRight, bottomLeft, topLeft, border, sides, corners}
+use Rattle.edges.specs.Sides.{leftSide, topSide, rightSide, bottomSide, bottomRight, topRight, bottomLeft, topLeft}
+use Rattle.borders.specs.Borders.{border, sides, corners}
 
 -- a drawing keeps the symbol of the cell in a column and a row, whatever the cell
 abbrev pub KeepsSymbol : Drawing → ℕ → ℕ → Type 0

@@ -32,7 +32,7 @@ fn draw_borders_and_titles(
     ensures { λ _. ⌜ now (cells .exit) ≡ drawn (screen .columns) (inOrder (sides (now (styles .entry)) block met ∷ corners (now (styles .entry)) block met ∷ titlesOn (now (styles .entry)) block met (now (titles .entry)) ∷ [])) (now (cells .entry)) ⌝ }
 {
     borders::draw_borders(screen, cells, styles, block, met);
-    titles::draw_titles(screen, cells, styles, titles, block, met);
+    draw_titles::draw_titles(screen, cells, styles, titles, block, met);
 }
 
 // Draws the frame over a rectangle that lies on the screen and isn't empty.

@@ -1,5 +1,6 @@
 // The calls on composed lines that are open to callers.
 
+use check_settings::limits;
 use compose::Composed;
 use compose::Composer;
 use compose::Method;
@@ -8,8 +9,6 @@ use reflow::Rule;
 use refuse::Ceilings;
 use refuse::Refusal;
 use refuse::Verdict;
-use refuse::limits;
-use refuse::records;
 use text::Alignment;
 ghost use mathlib.Core.Path.{_≡_};
 ghost use mathlib.Core.Bool.{false};
@@ -45,10 +44,10 @@ fn pack(line: Composed) -> u64
 pub fn check_text(most: Ceilings, limit: u16, text: &[u32]) -> Verdict
     ensures { λ r. ⌜ r ≡ textVerdict most limit (now (text .entry)) ⌝ }
 {
-    if records::text_too_long(most, text) {
+    if check_records::text_too_long(most, text) {
         return Verdict::Refused(Refusal::TextLength);
     }
-    if records::text_heads_wrong(text) {
+    if check_records::text_heads_wrong(text) {
         return Verdict::Refused(Refusal::TextHeads);
     }
     if limits::limit_wrong(most, limit) {

@@ -1,12 +1,11 @@
 // How many rows and columns a notice needs: paragraph.rs' `line_count` and `line_width`.
 use block::Block;
 use block::Space;
+use check_settings::limits;
 use reflow::Rule;
 use refuse::Ceilings;
 use refuse::Refusal;
 use refuse::Verdict;
-use refuse::limits;
-use refuse::records;
 use text::Alignment;
 use text::glyph;
 use text::head;
@@ -82,13 +81,13 @@ fn widest_line(text: &[u32]) -> u32
 fn width_verdict(most: Ceilings, text: &[u32], titles: &[u32], block: Block) -> Verdict
     ensures { λ r. ⌜ r ≡ widthVerdict most (now (text .entry)) (now (titles .entry)) block ⌝ }
 {
-    if records::text_too_long(most, text) {
+    if check_records::text_too_long(most, text) {
         return Verdict::Refused(Refusal::TextLength);
     }
-    if records::text_heads_wrong(text) {
+    if check_records::text_heads_wrong(text) {
         return Verdict::Refused(Refusal::TextHeads);
     }
-    if records::titles_wrong(most, titles) {
+    if check_records::titles_wrong(most, titles) {
         return Verdict::Refused(Refusal::Titles);
     }
     if block.symbols_wrong() {

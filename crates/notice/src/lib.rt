@@ -6,18 +6,18 @@ pub use block::Block;
 pub use block::BorderSet;
 pub use block::Borders;
 pub use block::Effect;
-pub use block::Padding;
 pub use block::Shadow;
 pub use layout::Rect;
 pub use measure::Wrap;
+pub use padding::Padding;
 pub use paragraph::Notice;
 pub use text::Alignment;
 pub use text::TitlePosition;
 
 // What the calls answer.
-pub use block::InnerArea;
 pub use draw_block::Framed;
 pub use draw_notice::Drawn;
+pub use inner::InnerArea;
 pub use lines::Listed;
 pub use measure::Measured;
 pub use refuse::Refusal;
@@ -26,9 +26,9 @@ pub use tally::Counts;
 pub use tally::Tallied;
 
 // The calls.
-pub use block::causes::inner;
 pub use draw_block::draw_block;
 pub use draw_notice::draw_notice;
+pub use inner::inner;
 pub use lines::list_lines;
 pub use measure::line_count;
 pub use measure::line_width;

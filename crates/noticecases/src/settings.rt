@@ -1,11 +1,11 @@
 // The settings of notices.
 use block::Block;
-use block::Padding;
 use blocksettings::titles::alignment_of;
 use blocksettings::words::four_on;
 use cases::random::below;
 use cases::random::next;
 use measure::Wrap;
+use padding::Padding;
 use paragraph::Notice;
 ghost use Prim.Native.Nat.{_<_, _≤_};
 

@@ -1,6 +1,5 @@
 // The frames of notices, and areas that leave so many cells inside.
 use block::Block;
-use block::Padding;
 use block::Space;
 use blocksettings::borders;
 use blocksettings::shadows::shadow;
@@ -11,6 +10,7 @@ use blocksettings::words::four_on;
 use cases::random::below;
 use cases::random::next;
 use layout::Rect;
+use padding::Padding;
 
 fn padding(x: u32) -> Padding {
     let y = next(x);

@@ -16,7 +16,7 @@ use Rattle.block.specs.Inner.{innerOf}
 use Rattle.buffer.specs.declared.Screen.{Screen}
 use Rattle.buffer.specs.Drawing.{areaOf}
 use Rattle.buffer.proofs.OnScreen.{meeting-on-screen}
-use Rattle.borders.proofs.Parts.{not-empty}
+use Rattle.edges.proofs.Ends.{not-empty}
 use Rattle.draw_block.proofs.Accepting.{Sized, sized}
 use Rattle.rows.specs.Drawing.{AreaOnScreen}
 use Rattle.paragraph.specs.Notice.{innerAreaOf}

@@ -17,7 +17,7 @@ use Rattle.buffer.specs.Parts.{OnScreen}
 use Rattle.buffer.proofs.Drawn.{drawn-same, drawn-none}
 use Rattle.buffer.proofs.Order.{first-then, only-drawn, only-spared}
 use Rattle.cell.specs.Cell.{styled}
-use Rattle.borders.proofs.Parts.{not-empty}
+use Rattle.edges.proofs.Ends.{not-empty}
 use Rattle.shadow.proofs.Keeps.{over-empty}
 use Rattle.compose.specs.Lines.{lines}
 use Rattle.rows.specs.declared.Rows.{Rows}

@@ -1,9 +1,7 @@
 // The notices, each made from its number.
 use crate::report;
 use block::Block;
-use block::InnerArea;
 use block::Space;
-use block::causes::inner;
 use blocksettings::many_titles;
 use blocksettings::many_titles::write_many;
 use blocksettings::shadows::style;
@@ -13,6 +11,8 @@ use blocksettings::words::write_words;
 use cases::random::below;
 use cases::random::next;
 use cases::random::seed;
+use inner::InnerArea;
+use inner::inner;
 use measure::Measured;
 use measure::Wrap;
 use noticepages::frames;

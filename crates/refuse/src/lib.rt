@@ -1,12 +1,7 @@
-// Why a call is refused: the causes, their numbers, and the checks behind them.
+// Why a call is refused: the causes and their numbers. `check_settings` and `check_records` have the checks.
 ghost use mathlib.Core.Path.{_≡_};
 ghost use Rattle.refuse.specs.Refusal.{refusalNumber, verdictNumber};
 ghost use Rattle.refuse.specs.Causes.{mostAccepted};
-
-pub mod limits;
-pub mod records;
-pub mod screen;
-pub mod styles;
 
 // The table's causes, in its order.
 pub enum Refusal {

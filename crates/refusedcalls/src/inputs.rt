@@ -3,9 +3,9 @@ use block::Block;
 use block::BorderSet;
 use block::Borders;
 use block::Effect;
-use block::Padding;
 use block::Shadow;
 use layout::Rect;
+use padding::Padding;
 use text::Alignment;
 use text::TitlePosition;
 

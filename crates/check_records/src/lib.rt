@@ -1,0 +1,121 @@
+// The checks of a text's and of titles' records: causes 3, 4 and 5, and cause 6 of glyphs.
+use refuse::Ceilings;
+use text::glyph;
+use text::head;
+use text::line;
+ghost use mathlib.Core.Path.{_≡_};
+ghost use mathlib.Core.Bool.{false};
+ghost use Rattle.refuse.specs.Causes.{textTooLong, notOpening, textHeadWrong, textHeadsWrong, titlesWrong, styleNumbersWrong, glyphStyles};
+ghost use Rattle.refuse.specs.Scan.{titleWrong, scanWrong, glyphNoStyle};
+
+// 3: a text of too many records.
+pub fn text_too_long(most: Ceilings, text: &[u32]) -> bool
+    ensures { λ r. ⌜ r ≡ textTooLong most (now (text .entry)) ⌝ }
+{
+    most.records < text.len()
+}
+
+// Whether there are records and the first isn't a head.
+fn opens_without_head(records: &[u32]) -> bool
+    ensures { λ r. ⌜ r ≡ notOpening (now (records .entry)) ⌝ }
+{
+    if records.len() == 0 {
+        return false;
+    }
+    !head::is_head(records[0])
+}
+
+// Whether a record is a head whose zeros or position aren't 0.
+fn head_wrong(word: u32) -> bool
+    ensures { λ r. ⌜ r ≡ textHeadWrong word ⌝ }
+{
+    if head::is_head(word) {
+        return head::zeros(word) != 0 || head::position(word) != 0;
+    }
+    false
+}
+
+// 4: a text that isn't empty and doesn't open with a head, or a head whose zeros or position aren't 0.
+pub fn text_heads_wrong(text: &[u32]) -> bool
+    ensures { λ r. ⌜ r ≡ textHeadsWrong (now (text .entry)) ⌝ }
+{
+    if opens_without_head(text) {
+        return true;
+    }
+    let mut i = 0;
+    while i < text.len() {
+        if head_wrong(text[i]) {
+            return true;
+        }
+        i += 1;
+    }
+    false
+}
+
+// Whether a title has too many glyphs, position 3, or zeros that aren't 0.
+fn title_wrong(most: Ceilings, head: u32, glyphs: usize) -> bool
+    ensures { λ r. ⌜ r ≡ titleWrong most head glyphs ⌝ }
+{
+    if most.title_glyphs < glyphs {
+        return true;
+    }
+    head::position(head) == 3 || head::zeros(head) != 0
+}
+
+// Whether there are too many titles, or one is wrong.
+fn any_title_wrong(most: Ceilings, titles: &[u32]) -> bool
+    requires { ⌜ notOpening (now titles) ≡ false ⌝ }
+    ensures { λ r. ⌜ r ≡ scanWrong most (now (titles .entry)) ⌝ }
+{
+    let most_titles = most.titles;
+    let mut count: usize = 0;
+    let mut at: usize = 0;
+    while at < titles.len() {
+        if most_titles <= count {
+            return true;
+        }
+        let first = at + 1;
+        let glyphs = line::line_length(&titles[first..]);
+        if title_wrong(most, titles[at], glyphs) {
+            return true;
+        }
+        count += 1;
+        at = first + glyphs;
+    }
+    false
+}
+
+// 5: too many titles, too many glyphs in one, records that aren't empty and don't open with a head, position 3, or zeros that
+// aren't 0.
+pub fn titles_wrong(most: Ceilings, titles: &[u32]) -> bool
+    ensures { λ r. ⌜ r ≡ titlesWrong most (now (titles .entry)) ⌝ }
+{
+    if opens_without_head(titles) {
+        return true;
+    }
+    any_title_wrong(most, titles)
+}
+
+// Whether a record is a glyph whose style number isn't below the count of styles.
+fn glyph_has_no_style(count: usize, word: u32) -> bool
+    ensures { λ r. ⌜ r ≡ glyphNoStyle count word ⌝ }
+{
+    if head::is_head(word) {
+        return false;
+    }
+    count <= glyph::style(word) as usize
+}
+
+// 6, of a text or of titles: a glyph's style number that isn't below the count of styles.
+pub fn glyph_styles_wrong(count: usize, records: &[u32]) -> bool
+    ensures { λ r. ⌜ r ≡ styleNumbersWrong count (glyphStyles (now (records .entry))) ⌝ }
+{
+    let mut i = 0;
+    while i < records.len() {
+        if glyph_has_no_style(count, records[i]) {
+            return true;
+        }
+        i += 1;
+    }
+    false
+}

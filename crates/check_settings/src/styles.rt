@@ -1,0 +1,77 @@
+// Causes 2, 6 and 7.
+use refuse::Ceilings;
+ghost use mathlib.Core.Path.{_≡_};
+ghost use Rattle.refuse.specs.Causes.{zerosSet, some, stylesWrong, noStyle, styleNumbersWrong, tooLarge, symbolsWrong};
+
+// Whether a style's zeros aren't 0.
+fn has_zeros_set(style: u64) -> bool
+    ensures { λ r. ⌜ r ≡ zerosSet style ⌝ }
+{
+    cell::style::zeros(style) != 0
+}
+
+// Whether one of the styles has zeros that aren't 0.
+fn any_zeros_set(styles: &[u64]) -> bool
+    ensures { λ r. ⌜ r ≡ some zerosSet (now (styles .entry)) ⌝ }
+{
+    let mut i = 0;
+    while i < styles.len() {
+        if has_zeros_set(styles[i]) {
+            return true;
+        }
+        i += 1;
+    }
+    false
+}
+
+// 2: too many styles, or one whose zeros aren't 0.
+pub fn styles_wrong(most: Ceilings, styles: &[u64]) -> bool
+    ensures { λ r. ⌜ r ≡ stylesWrong most (now (styles .entry)) ⌝ }
+{
+    if most.styles < styles.len() {
+        return true;
+    }
+    any_zeros_set(styles)
+}
+
+// Whether a style number isn't below the count of styles.
+fn has_no_style(count: usize, number: u8) -> bool
+    ensures { λ r. ⌜ r ≡ noStyle count number ⌝ }
+{
+    count <= number as usize
+}
+
+// 6, of settings: a style number that isn't below the count of styles.
+pub fn style_numbers_wrong(count: usize, numbers: &[u8]) -> bool
+    ensures { λ r. ⌜ r ≡ styleNumbersWrong count (now (numbers .entry)) ⌝ }
+{
+    let mut i = 0;
+    while i < numbers.len() {
+        if has_no_style(count, numbers[i]) {
+            return true;
+        }
+        i += 1;
+    }
+    false
+}
+
+// Whether a symbol needs more than 21 bits.
+fn is_too_large(symbol: u32) -> bool
+    ensures { λ r. ⌜ r ≡ tooLarge symbol ⌝ }
+{
+    2097152 <= symbol
+}
+
+// 7: a symbol of 2,097,152 or more.
+pub fn symbols_wrong(symbols: &[u32]) -> bool
+    ensures { λ r. ⌜ r ≡ symbolsWrong (now (symbols .entry)) ⌝ }
+{
+    let mut i = 0;
+    while i < symbols.len() {
+        if is_too_large(symbols[i]) {
+            return true;
+        }
+        i += 1;
+    }
+    false
+}

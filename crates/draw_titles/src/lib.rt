@@ -1,0 +1,111 @@
+// The titles of a block: block.rs' `render_titles` and what it calls.
+use block::Block;
+use buffer::Screen;
+use layout::Rect;
+use text::TitlePosition;
+ghost use mathlib.Core.Path.{_≡_};
+ghost use mathlib.Core.Bool.{false};
+ghost use Prim.Native.Nat.{_<_, _^_};
+ghost use lib.ListN.{length};
+ghost use Rattle.text.specs.Line.{linesFrom};
+ghost use Rattle.layout.specs.Rect.{isEmpty};
+ghost use Rattle.buffer.specs.Drawing.{drawn};
+ghost use Rattle.buffer.specs.Parts.{OnScreen};
+ghost use Rattle.refuse.specs.Causes.{notOpening};
+ghost use Rattle.titles.specs.Titles.{titlesRow, titlesArea, groupsIn, titlesAt, titlesOn};
+ghost use Rattle.titles.specs.Placing.{AreaFits};
+
+// The row of the titles at a position.
+fn titles_row(position: TitlePosition, area: Rect) -> u16
+    ensures { λ r. ⌜ r ≡ titlesRow position area ⌝ }
+{
+    match position {
+        TitlePosition::Top => area.y,
+        TitlePosition::Bottom => num::saturating_sub(area.bottom(), 1),
+    }
+}
+
+// The area of the titles at a position.
+fn titles_area(block: Block, position: TitlePosition, area: Rect) -> Rect
+    ensures { λ r. ⌜ r ≡ titlesArea block position area ⌝ }
+{
+    let on = block.borders;
+    let left = block::inner_area::cells_taken(on.left);
+    let right = block::inner_area::cells_taken(on.right);
+    Rect {
+        x: num::saturating_add(area.x, left),
+        y: titles_row(position, area),
+        width: num::saturating_sub(num::saturating_sub(area.width, left), right),
+        height: 1,
+    }
+}
+
+// Draws the titles at a position in their area: left, centre, right.
+fn draw_in(
+    screen: Screen,
+    cells: &mut [u64],
+    styles: &[u64],
+    titles: &[u32],
+    block: Block,
+    position: TitlePosition,
+    area: Rect,
+)
+    requires { ⌜ (0 < screen .columns) × (notOpening (now titles) ≡ false) × (area .height ≡ 1) ⌝ }
+    requires { ⌜ AreaFits screen (length (now cells)) area ⌝ }
+    ensures { λ _. ⌜ now (cells .exit) ≡ drawn (screen .columns) (groupsIn (now (styles .entry)) block position area (linesFrom 0 (now (titles .entry)))) (now (cells .entry)) ⌝ }
+{
+    titles_forward::draw_left(screen, cells, styles, titles, block, position, area);
+    titles_forward::draw_center(screen, cells, styles, titles, block, position, area);
+    titles_right::draw_right(screen, cells, styles, titles, block, position, area);
+}
+
+// Draws the titles at a position of a rectangle that isn't empty.
+fn draw_at_position(
+    screen: Screen,
+    cells: &mut [u64],
+    styles: &[u64],
+    titles: &[u32],
+    block: Block,
+    position: TitlePosition,
+    met: Rect,
+)
+    requires { ⌜ (isEmpty met ≡ false) × (screen .columns < 2 ^ 15) × (screen .rows < 2 ^ 15) × (notOpening (now titles) ≡ false) ⌝ }
+    requires { ⌜ OnScreen screen (length (now cells)) met ⌝ }
+    ensures { λ _. ⌜ now (cells .exit) ≡ drawn (screen .columns) (titlesAt (now (styles .entry)) block position met (linesFrom 0 (now (titles .entry)))) (now (cells .entry)) ⌝ }
+{
+    let area = titles_area(block, position, met);
+    draw_in(screen, cells, styles, titles, block, position, area);
+}
+
+// Draws a block's titles over a rectangle that isn't empty: those at the top, then those at the bottom.
+pub fn draw_titles(
+    screen: Screen,
+    cells: &mut [u64],
+    styles: &[u64],
+    titles: &[u32],
+    block: Block,
+    met: Rect,
+)
+    requires { ⌜ (isEmpty met ≡ false) × (screen .columns < 2 ^ 15) × (screen .rows < 2 ^ 15) × (notOpening (now titles) ≡ false) ⌝ }
+    requires { ⌜ OnScreen screen (length (now cells)) met ⌝ }
+    ensures { λ _. ⌜ now (cells .exit) ≡ drawn (screen .columns) (titlesOn (now (styles .entry)) block met (now (titles .entry))) (now (cells .entry)) ⌝ }
+{
+    draw_at_position(
+        screen,
+        cells,
+        styles,
+        titles,
+        block,
+        TitlePosition::Top,
+        met,
+    );
+    draw_at_position(
+        screen,
+        cells,
+        styles,
+        titles,
+        block,
+        TitlePosition::Bottom,
+        met,
+    );
+}

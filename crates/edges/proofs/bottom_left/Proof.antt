@@ -1,0 +1,16 @@
+-- `edges::bottom_left` meets its contract.
+use borrow.Author.Needs.{needs}
+use Rattle.edges.proofs.bottom_left.Statement.{statement}
+use Rattle.edges.proofs.bottom_left.Tie as tie
+
+last-row-requires : tie.Need-last-row-requires
+last-row-requires c κs = search needs
+
+both-requires : tie.Need-both-requires
+both-requires c κs = search needs
+
+returns : tie.Need-returns
+returns c = cc
+
+pub bottom-left-spec : {M : Type 1} → statement M
+bottom-left-spec = tie.close (tie.spec last-row-requires both-requires returns)

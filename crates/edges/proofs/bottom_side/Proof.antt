@@ -1,0 +1,13 @@
+-- `edges::bottom_side` meets its contract.
+use borrow.Author.Needs.{needs}
+use Rattle.edges.proofs.bottom_side.Statement.{statement}
+use Rattle.edges.proofs.bottom_side.Tie as tie
+
+last-row-requires : tie.Need-last-row-requires
+last-row-requires c κs = search needs
+
+returns : tie.Need-returns
+returns c = cc
+
+pub bottom-side-spec : {M : Type 1} → statement M
+bottom-side-spec = tie.close (tie.spec last-row-requires returns)

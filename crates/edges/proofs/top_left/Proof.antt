@@ -1,0 +1,13 @@
+-- `edges::top_left` meets its contract.
+use borrow.Author.Needs.{needs}
+use Rattle.edges.proofs.top_left.Statement.{statement}
+use Rattle.edges.proofs.top_left.Tie as tie
+
+both-requires : tie.Need-both-requires
+both-requires c κs = search needs
+
+returns : tie.Need-returns
+returns c = cc
+
+pub top-left-spec : {M : Type 1} → statement M
+top-left-spec = tie.close (tie.spec both-requires returns)

@@ -1,0 +1,213 @@
+// Titles placed from left to right: left titles, and centred ones with and without truncation.
+use block::Block;
+use buffer::Screen;
+use layout::Rect;
+use text::Alignment;
+use text::TitlePosition;
+use text::line;
+use titles::Group;
+use titles::Place;
+use titles::places;
+ghost use mathlib.Core.Path.{_≡_};
+ghost use mathlib.Core.Bool.{false};
+ghost use Prim.Native.Nat.{_<_};
+ghost use lib.ListN.{length};
+ghost use Rattle.text.specs.declared.Alignment.the-variants.{Left, Center};
+ghost use Rattle.text.specs.Line.{linesFrom};
+ghost use Rattle.buffer.specs.Drawing.{drawn};
+ghost use Rattle.refuse.specs.Causes.{notOpening};
+ghost use Rattle.title.specs.Title.{titleLineWidth, titleIn};
+ghost use Rattle.title.specs.Fitting.{TitleArea};
+ghost use Rattle.titles.specs.Titles.{filteredTitles, withWidth, spacedFrom, leftTitles, centerTitles};
+ghost use Rattle.titles.specs.Placing.{placedWidth, placedAlignment, nextPlace, placedTitles, centerPlace, AreaFits, titlesOf, Added, Moved};
+
+// Draws a title at a place with room, and answers the place after it.
+fn draw_at(
+    screen: Screen,
+    cells: &mut [u64],
+    styles: &[u64],
+    block: Block,
+    place: Place,
+    word: u32,
+    glyphs: &[u32],
+) -> Place
+    requires { ⌜ TitleArea screen (length (now cells)) (place .area) ⌝ }
+    ensures place { λ r. ⌜ r ≡ nextPlace place (placedWidth place (titleLineWidth (now (glyphs .entry)))) ⌝ }
+    ensures drawn { λ r. ⌜ now (cells .exit) ≡ drawn (screen .columns) (titleIn (now (styles .entry)) (block .«titles_style») (withWidth (placedWidth place (titleLineWidth (now (glyphs .entry)))) (place .area)) (placedAlignment place word) (now (glyphs .entry))) (now (cells .entry)) ⌝ }
+{
+    let area = place.area;
+    let width = place.width(title::line_width(glyphs));
+    let part = Rect {
+        x: area.x,
+        y: area.y,
+        width,
+        height: area.height,
+    };
+    title::draw_title(
+        screen,
+        cells,
+        styles,
+        block.titles_style,
+        part,
+        place.alignment(word),
+        glyphs,
+    );
+    place.next(width)
+}
+
+// One title more: drawn if it is of the group and there is room.
+fn draw_next(
+    screen: Screen,
+    cells: &mut [u64],
+    styles: &[u64],
+    block: Block,
+    group: Group,
+    place: Place,
+    word: u32,
+    glyphs: &[u32],
+) -> Place
+    requires { ⌜ AreaFits screen (length (now cells)) (place .area) × (0 < screen .columns) ⌝ }
+    ensures { λ r. ⌜ Moved screen (now (styles .entry)) block group word (now (glyphs .entry)) place (now (cells .entry)) r (now (cells .exit)) ⌝ }
+{
+    let area = place.area;
+    if area.is_empty() {
+        return place;
+    }
+    if group.has(block, word) {
+        return draw_at(screen, cells, styles, block, place, word, glyphs);
+    }
+    place
+}
+
+// Draws the titles of a group one after another from a place on.
+fn draw_forward(
+    screen: Screen,
+    cells: &mut [u64],
+    styles: &[u64],
+    titles: &[u32],
+    block: Block,
+    group: Group,
+    place: Place,
+)
+    requires { ⌜ (0 < screen .columns) × (notOpening (now titles) ≡ false) ⌝ }
+    requires { ⌜ AreaFits screen (length (now cells)) (place .area) ⌝ }
+    ensures { λ _. ⌜ now (cells .exit) ≡ drawn (screen .columns) (placedTitles (now (styles .entry)) block place (titlesOf block group (linesFrom 0 (now (titles .entry))))) (now (cells .entry)) ⌝ }
+{
+    let mut place = place;
+    let mut at = 0;
+    while at < titles.len() {
+        let from = at + 1;
+        let end = from + line::line_length(&titles[from..]);
+        place = draw_next(
+            screen,
+            cells,
+            styles,
+            block,
+            group,
+            place,
+            titles[at],
+            &titles[from..end],
+        );
+        at = end;
+    }
+}
+
+// The columns that one title more adds to a sum, with the one after it.
+fn add_spaced(sum: u16, block: Block, group: Group, word: u32, glyphs: &[u32]) -> u16
+    ensures { λ r. ⌜ Added block group word (now (glyphs .entry)) sum r ⌝ }
+{
+    if group.has(block, word) {
+        return num::saturating_add(sum, places::spaced(title::line_width(glyphs)));
+    }
+    sum
+}
+
+// The columns of a group's titles, with one after each.
+fn spaced_width(titles: &[u32], block: Block, group: Group) -> u16
+    requires { ⌜ notOpening (now titles) ≡ false ⌝ }
+    ensures { λ r. ⌜ r ≡ spacedFrom 0 (titlesOf block group (linesFrom 0 (now (titles .entry)))) ⌝ }
+{
+    let mut sum: u16 = 0;
+    let mut at = 0;
+    while at < titles.len() {
+        let from = at + 1;
+        let end = from + line::line_length(&titles[from..]);
+        sum = add_spaced(sum, block, group, titles[at], &titles[from..end]);
+        at = end;
+    }
+    sum
+}
+
+// Draws the left titles at a position, in the titles' area.
+pub fn draw_left(
+    screen: Screen,
+    cells: &mut [u64],
+    styles: &[u64],
+    titles: &[u32],
+    block: Block,
+    position: TitlePosition,
+    area: Rect,
+)
+    requires { ⌜ (0 < screen .columns) × (notOpening (now titles) ≡ false) ⌝ }
+    requires { ⌜ AreaFits screen (length (now cells)) area ⌝ }
+    ensures { λ _. ⌜ now (cells .exit) ≡ drawn (screen .columns) (leftTitles (now (styles .entry)) block area (filteredTitles block position Left (linesFrom 0 (now (titles .entry))))) (now (cells .entry)) ⌝ }
+{
+    let group = Group {
+        position,
+        alignment: Alignment::Left,
+    };
+    let place = Place {
+        area,
+        offset: 0,
+        truncates: false,
+    };
+    draw_forward(screen, cells, styles, titles, block, group, place);
+}
+
+// Where the first centred title goes, where with all of them so many columns are needed.
+fn center_place(area: Rect, total: u16) -> Place
+    ensures { λ r. ⌜ r ≡ centerPlace area total ⌝ }
+{
+    if total <= area.width {
+        let x = num::saturating_add(area.x, (area.width - total) / 2);
+        let moved = Rect {
+            x,
+            y: area.y,
+            width: total,
+            height: area.height,
+        };
+        return Place {
+            area: moved,
+            offset: 0,
+            truncates: false,
+        };
+    }
+    Place {
+        area,
+        offset: (total - area.width) / 2,
+        truncates: true,
+    }
+}
+
+// Draws the centred titles at a position, in the titles' area.
+pub fn draw_center(
+    screen: Screen,
+    cells: &mut [u64],
+    styles: &[u64],
+    titles: &[u32],
+    block: Block,
+    position: TitlePosition,
+    area: Rect,
+)
+    requires { ⌜ (0 < screen .columns) × (notOpening (now titles) ≡ false) ⌝ }
+    requires { ⌜ AreaFits screen (length (now cells)) area × (area .height ≡ 1) ⌝ }
+    ensures { λ _. ⌜ now (cells .exit) ≡ drawn (screen .columns) (centerTitles (now (styles .entry)) block area (filteredTitles block position Center (linesFrom 0 (now (titles .entry))))) (now (cells .entry)) ⌝ }
+{
+    let group = Group {
+        position,
+        alignment: Alignment::Center,
+    };
+    let spaced = spaced_width(titles, block, group);
+    let place = center_place(area, num::saturating_sub(spaced, 1));
+    draw_forward(screen, cells, styles, titles, block, group, place);
+}

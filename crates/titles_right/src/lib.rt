@@ -1,0 +1,175 @@
+// Right titles: the last one first, and then those before it.
+use block::Block;
+use buffer::Screen;
+use layout::Rect;
+use text::Alignment;
+use text::TitlePosition;
+use text::head;
+use text::line;
+use titles::Group;
+use titles::heads;
+ghost use mathlib.Core.Path.{_≡_};
+ghost use mathlib.Core.List.{reverse};
+ghost use Prim.Native.Nat.{_-_, _≤_, min, max, _<_};
+ghost use lib.ListN.{length, take};
+ghost use Rattle.text.specs.declared.Alignment.the-variants.{Right};
+ghost use Rattle.text.specs.Line.{linesFrom};
+ghost use Rattle.layout.specs.Rect.{rightOf};
+ghost use Rattle.buffer.specs.Drawing.{drawn};
+ghost use Rattle.title.specs.Title.{titleLineWidth, titleIn};
+ghost use Rattle.title.specs.Fitting.{TitleArea};
+ghost use Rattle.titles.specs.Titles.{filteredTitles, givenAlignment, withX, withWidth, rightTitles};
+ghost use Rattle.titles.specs.Placing.{AreaFits, titlesOf, MovedBack};
+
+// What is left of an area before a title of so many columns at its right end, and one column between titles.
+fn before_title(area: Rect, width: u16) -> Rect
+    ensures { λ r. ⌜ r ≡ withWidth (area .width - width - 1) area ⌝ }
+{
+    Rect {
+        x: area.x,
+        y: area.y,
+        width: num::saturating_sub(num::saturating_sub(area.width, width), 1),
+        height: area.height,
+    }
+}
+
+// The part of an area that a title of so many columns gets at its right end.
+fn right_part(area: Rect, width: u16) -> Rect
+    ensures { λ r. ⌜ r ≡ withX (max (rightOf area - width) (area .x)) (withWidth (min width (area .width)) area) ⌝ }
+{
+    Rect {
+        x: num::max(num::saturating_sub(area.right(), width), area.x),
+        y: area.y,
+        width: num::min(width, area.width),
+        height: area.height,
+    }
+}
+
+// Draws a title at the right end of an area with room, and answers what is left of it.
+fn draw_before(
+    screen: Screen,
+    cells: &mut [u64],
+    styles: &[u64],
+    block: Block,
+    area: Rect,
+    word: u32,
+    glyphs: &[u32],
+) -> Rect
+    requires { ⌜ TitleArea screen (length (now cells)) area ⌝ }
+    ensures left { λ r. ⌜ r ≡ withWidth (area .width - titleLineWidth (now (glyphs .entry)) - 1) area ⌝ }
+    ensures drawn { λ r. ⌜ now (cells .exit) ≡ drawn (screen .columns) (titleIn (now (styles .entry)) (block .«titles_style») (withX (max (rightOf area - titleLineWidth (now (glyphs .entry))) (area .x)) (withWidth (min (titleLineWidth (now (glyphs .entry))) (area .width)) area)) (givenAlignment word) (now (glyphs .entry))) (now (cells .entry)) ⌝ }
+{
+    let width = title::line_width(glyphs);
+    let part = right_part(area, width);
+    let alignment = head::resolve(word, Alignment::Left);
+    title::draw_title(
+        screen,
+        cells,
+        styles,
+        block.titles_style,
+        part,
+        alignment,
+        glyphs,
+    );
+    before_title(area, width)
+}
+
+// One title more: drawn if it is of the group and there is room.
+fn draw_previous(
+    screen: Screen,
+    cells: &mut [u64],
+    styles: &[u64],
+    block: Block,
+    group: Group,
+    area: Rect,
+    word: u32,
+    glyphs: &[u32],
+) -> Rect
+    requires { ⌜ AreaFits screen (length (now cells)) area × (0 < screen .columns) ⌝ }
+    ensures { λ r. ⌜ MovedBack screen (now (styles .entry)) block group word (now (glyphs .entry)) area (now (cells .entry)) r (now (cells .exit)) ⌝ }
+{
+    if area.is_empty() {
+        return area;
+    }
+    if group.has(block, word) {
+        return draw_before(screen, cells, styles, block, area, word, glyphs);
+    }
+    area
+}
+
+// Draws the last of the `count` titles before record `end`, if it is of the group, and then those before it.
+fn draw_backward(
+    screen: Screen,
+    cells: &mut [u64],
+    styles: &[u64],
+    titles: &[u32],
+    block: Block,
+    group: Group,
+    area: Rect,
+    count: usize,
+    end: usize,
+)
+    requires { ⌜ (0 < screen .columns) × (end ≤ length (now titles)) × (count ≡ length (linesFrom 0 (take end (now titles)))) ⌝ }
+    requires { ⌜ AreaFits screen (length (now cells)) area ⌝ }
+    ensures { λ _. ⌜ now (cells .exit) ≡ drawn (screen .columns) (rightTitles (now (styles .entry)) block area (reverse (titlesOf block group (linesFrom 0 (take end (now (titles .entry))))))) (now (cells .entry)) ⌝ }
+{
+    if count == 0 {
+        return;
+    }
+    let at = heads::last_head(titles, end);
+    let from = at + 1;
+    let left = draw_previous(
+        screen,
+        cells,
+        styles,
+        block,
+        group,
+        area,
+        titles[at],
+        &titles[from..end],
+    );
+    draw_backward(
+        screen,
+        cells,
+        styles,
+        titles,
+        block,
+        group,
+        left,
+        count - 1,
+        at,
+    );
+}
+
+// Draws the right titles at a position, in the titles' area.
+pub fn draw_right(
+    screen: Screen,
+    cells: &mut [u64],
+    styles: &[u64],
+    titles: &[u32],
+    block: Block,
+    position: TitlePosition,
+    area: Rect,
+)
+    requires { ⌜ 0 < screen .columns ⌝ }
+    requires { ⌜ AreaFits screen (length (now cells)) area ⌝ }
+    ensures { λ _. ⌜ now (cells .exit) ≡ drawn (screen .columns) (rightTitles (now (styles .entry)) block area (reverse (filteredTitles block position Right (linesFrom 0 (now (titles .entry)))))) (now (cells .entry)) ⌝ }
+{
+    let group = Group {
+        position,
+        alignment: Alignment::Right,
+    };
+    let count = line::count_lines(titles);
+    let end = titles.len();
+    draw_backward(
+        screen,
+        cells,
+        styles,
+        titles,
+        block,
+        group,
+        area,
+        count,
+        end,
+    );
+}
