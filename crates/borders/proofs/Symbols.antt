@@ -16,7 +16,7 @@ use Rattle.block.specs.declared.Shadow.{Shadow}
 use Rattle.block.specs.declared.Shadow.the-variants.{Absent, Present}
 use Rattle.block.specs.Causes.{effectSymbols, shadowSymbols, borderSymbols, blockSymbols}
 use Rattle.block.proofs.Either.{some-append}
-use Rattle.shadow.specs.Around.{EffectFits, ShadowFits}
+use Rattle.shadow.specs.Fitting.{EffectFits, ShadowFits}
 use Rattle.edges.specs.declared.Edge.{Edge}
 use Rattle.edges.specs.Edges.{leftEdge, topEdge, rightEdge, bottomEdge, bottomRightEdge, topRightEdge, bottomLeftEdge, topLeftEdge}
 use Rattle.borders.specs.Fitting.{SymbolsFit}

@@ -20,7 +20,7 @@ use Rattle.buffer.specs.Parts.{OnScreen}
 use Rattle.buffer.proofs.Drawn.{drawn-also, drawn-same, drawn-none}
 use Rattle.buffer.proofs.OnScreen.{meeting-on-screen}
 use Rattle.shadow.specs.Shadow.{shadowArea, besides, effectOf, shadowOf}
-use Rattle.shadow.specs.Around.{EffectFits, ShadowFits}
+use Rattle.shadow.specs.Fitting.{EffectFits, ShadowFits}
 use Rattle.shadow.proofs.Keeps.{shadow-empty}
 
 -- what a style as an ink makes of a cell

@@ -1,2 +1,2 @@
 pub mod Shadow
-pub mod Around
+pub mod Fitting

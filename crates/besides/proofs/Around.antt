@@ -11,7 +11,7 @@ use Rattle.layout.specs.declared.Rect.{Rect}
 use Rattle.layout.specs.Rect.{rightOf, bottomOf, within}
 use Rattle.buffer.specs.Drawing.{Drawing, over, sparing, onlyIf, inOrder}
 use Rattle.buffer.proofs.Within.{within-inside, within-before, within-past}
-use Rattle.shadow.specs.Around.{above, below, leftOf, rightFrom}
+use Rattle.besides.specs.Around.{above, below, leftOf, rightFrom}
 
 -- whether a number lies in a part from one number up to another, which is kept as its first number and its size
 abbrev spans : ℕ → ℕ → ℕ → Bool

@@ -1,11 +1,7 @@
 -- The cells of one rectangle that another doesn't have, as four rectangles: above it, below it, left and right of it.
-use Prim.Native.Nat.{ℕ, _-_, _<_, _^_, min, max}
+use Prim.Native.Nat.{ℕ, _-_, min, max}
 use Rattle.layout.specs.declared.Rect.{Rect}
 use Rattle.layout.specs.Rect.{rightOf, bottomOf}
-use Rattle.block.specs.declared.Effect.{Effect}
-use Rattle.block.specs.declared.Effect.the-variants.{Overlay, Symbol}
-use Rattle.block.specs.declared.Shadow.{Shadow}
-use Rattle.block.specs.declared.Shadow.the-variants.{Absent, Present}
 
 -- from one column up to another, and from one row up to another
 abbrev pub between : ℕ → ℕ → ℕ → ℕ → Rect
@@ -24,12 +20,3 @@ leftOf area spared =
 unfoldable pub rightFrom : Rect → Rect → Rect
 rightFrom area spared =
     between (max (area .x) (rightOf spared)) (max (area .y) (spared .y)) (rightOf area) (min (bottomOf area) (bottomOf spared))
-
--- a shadow's symbol, where it has one, has no more than 21 bits
-abbrev pub EffectFits : Effect → Type 0
-EffectFits Overlay = Unit {0}
-EffectFits (Symbol symbol) = symbol < 2 ^ 21
-
-abbrev pub ShadowFits : Shadow → Type 0
-ShadowFits Absent = Unit {0}
-ShadowFits (Present effect style x y) = EffectFits effect

@@ -1,7 +1,7 @@
--- `shadow::between` meets its contract.
+-- `besides::between` meets its contract.
 use borrow.Author.Needs.{needs}
-use Rattle.shadow.proofs.between.Statement.{statement}
-use Rattle.shadow.proofs.between.Tie as tie
+use Rattle.besides.proofs.between.Statement.{statement}
+use Rattle.besides.proofs.between.Tie as tie
 
 saturating-sub-requires : tie.Need-saturating-sub-requires
 saturating-sub-requires c κs = search needs

@@ -1,8 +1,8 @@
--- `shadow::below` meets its contract.
-use Rattle.shadow.specs.Around.{below}
+-- `besides::below` meets its contract.
+use Rattle.besides.specs.Around.{below}
 use borrow.Author.Needs.{needs}
-use Rattle.shadow.proofs.below.Statement.{statement}
-use Rattle.shadow.proofs.below.Tie as tie
+use Rattle.besides.proofs.below.Statement.{statement}
+use Rattle.besides.proofs.below.Tie as tie
 
 bottom-requires : tie.Need-bottom-requires
 bottom-requires c κs = search needs

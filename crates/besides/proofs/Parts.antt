@@ -8,7 +8,7 @@ use Rattle.num.specs.Held.{held}
 use Rattle.layout.specs.declared.Rect.{Rect}
 use Rattle.buffer.specs.declared.Screen.{Screen}
 use Rattle.buffer.specs.Parts.{OnScreen}
-use Rattle.shadow.specs.Around.{between, above, below, leftOf, rightFrom}
+use Rattle.besides.specs.Around.{between, above, below, leftOf, rightFrom}
 
 -- a part from one number up to another, neither past the most given, doesn't end past it
 reach : (first end most : ℕ) → first ≤ most → end ≤ most → held (first + (end - first)) ≤ most

@@ -1,8 +1,8 @@
--- `shadow::above` meets its contract.
-use Rattle.shadow.specs.Around.{above}
+-- `besides::above` meets its contract.
+use Rattle.besides.specs.Around.{above}
 use borrow.Author.Needs.{needs}
-use Rattle.shadow.proofs.above.Statement.{statement}
-use Rattle.shadow.proofs.above.Tie as tie
+use Rattle.besides.proofs.above.Statement.{statement}
+use Rattle.besides.proofs.above.Tie as tie
 
 right-requires : tie.Need-right-requires
 right-requires c κs = search needs

@@ -1,8 +1,8 @@
--- `shadow::right_from` meets its contract.
-use Rattle.shadow.specs.Around.{rightFrom}
+-- `besides::left_of` meets its contract.
+use Rattle.besides.specs.Around.{leftOf}
 use borrow.Author.Needs.{needs}
-use Rattle.shadow.proofs.right_from.Statement.{statement}
-use Rattle.shadow.proofs.right_from.Tie as tie
+use Rattle.besides.proofs.left_of.Statement.{statement}
+use Rattle.besides.proofs.left_of.Tie as tie
 
 max-requires : tie.Need-max-requires
 max-requires c κs = search needs
@@ -19,21 +19,18 @@ min-requires c κs = search needs
 right-requires : tie.Need-right-requires
 right-requires c κs = search needs
 
-max-requires-2 : tie.Need-max-requires-2
-max-requires-2 c κs = search needs
-
-right-requires-2 : tie.Need-right-requires-2
-right-requires-2 c κs = search needs
+min-requires-2 : tie.Need-min-requires-2
+min-requires-2 c κs = search needs
 
 between-requires : tie.Need-between-requires
 between-requires c κs = search needs
 
 returns : tie.Need-returns
-unfolding rightFrom
+unfolding leftOf
 returns c = cc
 
-pub right-from-spec : {M : Type 1} → statement M
-right-from-spec =
+pub left-of-spec : {M : Type 1} → statement M
+left-of-spec =
     tie.close
     (tie.spec
     max-requires
@@ -41,7 +38,6 @@ right-from-spec =
     bottom-requires-2
     min-requires
     right-requires
-    max-requires-2
-    right-requires-2
+    min-requires-2
     between-requires
     returns)

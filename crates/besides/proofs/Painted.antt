@@ -4,12 +4,11 @@ use mathlib.Core.Path.{_≡_, _∙_}
 use mathlib.Core.List.{List, [], _∷_}
 use Rattle.layout.specs.declared.Rect.{Rect}
 use Rattle.buffer.specs.declared.Screen.{Screen}
-use Rattle.buffer.specs.Drawing.{drawn, over, inOrder}
+use Rattle.buffer.specs.Drawing.{drawn, over, sparing, inOrder}
 use Rattle.buffer.specs.Parts.{OnScreen}
 use Rattle.buffer.proofs.Drawn.{drawn-also, drawn-same}
-use Rattle.shadow.specs.Shadow.{besides}
-use Rattle.shadow.specs.Around.{above, below, leftOf, rightFrom}
-use Rattle.shadow.proofs.Around.{around}
+use Rattle.besides.specs.Around.{above, below, leftOf, rightFrom}
+use Rattle.besides.proofs.Around.{around}
 
 module _ (s : Screen) (f : ℕ → ℕ) (cells next last : List ℕ) where
   -- two rectangles, each made by a call of its own
@@ -21,7 +20,7 @@ module _ (s : Screen) (f : ℕ → ℕ) (cells next last : List ℕ) where
   pub besides-painted : (n : ℕ) (spared area : Rect) → OnScreen s n area
       → next ≡ drawn (s .columns) (inOrder (over (above area spared) f ∷ over (below area spared) f ∷ [])) cells
       → last ≡ drawn (s .columns) (inOrder (over (leftOf area spared) f ∷ over (rightFrom area spared) f ∷ [])) next
-      → last ≡ drawn (s .columns) (besides spared area f) cells
+      → last ≡ drawn (s .columns) (sparing spared (over area f)) cells
   besides-painted n spared area on h k =
       drawn-also (s .columns) _ _ cells next last h k
       ∙ drawn-same (s .columns) _ _ cells (on .columns) (λ column row cell _. around area spared f column row cell)

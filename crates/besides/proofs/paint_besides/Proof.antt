@@ -1,8 +1,8 @@
--- `shadow::paint_besides` meets its contract.
-use Rattle.shadow.proofs.Painted.{painted}
+-- `besides::paint_besides` meets its contract.
+use Rattle.besides.proofs.Painted.{painted}
 use borrow.Author.Needs.{needs}
-use Rattle.shadow.proofs.paint_besides.Statement.{statement}
-use Rattle.shadow.proofs.paint_besides.Tie as tie
+use Rattle.besides.proofs.paint_besides.Statement.{statement}
+use Rattle.besides.proofs.paint_besides.Tie as tie
 
 paint-other-rows-requires : tie.Need-paint-other-rows-requires
 paint-other-rows-requires c κs = search needs

@@ -1,9 +1,9 @@
--- `shadow::paint_same_rows` meets its contract.
-use Rattle.shadow.proofs.Parts.{parts-on-screen}
-use Rattle.shadow.proofs.Painted.{painted}
+-- `besides::paint_same_rows` meets its contract.
+use Rattle.besides.proofs.Parts.{parts-on-screen}
+use Rattle.besides.proofs.Painted.{painted}
 use borrow.Author.Needs.{needs}
-use Rattle.shadow.proofs.paint_same_rows.Statement.{statement}
-use Rattle.shadow.proofs.paint_same_rows.Tie as tie
+use Rattle.besides.proofs.paint_same_rows.Statement.{statement}
+use Rattle.besides.proofs.paint_same_rows.Tie as tie
 
 left-of-requires : tie.Need-left-of-requires
 left-of-requires c κs = search needs

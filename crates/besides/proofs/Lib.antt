@@ -1,0 +1,3 @@
+pub mod Around
+pub mod Parts
+pub mod Painted
