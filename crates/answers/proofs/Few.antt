@@ -9,7 +9,7 @@ use Rattle.text.specs.declared.Alignment.{Alignment}
 use Rattle.text.specs.Record.{alignmentOf}
 use Rattle.text.specs.Alignment.{resolved}
 use Rattle.text.specs.Line.{Glyph, TextLine, linesFrom, glyphsOf}
-use Rattle.reflow.specs.declared.Rule.{Rule}
+use Rattle.wrapping.specs.declared.Rule.{Rule}
 use Rattle.truncate.specs.Truncation.{truncate, offsetOf, shownFrom}
 use Rattle.compose.specs.declared.Method.the-variants.{Truncated}
 use Rattle.compose.specs.Lines.{aligned, linesOf, lineLines, allLines, lines}

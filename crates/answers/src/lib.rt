@@ -4,9 +4,9 @@ mod sums;
 
 use cases::Case;
 use lines::Listed;
-use reflow::Rule;
 use refuse::Ceilings;
 use tally::Tallied;
+use wrapping::Rule;
 
 // What is asked about a text.
 pub enum Question {

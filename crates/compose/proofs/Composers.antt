@@ -5,13 +5,14 @@ use mathlib.Core.Bool.{true, false}
 use mathlib.Core.List.{List}
 use Rattle.text.specs.declared.Alignment.{Alignment}
 use Rattle.text.specs.Line.{numbered}
-use Rattle.reflow.specs.declared.Run.{Run}
-use Rattle.reflow.specs.declared.Rule.{Rule}
+use Rattle.wrapping.specs.declared.Run.{Run}
+use Rattle.wrapping.specs.declared.Rule.{Rule}
 use Rattle.reflow.specs.declared.Wrapper.{Wrapper}
 use Rattle.reflow.specs.declared.Next.{Next}
 use Rattle.reflow.specs.declared.Next.the-variants.{Line, Done}
-use Rattle.reflow.specs.Runs.{runOf, closedRun}
-use Rattle.reflow.specs.Pulls.{Sound, Spans, pulled, Pulled}
+use Rattle.wrapping.specs.Runs.{runOf, Spans}
+use Rattle.reflow.specs.Steps.{closedRun}
+use Rattle.reflow.specs.Pulls.{Sound, pulled, Pulled}
 use Rattle.truncate.specs.Truncation.{offsetOf, shownFrom}
 use Rattle.truncate.proofs.Truncated.{shown-read}
 use Rattle.compose.specs.declared.Method.{Method}

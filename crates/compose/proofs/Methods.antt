@@ -7,13 +7,14 @@ use mathlib.Core.List.{List, [], _∷_, map}
 use lib.Dec.{eqb}
 use Rattle.text.specs.declared.Alignment.{Alignment}
 use Rattle.text.specs.Line.{Glyph, numbered}
-use Rattle.reflow.specs.declared.Rule.{Rule}
+use Rattle.wrapping.specs.declared.Rule.{Rule}
 use Rattle.reflow.specs.declared.Wrapper.{Wrapper}
-use Rattle.reflow.specs.Runs.{runOf, startRun, closedRun}
+use Rattle.wrapping.specs.Runs.{runOf}
+use Rattle.reflow.specs.Steps.{startRun, closedRun}
 use Rattle.reflow.proofs.Simulation.{ReadAll}
 use Rattle.reflow.proofs.WholeLine.{start-sound, start-runs, wrap-read}
 use Rattle.reflow.proofs.Pulling.{sound-closed, closed-runs}
-use Rattle.reflow.proofs.Renumbering.{renumber, lines-renumbered}
+use Rattle.wrapping.proofs.Renumbering.{renumber, lines-renumbered}
 use Rattle.truncate.specs.Truncation.{offsetOf, shownFrom, truncate}
 use Rattle.truncate.proofs.Truncated.{truncated-read, truncated-renumbered}
 use Rattle.compose.specs.declared.Method.{Method}

@@ -10,12 +10,13 @@ use Rattle.text.specs.Record.{alignmentOf}
 use Rattle.text.specs.Alignment.{resolved}
 use Rattle.text.specs.Line.{Glyph, TextLine, numbered, untilHead, linesFrom}
 use Rattle.text.proofs.TextLines.{Opens, rest, rest-is, end-within, until-take, next-opens, line-first}
-use Rattle.reflow.specs.declared.Run.{Run}
-use Rattle.reflow.specs.declared.Rule.{Rule}
+use Rattle.wrapping.specs.declared.Run.{Run}
+use Rattle.wrapping.specs.declared.Rule.{Rule}
 use Rattle.reflow.specs.declared.Wrapper.{Wrapper}
-use Rattle.reflow.specs.Runs.{runOf, startRun}
+use Rattle.wrapping.specs.Runs.{runOf}
+use Rattle.reflow.specs.Steps.{startRun}
 use Rattle.reflow.proofs.Simulation.{ReadAll}
-use Rattle.reflow.proofs.Renumbering.{renumber, numbered-from}
+use Rattle.wrapping.proofs.Renumbering.{renumber, numbered-from}
 use Rattle.compose.specs.declared.Composer.{Composer}
 use Rattle.compose.specs.declared.Method.{Method}
 use Rattle.compose.specs.Lines.{aligned, linesOf, lineLines, allLines}

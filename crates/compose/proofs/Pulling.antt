@@ -11,13 +11,13 @@ use Rattle.text.specs.Line.{linesFrom}
 use Rattle.text.proofs.TextLines.{Opens}
 use Rattle.refuse.specs.Causes.{notOpening}
 use Rattle.refuse.proofs.TitleScan.{opens-start}
-use Rattle.reflow.specs.declared.Run.{Run}
-use Rattle.reflow.specs.declared.Rule.{Rule}
+use Rattle.wrapping.specs.declared.Run.{Run}
+use Rattle.wrapping.specs.declared.Rule.{Rule}
 use Rattle.reflow.specs.declared.Wrapper.{Wrapper}
 use Rattle.reflow.specs.declared.Next.{Next}
 use Rattle.reflow.specs.declared.Next.the-variants.{Line, Done as NoLine}
-use Rattle.reflow.specs.Runs.{startRun, closedRun}
-use Rattle.reflow.specs.Pulls.{Spans}
+use Rattle.reflow.specs.Steps.{startRun, closedRun}
+use Rattle.wrapping.specs.Runs.{Spans}
 use Rattle.compose.specs.declared.Method.{Method}
 use Rattle.compose.specs.declared.Composed.{Composed}
 use Rattle.compose.specs.declared.Composer.{Composer}

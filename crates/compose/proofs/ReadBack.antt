@@ -12,10 +12,10 @@ use Rattle.text.specs.Record.{isHead, alignmentOf}
 use Rattle.text.specs.Alignment.{resolved}
 use Rattle.text.specs.Line.{Glyph, numbered, untilHead, linesFrom}
 use Rattle.text.proofs.TextLines.{until-take}
-use Rattle.reflow.specs.declared.Rule.{Rule}
-use Rattle.reflow.specs.Runs.{runOf}
+use Rattle.wrapping.specs.declared.Rule.{Rule}
+use Rattle.wrapping.specs.Runs.{runOf}
 use Rattle.reflow.proofs.Simulation.{ReadAll}
-use Rattle.reflow.proofs.Renumbering.{renumber}
+use Rattle.wrapping.proofs.Renumbering.{renumber}
 use Rattle.compose.specs.declared.Method.{Method}
 use Rattle.compose.specs.Lines.{Line, aligned, linesOf, lineLines, allLines, lines, composedOf}
 use Rattle.compose.specs.Composing.{lineAt}

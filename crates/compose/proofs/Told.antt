@@ -10,12 +10,11 @@ use lib.ListN.{length, take, drop, length-take, length-drop}
 use lib.Seq.{slice, take-take, drop-drop, drop-nil, take-nil}
 use Rattle.text.specs.declared.Alignment.{Alignment}
 use Rattle.text.specs.Line.{Glyph, numbered}
-use Rattle.reflow.specs.declared.Run.{Run}
-use Rattle.reflow.specs.declared.Rule.{Rule}
-use Rattle.reflow.specs.Wrapping.{overWide, notOverWide}
-use Rattle.reflow.specs.Runs.{endFrom, runOf, glyphsIn}
-use Rattle.reflow.specs.Pulls.{Spans}
-use Rattle.reflow.proofs.Renumbering.{renumber, total-map, numbered-from}
+use Rattle.wrapping.specs.declared.Run.{Run}
+use Rattle.wrapping.specs.declared.Rule.{Rule}
+use Rattle.wrapping.specs.Wrapping.{overWide, notOverWide}
+use Rattle.wrapping.specs.Runs.{endFrom, runOf, glyphsIn, Spans}
+use Rattle.wrapping.proofs.Renumbering.{renumber, total-map, numbered-from}
 use Rattle.compose.specs.declared.Composed.{Composed}
 use Rattle.compose.specs.Lines.{aligned, endOf, composedOf}
 use Rattle.compose.specs.Composing.{lineAt, part, composedRun, Told}

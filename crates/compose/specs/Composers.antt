@@ -5,13 +5,13 @@ use mathlib.Core.Bool.{cond}
 use mathlib.Core.List.{List, [], _∷_}
 use Rattle.text.specs.declared.Alignment.{Alignment}
 use Rattle.text.specs.Line.{numbered}
-use Rattle.reflow.specs.declared.Run.{Run}
-use Rattle.reflow.specs.declared.Rule.{Rule}
+use Rattle.wrapping.specs.declared.Run.{Run}
+use Rattle.wrapping.specs.declared.Rule.{Rule}
 use Rattle.reflow.specs.declared.Wrapper.{Wrapper}
 use Rattle.reflow.specs.declared.Next.{Next}
 use Rattle.reflow.specs.declared.Next.the-variants.{Line, Done}
-use Rattle.reflow.specs.Runs.{runOf}
-use Rattle.reflow.specs.Pulls.{Sound, Spans, runs}
+use Rattle.wrapping.specs.Runs.{runOf, Spans}
+use Rattle.reflow.specs.Pulls.{Sound, runs}
 use Rattle.truncate.specs.Truncation.{offsetOf, shownFrom}
 use Rattle.compose.specs.declared.Method.{Method}
 use Rattle.compose.specs.declared.Method.the-variants.{Wrapped, Truncated}

@@ -6,8 +6,8 @@ use Rattle.text.specs.declared.Alignment.{Alignment}
 use Rattle.text.specs.Record.{alignmentOf}
 use Rattle.text.specs.Alignment.{resolved}
 use Rattle.text.specs.Line.{Glyph, TextLine, linesFrom, glyphsOf, total}
-use Rattle.reflow.specs.declared.Rule.{Rule}
-use Rattle.reflow.specs.Wrapping.{wrap, overWides}
+use Rattle.wrapping.specs.declared.Rule.{Rule}
+use Rattle.wrapping.specs.Wrapping.{wrap, overWides}
 use Rattle.truncate.specs.Truncation.{truncate}
 use Rattle.compose.specs.declared.Method.{Method}
 use Rattle.compose.specs.declared.Method.the-variants.{Wrapped, Truncated}

@@ -1,12 +1,12 @@
 // The composed lines of a whole text, pulled one by one.
 
 use reflow::Next;
-use reflow::Rule;
-use reflow::Run;
 use reflow::Wrapper;
 use text::Alignment;
 use text::head;
 use text::line;
+use wrapping::Rule;
+use wrapping::Run;
 ghost use mathlib.Core.Path.{_≡_};
 ghost use mathlib.Core.Bool.{false};
 ghost use Prim.Native.Nat.{_+_, _^_, _<_};

@@ -9,7 +9,7 @@ use Rattle.text.specs.declared.Alignment.the-variants.{Center}
 use Rattle.block.specs.declared.Block.{Block}
 use Rattle.padding.specs.Padding.{paddingOf}
 use Rattle.block.specs.Inner.{innerOf}
-use Rattle.reflow.specs.Wrapping.{overWide, mustJoin, takesSpaces, gathered, joined, unjoined, full, emptied, drops, appended, emitting, filled, joining, step, lastLines, finish, wrap}
+use Rattle.wrapping.specs.Wrapping.{overWide, mustJoin, takesSpaces, gathered, joined, unjoined, full, emptied, drops, appended, emitting, filled, joining, step, lastLines, finish, wrap}
 use Rattle.compose.specs.Lines.{linesOf, lineLines, lines, composedOf}
 use Rattle.compose.specs.Places.{clipped}
 use Rattle.render_line.specs.RenderLine.{lineOffset}

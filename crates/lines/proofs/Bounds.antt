@@ -9,8 +9,8 @@ use Rattle.text.specs.declared.Alignment.{Alignment}
 use Rattle.text.specs.Record.{isHead, alignmentOf}
 use Rattle.text.specs.Alignment.{resolved}
 use Rattle.text.specs.Line.{Glyph, TextLine, numbered, untilHead, linesFrom, glyphsOf, total}
-use Rattle.reflow.specs.declared.Rule.{Rule}
-use Rattle.reflow.specs.Wrapping.{wrap}
+use Rattle.wrapping.specs.declared.Rule.{Rule}
+use Rattle.wrapping.specs.Wrapping.{wrap}
 use Rattle.nothing_lost.specs.Glyphs.{NoWider, none, one}
 use Rattle.nothing_lost.proofs.Bounds.{any-cells, numbered-widths}
 use Rattle.nothing_lost.proofs.Few.{lines-few}

@@ -9,7 +9,7 @@ use mir.Syntax.{w64}
 use lib.ListN.{length, take, drop, set, length-set, take-append-drop}
 use lib.Seq.{take-suc-set, drop-set-lt, drop-drop}
 use Rattle.text.specs.declared.Alignment.{Alignment}
-use Rattle.reflow.specs.declared.Rule.{Rule}
+use Rattle.wrapping.specs.declared.Rule.{Rule}
 use Rattle.compose.specs.declared.Composed.{Composed}
 use Rattle.compose.specs.declared.Composer.{Composer}
 use Rattle.compose.specs.declared.Pull.{Pull}

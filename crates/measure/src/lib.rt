@@ -2,7 +2,6 @@
 use block::Block;
 use block::Space;
 use check_settings::limits;
-use reflow::Rule;
 use refuse::Ceilings;
 use refuse::Refusal;
 use refuse::Verdict;
@@ -10,6 +9,7 @@ use text::Alignment;
 use text::glyph;
 use text::head;
 use text::line;
+use wrapping::Rule;
 ghost use mathlib.Core.Path.{_≡_};
 ghost use mathlib.Core.Bool.{false};
 ghost use Prim.Native.Nat.{_^_, _<_};

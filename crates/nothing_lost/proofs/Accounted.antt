@@ -10,14 +10,14 @@ use borrow.Author.Tests.{eqb-true, eqb-false, ne-eqb}
 use lib.Dec.{eqb}
 use lib.ListN.{length}
 use Rattle.text.specs.Line.{Glyph, numbered, total}
-use Rattle.reflow.specs.declared.Rule.{Rule}
-use Rattle.reflow.specs.Wrapping.{Pending, Step, empty, start, overWide, takesSpaces, gathered, joined, unjoined, emptied, appended, filled, joining, step, wrapFrom, wrap, overWides}
+use Rattle.wrapping.specs.declared.Rule.{Rule}
+use Rattle.wrapping.specs.Wrapping.{Pending, Step, empty, start, overWide, takesSpaces, gathered, joined, unjoined, emptied, appended, filled, joining, step, wrapFrom, wrap, overWides}
 use Rattle.text.specs.Lists.{countOf}
 use Rattle.text.proofs.Lists.{count-append}
 use Rattle.nothing_lost.specs.Glyphs.{glyphsOfAll}
 use Rattle.nothing_lost.proofs.Lists.{cases, glyphs-append}
 use Rattle.nothing_lost.proofs.Steps.{appended-ways, filled-ways, step-ways, finish-gathers, wraps}
-use Rattle.reflow.proofs.Splits.{fitting-split}
+use Rattle.wrapping.proofs.Splits.{fitting-split}
 
 module _ (test : Glyph → Bool) where
   -- those pending

@@ -10,14 +10,14 @@ use borrow.Author.Tests.{ltb-true, ltb-false, leb-false, lt-ltb}
 use lib.Dec.{eqb, leb, ltb}
 use Rattle.text.specs.Line.{Glyph, glyphFrom, numbered, total}
 use Rattle.text.proofs.Bools.{neither}
-use Rattle.reflow.specs.declared.Rule.{Rule}
-use Rattle.reflow.specs.Wrapping.{Pending, Step, Wrapped, empty, start, overWide, mustJoin, takesSpaces, gathered, joined, full, fitting, afterFitting, emptied, appended, filled, joining, step, lastLines, finish, wrapFrom, wrap}
+use Rattle.wrapping.specs.declared.Rule.{Rule}
+use Rattle.wrapping.specs.Wrapping.{Pending, Step, Wrapped, empty, start, overWide, mustJoin, takesSpaces, gathered, joined, full, fitting, afterFitting, emptied, appended, filled, joining, step, lastLines, finish, wrapFrom, wrap}
 use Rattle.nothing_lost.specs.Glyphs.{Widths, NoWider, none, one}
 use Rattle.nothing_lost.proofs.Lists.{cases}
-use Rattle.reflow.proofs.RunLaws.{cond-cases}
+use Rattle.wrapping.proofs.RunLaws.{cond-cases}
 use Rattle.nothing_lost.proofs.Steps.{appended-ways, filled-ways, step-ways}
-use Rattle.reflow.proofs.Splits.{fitting-split}
-use Rattle.reflow.proofs.ListRuns.{total-append}
+use Rattle.wrapping.proofs.Splits.{fitting-split}
+use Rattle.wrapping.proofs.ListRuns.{total-append}
 
 pub no-wider-append : {most : ℕ} {a b : List (List Glyph)} → NoWider most a → NoWider most b → NoWider most (a ++ b)
 no-wider-append none q = q

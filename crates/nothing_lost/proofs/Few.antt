@@ -8,9 +8,9 @@ use borrow.Author.Tests.{eqb-false, lt-leb}
 use lib.Dec.{eqb}
 use lib.ListN.{length, length-append}
 use Rattle.text.specs.Line.{Glyph, total}
-use Rattle.reflow.specs.declared.Rule.{Rule}
-use Rattle.reflow.specs.Wrapping.{Pending, Step, Wrapped, empty, start, takesSpaces, gathered, joined, full, filled, joining, step, lastLines, finish, wrapFrom, wrap}
-use Rattle.reflow.proofs.RunLaws.{cond-cases}
+use Rattle.wrapping.specs.declared.Rule.{Rule}
+use Rattle.wrapping.specs.Wrapping.{Pending, Step, Wrapped, empty, start, takesSpaces, gathered, joined, full, filled, joining, step, lastLines, finish, wrapFrom, wrap}
+use Rattle.wrapping.proofs.RunLaws.{cond-cases}
 use Rattle.nothing_lost.proofs.Steps.{filled-ways, step-ways}
 
 -- a glyph emits at most one line

@@ -7,13 +7,13 @@ use mathlib.Core.List.{List, [], _∷_, _++_, append-assoc, append-nil}
 use native.Mathlib.Omega.{arith}
 use lib.Dec.{eqb}
 use Rattle.text.specs.Line.{Glyph, total}
-use Rattle.reflow.specs.declared.Rule.{Rule}
-use Rattle.reflow.specs.Wrapping.{Pending, Step, Wrapped, empty, start, overWide, takesSpaces, gathered, joined, unjoined, fitting, afterFitting, emptied, appended, filled, joining, step, wrapFrom, wrap, notOverWide}
+use Rattle.wrapping.specs.declared.Rule.{Rule}
+use Rattle.wrapping.specs.Wrapping.{Pending, Step, Wrapped, empty, start, overWide, takesSpaces, gathered, joined, unjoined, fitting, afterFitting, emptied, appended, filled, joining, step, wrapFrom, wrap, notOverWide}
 use Rattle.nothing_lost.specs.Glyphs.{solids, glyphsOfAll}
 use Rattle.nothing_lost.proofs.Lists.{glyphs-append}
-use Rattle.reflow.proofs.RunLaws.{cond-cases}
+use Rattle.wrapping.proofs.RunLaws.{cond-cases}
 use Rattle.nothing_lost.proofs.Steps.{appended-ways, silent, filled-ways, step-ways, finish-gathers, wraps}
-use Rattle.reflow.proofs.Splits.{fitting-split}
+use Rattle.wrapping.proofs.Splits.{fitting-split}
 
 pub solids-append : (a b : List Glyph) → solids (a ++ b) ≡ solids a ++ solids b
 solids-append [] b = refl

@@ -6,11 +6,11 @@ use mathlib.Core.List.{List, [], _∷_, _++_, append-nil}
 use native.Mathlib.Omega.{arith}
 use borrow.Author.Tests.{ne-eqb}
 use Rattle.text.specs.Line.{Glyph, total}
-use Rattle.reflow.specs.declared.Rule.{Rule}
-use Rattle.reflow.specs.Wrapping.{Pending, Step, empty, start, overWide, mustJoin, full, drops, fitting, emptied, appended, emitting, filled, joining, gathered, step, lastLines, finish, wrapFrom, wrap}
+use Rattle.wrapping.specs.declared.Rule.{Rule}
+use Rattle.wrapping.specs.Wrapping.{Pending, Step, empty, start, overWide, mustJoin, full, drops, fitting, emptied, appended, emitting, filled, joining, gathered, step, lastLines, finish, wrapFrom, wrap}
 use Rattle.nothing_lost.specs.Glyphs.{glyphsOfAll}
 use Rattle.nothing_lost.proofs.Lists.{cases}
-use Rattle.reflow.proofs.RunLaws.{cond-cases}
+use Rattle.wrapping.proofs.RunLaws.{cond-cases}
 
 -- step 4 appends a glyph to spaces or word
 abbrev pub spaced : Pending → Glyph → Pending

@@ -17,7 +17,7 @@ use Rattle.text.specs.Lists.{countOf}
 use Rattle.text.proofs.Lists.{count-append}
 use Rattle.refuse.specs.declared.Verdict.the-variants.{Accepted}
 use Rattle.refuse.specs.Causes.{mostAccepted}
-use Rattle.reflow.specs.declared.Rule.{Rule}
+use Rattle.wrapping.specs.declared.Rule.{Rule}
 use Rattle.nothing_lost.proofs.Lists.{cases}
 use Rattle.compose.specs.declared.Method.the-variants.{Wrapped}
 use Rattle.compose.specs.Lines.{Line, lines}

@@ -16,8 +16,8 @@ use Rattle.text.proofs.LineGlyphs.{lineGlyphs, all-glyphs}
 use Rattle.cell.specs.Cell.{blankSymbol}
 use Rattle.layout.specs.declared.Rect.{Rect}
 use Rattle.refuse.specs.Causes.{notOpening}
-use Rattle.reflow.specs.declared.Rule.{Rule}
-use Rattle.reflow.specs.Wrapping.{overWide, notOverWide}
+use Rattle.wrapping.specs.declared.Rule.{Rule}
+use Rattle.wrapping.specs.Wrapping.{overWide, notOverWide}
 use Rattle.nothing_lost.specs.Glyphs.{solids, glyphsOfAll, Widths, NoWider, none, one}
 use Rattle.nothing_lost.proofs.Lists.{glyphs-append}
 use Rattle.nothing_lost.proofs.Solid.{solids-append, no-solid-lost}

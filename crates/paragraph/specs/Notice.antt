@@ -9,7 +9,7 @@ use Rattle.block.specs.Inner.{innerOf}
 use Rattle.buffer.specs.declared.Screen.{Screen}
 use Rattle.buffer.specs.Drawing.{Drawing, over, onlyIf, inOrder, areaOf, styleAt}
 use Rattle.frame.specs.Frame.{frame}
-use Rattle.reflow.specs.declared.Rule.{Rule}
+use Rattle.wrapping.specs.declared.Rule.{Rule}
 use Rattle.compose.specs.declared.Method.{Method}
 use Rattle.compose.specs.declared.Method.the-variants.{Wrapped, Truncated}
 use Rattle.compose.specs.Lines.{Line, lines}

@@ -1,9 +1,5 @@
-pub mod RunLaws
-pub mod ListRuns
-pub mod Fitting
-pub mod Splits
+pub mod StepLaws
 pub mod States
 pub mod Simulation
 pub mod WholeLine
 pub mod Pulling
-pub mod Renumbering

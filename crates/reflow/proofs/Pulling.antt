@@ -9,18 +9,19 @@ use lib.Dec.{eqb}
 use lib.ListN.{length, getD, drop, drop-of-length-le}
 use lib.Seq.{drop-cons}
 use Rattle.text.specs.Line.{Glyph, glyphFrom}
-use Rattle.reflow.specs.declared.Run.{Run}
-use Rattle.reflow.specs.declared.Rule.{Rule}
+use Rattle.wrapping.specs.declared.Run.{Run}
+use Rattle.wrapping.specs.declared.Rule.{Rule}
 use Rattle.reflow.specs.declared.Wrapper.{Wrapper}
 use Rattle.reflow.specs.declared.Stepped.{Stepped}
 use Rattle.reflow.specs.declared.Stepped.the-variants.{Emitted, Went}
 use Rattle.reflow.specs.declared.Next.{Next}
 use Rattle.reflow.specs.declared.Next.the-variants.{Line, Done}
-use Rattle.reflow.specs.Wrapping.{Step, emptied, step}
-use Rattle.reflow.specs.Runs.{emptyRun, runOf, glyphsIn, gatherRun, joinRun, joins, joinedRun, emptiedRun, stepRun, closedRun, finishRun}
-use Rattle.reflow.specs.Pulls.{Sound, Spans, lineOf, emittedOf, nextOf, runsFrom, runs, pulled, SoundNext, Pulled}
-use Rattle.reflow.proofs.RunLaws.{cond-cases}
-use Rattle.reflow.proofs.ListRuns.{empty-read}
+use Rattle.wrapping.specs.Wrapping.{Step, emptied, step}
+use Rattle.wrapping.specs.Runs.{emptyRun, runOf, glyphsIn, Spans}
+use Rattle.reflow.specs.Steps.{gatherRun, joinRun, joins, joinedRun, emptiedRun, stepRun, closedRun, finishRun}
+use Rattle.reflow.specs.Pulls.{Sound, lineOf, emittedOf, nextOf, runsFrom, runs, pulled, SoundNext, Pulled}
+use Rattle.wrapping.proofs.RunLaws.{cond-cases}
+use Rattle.wrapping.proofs.ListRuns.{empty-read}
 use Rattle.reflow.proofs.States.{shows-sum, shows-spaces, joined-sound, emptied-shows, gathered-is, gathered-read}
 use Rattle.reflow.proofs.Simulation.{ReadAll, step-matches}
 

@@ -7,16 +7,17 @@ use lib.Dec.{eqb}
 use lib.ListN.{length, getD}
 use Rattle.text.specs.Line.{Glyph, glyphFrom}
 use Rattle.text.proofs.Bools.{neither}
-use Rattle.reflow.specs.declared.Run.{Run}
-use Rattle.reflow.specs.declared.Rule.{Rule}
+use Rattle.wrapping.specs.declared.Run.{Run}
+use Rattle.wrapping.specs.declared.Rule.{Rule}
 use Rattle.reflow.specs.declared.Wrapper.{Wrapper}
 use Rattle.reflow.specs.declared.Stepped.{Stepped}
 use Rattle.reflow.specs.declared.Stepped.the-variants.{Emitted, Went}
-use Rattle.reflow.specs.Wrapping.{Pending, empty, Step, overWide, mustJoin, joined, full, emptied, drops, appended, emitting, filled, joining, step}
-use Rattle.reflow.specs.Runs.{runOf, joinRun, joinedRun, emptiedRun, passedRun, appendedRun, restRun, filledRun, stepRun}
+use Rattle.wrapping.specs.Wrapping.{Pending, empty, Step, overWide, mustJoin, joined, full, emptied, drops, appended, emitting, filled, joining, step}
+use Rattle.wrapping.specs.Runs.{runOf}
+use Rattle.reflow.specs.Steps.{joinRun, joinedRun, emptiedRun, passedRun, appendedRun, restRun, filledRun, stepRun}
 use Rattle.reflow.specs.Pulls.{Shows, emittedOf, nextOf}
-use Rattle.reflow.proofs.RunLaws.{cond-cases}
-use Rattle.reflow.proofs.ListRuns.{Read}
+use Rattle.wrapping.proofs.RunLaws.{cond-cases}
+use Rattle.wrapping.proofs.ListRuns.{Read}
 use Rattle.reflow.proofs.States.{row-read, spaces-empty, joins-is, full-is, join-shows, emptied-shows, wide-shows, dropped-shows, appended-shows}
 
 empty-is : (l : List Glyph) → empty l ≡ true → l ≡ []

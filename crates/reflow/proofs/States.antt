@@ -9,15 +9,16 @@ use lib.Dec.{eqb}
 use lib.ListN.{length, getD, take}
 use lib.Seq.{take-suc, length-take-le}
 use Rattle.text.specs.Line.{Glyph, glyphFrom, numbered, total}
-use Rattle.reflow.specs.declared.Run.{Run}
-use Rattle.reflow.specs.declared.Rule.{Rule}
+use Rattle.wrapping.specs.declared.Run.{Run}
+use Rattle.wrapping.specs.declared.Rule.{Rule}
 use Rattle.reflow.specs.declared.Wrapper.{Wrapper}
-use Rattle.reflow.specs.Wrapping.{Pending, empty, overWide, mustJoin, takesSpaces, gathered, joined, unjoined, full, fitting, emptied, appended, notOverWide}
-use Rattle.reflow.specs.Runs.{runOf, appendRun, pushRun, dropRun, gatherRun, joinRun, overflowing, joins, joinedRun, fullRun, emptiedRun, passedRun, appendedRun}
-use Rattle.reflow.specs.Pulls.{Shows, Sound, Spans}
-use Rattle.reflow.proofs.RunLaws.{cond-cases}
-use Rattle.reflow.proofs.ListRuns.{total-append, run-empty, run-width, run-append, run-push, total-bound, Read, glyphs-run}
-use Rattle.reflow.proofs.Splits.{numbered-append, narrow-append, gathered-split, fitting-split}
+use Rattle.wrapping.specs.Wrapping.{Pending, empty, overWide, mustJoin, takesSpaces, gathered, joined, unjoined, full, fitting, emptied, appended, notOverWide}
+use Rattle.wrapping.specs.Runs.{runOf, appendRun, pushRun, dropRun, Spans}
+use Rattle.reflow.specs.Steps.{gatherRun, joinRun, overflowing, joins, joinedRun, fullRun, emptiedRun, passedRun, appendedRun}
+use Rattle.reflow.specs.Pulls.{Shows, Sound}
+use Rattle.wrapping.proofs.RunLaws.{cond-cases}
+use Rattle.wrapping.proofs.ListRuns.{total-append, run-empty, run-width, run-append, run-push, total-bound, Read, glyphs-run}
+use Rattle.wrapping.proofs.Splits.{numbered-append, narrow-append, gathered-split, fitting-split}
 
 module _ (u : Rule) (records : List ℕ) (s : Wrapper) (t : Pending) (h : Shows u records s t) where
   pub shows-sum : s .row .width + s .spaces .width + s .word .width ≤ 7 * s .at

@@ -9,36 +9,21 @@ use lib.Dec.{eqb}
 use lib.ListN.{length, getD, drop, length-drop}
 use lib.Seq.{drop-cons}
 use Rattle.text.specs.Line.{Glyph, glyphFrom, numbered}
-use Rattle.reflow.specs.declared.Run.{Run}
-use Rattle.reflow.specs.declared.Rule.{Rule}
+use Rattle.wrapping.specs.declared.Run.{Run}
+use Rattle.wrapping.specs.declared.Rule.{Rule}
 use Rattle.reflow.specs.declared.Wrapper.{Wrapper}
 use Rattle.reflow.specs.declared.Next.the-variants.{Line, Done}
-use Rattle.reflow.specs.Wrapping.{Pending, start, empty, takesSpaces, gathered, step, lastLines, finish, Wrapped, wrapFrom, wrap}
-use Rattle.reflow.specs.Runs.{emptyRun, runOf, startRun, gatherRun, closedRun, finishRun, stepRun}
+use Rattle.wrapping.specs.Wrapping.{Pending, start, empty, takesSpaces, gathered, step, lastLines, finish, Wrapped, wrapFrom, wrap}
+use Rattle.wrapping.specs.Runs.{emptyRun, runOf}
+use Rattle.reflow.specs.Steps.{startRun, gatherRun, closedRun, finishRun, stepRun}
 use Rattle.reflow.specs.Pulls.{Shows, Sound, lineOf, nextOf, runsFrom, runs}
-use Rattle.reflow.proofs.RunLaws.{cond-cases}
-use Rattle.reflow.proofs.ListRuns.{run-empty, empty-read}
+use Rattle.wrapping.proofs.RunLaws.{cond-cases}
+use Rattle.wrapping.proofs.ListRuns.{run-empty, empty-read}
+use Rattle.wrapping.proofs.LastLines.{last-is}
 use Rattle.reflow.proofs.States.{spaces-empty, gathered-is, gathered-read}
 use Rattle.reflow.proofs.Simulation.{ReadAll, step-matches}
 
 -- ---- the line's end
-
-pub last-is : (u : Rule) (t : Pending) → lastLines u t ≡ cond (empty (gathered u t)) (cond (empty (t .spaces)) [] ([] ∷ [])) (gathered u t ∷ [])
-unfolding lastLines gathered takesSpaces
-last-is u t = cases (u .trim) (t .row) (t .spaces) (t .word)
-  where
-    cases : (trim : Bool) (row spaces word : List Glyph) →
-        let l = (row ++ cond (not (empty row) || not trim) spaces []) ++ word in
-        cond (empty row && empty word && not (empty spaces) && trim) ([] ∷ []) [] ++ cond (empty l) [] (l ∷ [])
-        ≡ cond (empty l) (cond (empty spaces) [] ([] ∷ [])) (l ∷ [])
-    cases trim (g ∷ row) spaces word = refl
-    cases true [] [] [] = refl
-    cases true [] (p ∷ spaces) [] = refl
-    cases true [] spaces (w ∷ word) = refl
-    cases false [] [] [] = refl
-    cases false [] (p ∷ spaces) [] = refl
-    cases false [] [] (w ∷ word) = refl
-    cases false [] (p ∷ spaces) (w ∷ word) = refl
 
 module _ (u : Rule) (records : List ℕ) (s : Wrapper) (t : Pending) (h : Shows u records s t) where
   finish-is : lineOf (finishRun u s) ≡ map runOf (finish u (s .emitted) t)

@@ -1,3 +1,2 @@
-pub mod Wrapping
-pub mod Runs
+pub mod Steps
 pub mod Pulls

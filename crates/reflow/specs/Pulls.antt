@@ -5,15 +5,16 @@ use mathlib.Core.Bool.{false, cond}
 use mathlib.Core.List.{List, [], _∷_, _++_}
 use lib.ListN.{length, take, drop}
 use Rattle.text.specs.Line.{Glyph, numbered}
-use Rattle.reflow.specs.declared.Run.{Run}
-use Rattle.reflow.specs.declared.Rule.{Rule}
+use Rattle.wrapping.specs.declared.Run.{Run}
+use Rattle.wrapping.specs.declared.Rule.{Rule}
 use Rattle.reflow.specs.declared.Wrapper.{Wrapper}
 use Rattle.reflow.specs.declared.Stepped.{Stepped}
 use Rattle.reflow.specs.declared.Stepped.the-variants.{Emitted, Went}
 use Rattle.reflow.specs.declared.Next.{Next}
 use Rattle.reflow.specs.declared.Next.the-variants.{Line, Done}
-use Rattle.reflow.specs.Wrapping.{Pending, notOverWide}
-use Rattle.reflow.specs.Runs.{runOf, glyphsIn, stepRun, finishRun}
+use Rattle.wrapping.specs.Wrapping.{Pending, notOverWide}
+use Rattle.wrapping.specs.Runs.{runOf, glyphsIn, Spans}
+use Rattle.reflow.specs.Steps.{stepRun, finishRun}
 
 -- The invariant: row, spaces and word are the runs of three lists that follow one another in what was read, with only over-wide
 -- glyphs between, and they are its end. What stands before them has left.
@@ -30,12 +31,6 @@ pub record Shows (u : Rule) (records : List ℕ) (s : Wrapper) (t : Pending) : T
 pub record Sound (u : Rule) (records : List ℕ) (s : Wrapper) : Type 0 where
   pub pending : Pending
   pub shows : Shows u records s pending
-
--- a line's run is that of its glyphs, and lies in the text line
-pub record Spans (u : Rule) (records : List ℕ) (line : Run) : Type 0 where
-  pub glyphs : line ≡ runOf (glyphsIn u records line)
-  pub within : line .end ≤ length records
-  pub ordered : line .first ≤ line .end
 
 abbrev pub lineOf : Next → List Run
 lineOf (Line line s) = line ∷ []

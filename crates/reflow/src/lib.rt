@@ -1,21 +1,7 @@
 // The lines of one text line: reflow.rs' `WordWrapper`, its pending graphemes as runs of records.
+use wrapping::Run;
 
-mod runs;
 mod word_wrapper;
-
-// How to wrap.
-pub struct Rule {
-    pub limit: u32,
-    pub trim: bool,
-}
-
-// Glyphs that follow one another in a text line, over-wide ones between them left out: the first record, one past the last, and
-// the sum of the widths. A run without a glyph ends at 0.
-pub struct Run {
-    pub first: usize,
-    pub end: usize,
-    pub width: u32,
-}
 
 // Where the wrapping of a text line stands. `at` is the record to be read next, `emitted` says that a line was, and `live` that
 // lines may be left.

@@ -1,15 +1,16 @@
 // The wrapper's steps: each takes the state and hands the next one back.
 use crate::Next;
-use crate::Rule;
-use crate::Run;
 use crate::Stepped;
 use crate::Wrapper;
 use text::glyph;
+use wrapping::Rule;
+use wrapping::Run;
 ghost use mathlib.Core.Path.{_≡_};
 ghost use mathlib.Core.Bool.{_&&_};
 ghost use Prim.Native.Nat.{_+_, _-_, _^_, _≤_, _<_};
 ghost use lib.ListN.{length, getD};
-ghost use Rattle.reflow.specs.Runs.{startRun, gatherRun, joinRun, overflowing, joins, joinedRun, fullRun, runOf, glyphsIn, emptiedRun, passedRun, appendedRun, restRun, filledRun, stepRun, closedRun, finishRun};
+ghost use Rattle.wrapping.specs.Runs.{runOf, glyphsIn};
+ghost use Rattle.reflow.specs.Steps.{startRun, gatherRun, joinRun, overflowing, joins, joinedRun, fullRun, emptiedRun, passedRun, appendedRun, restRun, filledRun, stepRun, closedRun, finishRun};
 ghost use Rattle.reflow.specs.Pulls.{Sound, Pulled};
 
 // a less b, held at 0

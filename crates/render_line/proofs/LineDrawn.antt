@@ -9,8 +9,8 @@ use native.Mathlib.Omega.{arith}
 use lib.ListN.{length, take, drop}
 use lib.Seq.{slice, take-add, drop-at, length-take-le}
 use Rattle.text.specs.Line.{Glyph, numbered, total, startsFrom}
-use Rattle.reflow.specs.declared.Rule.{Rule}
-use Rattle.reflow.specs.Wrapping.{notOverWide}
+use Rattle.wrapping.specs.declared.Rule.{Rule}
+use Rattle.wrapping.specs.Wrapping.{notOverWide}
 use Rattle.buffer.specs.Drawing.{changed}
 use Rattle.buffer.specs.Parts.{windowed}
 use Rattle.buffer.proofs.Changed.{changed-same, part-length, part-lent}

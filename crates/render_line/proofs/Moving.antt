@@ -10,8 +10,8 @@ use lib.Dec.{eqb, leb, ltb}
 use Rattle.text.specs.Record.{widthOf}
 use Rattle.text.specs.Line.{Glyph, Start, glyphFrom, numbered, startsFrom}
 use Rattle.text.specs.Lists.{countOf}
-use Rattle.reflow.specs.declared.Rule.{Rule}
-use Rattle.reflow.specs.Wrapping.{overWide, notOverWide}
+use Rattle.wrapping.specs.declared.Rule.{Rule}
+use Rattle.wrapping.specs.Wrapping.{overWide, notOverWide}
 use Rattle.compose.specs.Places.{placed, clipped}
 use Rattle.render_line.specs.RenderLine.{glyphOn, glyphsOn}
 use Rattle.render_line.proofs.OneGlyph.{startOf}

@@ -13,8 +13,8 @@ use lib.Seq.{drop-cons}
 use Rattle.text.specs.Record.{widthOf}
 use Rattle.text.specs.Line.{Start, numbered, startsFrom}
 use Rattle.text.specs.Lists.{countOf}
-use Rattle.reflow.specs.declared.Rule.{Rule}
-use Rattle.reflow.specs.Wrapping.{overWide, notOverWide}
+use Rattle.wrapping.specs.declared.Rule.{Rule}
+use Rattle.wrapping.specs.Wrapping.{overWide, notOverWide}
 use Rattle.buffer.specs.Drawing.{changed}
 use Rattle.buffer.proofs.Changed.{length-changed, changed-same, changed-none, changed-then}
 use Rattle.compose.specs.Places.{placed, clipped}

@@ -5,8 +5,8 @@ use mathlib.Core.List.{List}
 use lib.ListN.{length}
 use Rattle.text.specs.Line.{Start, Glyph, numbered, startsFrom}
 use Rattle.text.specs.Lists.{countOf}
-use Rattle.reflow.specs.declared.Rule.{Rule}
-use Rattle.reflow.specs.Wrapping.{notOverWide}
+use Rattle.wrapping.specs.declared.Rule.{Rule}
+use Rattle.wrapping.specs.Wrapping.{notOverWide}
 use Rattle.buffer.specs.Drawing.{changed}
 use Rattle.compose.specs.Places.{placed, clipped}
 use Rattle.render_line.specs.declared.Glyphs.{Glyphs}

@@ -1,8 +1,8 @@
 // One composed line on a row of the text's area: paragraph.rs' `render_line`.
 use compose::Composed;
-use reflow::Rule;
 use text::Alignment;
 use text::glyph;
+use wrapping::Rule;
 ghost use mathlib.Core.Path.{_≡_};
 ghost use Prim.Native.Nat.{_-_, _^_, _≤_, _<_};
 ghost use lib.ListN.{length};

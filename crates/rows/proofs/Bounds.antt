@@ -11,9 +11,9 @@ use Rattle.text.specs.Alignment.{resolved}
 use Rattle.text.specs.Line.{Glyph, TextLine, linesFrom, glyphsOf}
 use Rattle.text.proofs.Lists.{count-few}
 use Rattle.text.proofs.LineGlyphs.{lineGlyphs, split-glyphs, glyphs-short, starts-length}
-use Rattle.reflow.specs.declared.Rule.{Rule}
-use Rattle.reflow.specs.Wrapping.{overWide}
-use Rattle.reflow.proofs.RunLaws.{cond-cases}
+use Rattle.wrapping.specs.declared.Rule.{Rule}
+use Rattle.wrapping.specs.Wrapping.{overWide}
+use Rattle.wrapping.proofs.RunLaws.{cond-cases}
 use Rattle.nothing_lost.specs.Glyphs.{glyphsOfAll}
 use Rattle.nothing_lost.proofs.Accounted.{wrapped-few}
 use Rattle.truncate.specs.Truncation.{offsetOf, ends, swallows, shownFrom, truncate}

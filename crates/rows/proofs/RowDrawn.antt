@@ -7,7 +7,7 @@ use lib.ListN.{length, take, drop}
 use Rattle.text.specs.Line.{total}
 use Rattle.layout.specs.declared.Rect.{Rect}
 use Rattle.layout.specs.Rect.{rightOf, bottomOf}
-use Rattle.reflow.specs.declared.Rule.{Rule}
+use Rattle.wrapping.specs.declared.Rule.{Rule}
 use Rattle.buffer.specs.declared.Screen.{Screen}
 use Rattle.buffer.specs.Drawing.{changed, drawn}
 use Rattle.buffer.specs.Parts.{inRow}

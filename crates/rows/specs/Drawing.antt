@@ -7,7 +7,7 @@ use lib.ListN.{length, drop}
 use Rattle.text.specs.declared.Alignment.{Alignment}
 use Rattle.layout.specs.declared.Rect.{Rect}
 use Rattle.refuse.specs.Causes.{notOpening}
-use Rattle.reflow.specs.declared.Rule.{Rule}
+use Rattle.wrapping.specs.declared.Rule.{Rule}
 use Rattle.compose.specs.declared.Method.{Method}
 use Rattle.compose.specs.declared.Composer.{Composer}
 use Rattle.compose.specs.Lines.{lines}

@@ -10,8 +10,8 @@ use Rattle.text.specs.Record.{alignmentOf}
 use Rattle.text.specs.Alignment.{resolved}
 use Rattle.text.specs.Line.{Glyph, TextLine, linesFrom, glyphsOf}
 use Rattle.text.proofs.LineGlyphs.{lineGlyphs, split-glyphs, glyphs-short, starts-length}
-use Rattle.reflow.specs.declared.Rule.{Rule}
-use Rattle.reflow.specs.Wrapping.{overWide, overWides, wrap}
+use Rattle.wrapping.specs.declared.Rule.{Rule}
+use Rattle.wrapping.specs.Wrapping.{overWide, overWides, wrap}
 use Rattle.nothing_lost.specs.Glyphs.{solids, glyphsOfAll}
 use Rattle.nothing_lost.proofs.Lists.{glyphs-append}
 use Rattle.nothing_lost.proofs.Solid.{solids-append, dropped-whitespace}

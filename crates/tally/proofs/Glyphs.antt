@@ -11,8 +11,8 @@ use lib.ListN.{length, getD, drop, drop-of-length-le}
 use lib.Seq.{drop-cons}
 use Rattle.text.specs.Record.{isHead, widthOf}
 use Rattle.text.specs.Line.{Glyph, glyphFrom, glyphsFrom}
-use Rattle.reflow.specs.declared.Rule.{Rule}
-use Rattle.reflow.specs.Wrapping.{overWide, overWides}
+use Rattle.wrapping.specs.declared.Rule.{Rule}
+use Rattle.wrapping.specs.Wrapping.{overWide, overWides}
 use Rattle.tally.specs.Tallying.{glyphCounts}
 
 -- the glyphs from record i on

@@ -8,7 +8,7 @@ use native.Mathlib.Omega.{arith}
 use borrow.Author.Tests.{eq-eqb, ne-eqb}
 use lib.ListN.{length}
 use Rattle.refuse.specs.Causes.{notOpening}
-use Rattle.reflow.specs.declared.Rule.{Rule}
+use Rattle.wrapping.specs.declared.Rule.{Rule}
 use Rattle.compose.specs.Lines.{dropped}
 use Rattle.tally.specs.declared.LineCounts.{LineCounts}
 use Rattle.tally.specs.declared.GlyphCounts.{GlyphCounts}

@@ -5,7 +5,7 @@ use mathlib.Core.List.{List, [], _∷_}
 use native.Mathlib.Omega.{arith}
 use lib.ListN.{length}
 use Rattle.text.specs.declared.Alignment.{Alignment}
-use Rattle.reflow.specs.declared.Rule.{Rule}
+use Rattle.wrapping.specs.declared.Rule.{Rule}
 use Rattle.compose.specs.declared.Composed.{Composed}
 use Rattle.compose.specs.declared.Composer.{Composer}
 use Rattle.compose.specs.declared.Pull.{Pull}

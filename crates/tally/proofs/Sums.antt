@@ -14,9 +14,9 @@ use Rattle.text.specs.Record.{widthOf}
 use Rattle.text.specs.Lists.{countOf}
 use Rattle.text.specs.Line.{Glyph, glyphFrom, numbered, Start, startsFrom}
 use Rattle.text.proofs.Lists.{count-append}
-use Rattle.reflow.specs.declared.Rule.{Rule}
-use Rattle.reflow.specs.Wrapping.{overWide, notOverWide}
-use Rattle.reflow.proofs.RunLaws.{cond-cases}
+use Rattle.wrapping.specs.declared.Rule.{Rule}
+use Rattle.wrapping.specs.Wrapping.{overWide, notOverWide}
+use Rattle.wrapping.proofs.RunLaws.{cond-cases}
 use Rattle.compose.specs.declared.Composed.{Composed}
 use Rattle.compose.specs.Lines.{Line}
 use Rattle.compose.specs.Composing.{lineAt}

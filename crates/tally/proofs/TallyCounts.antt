@@ -17,8 +17,8 @@ use Rattle.text.proofs.LineGlyphs.{all-glyphs}
 use Rattle.refuse.specs.declared.Verdict.{Verdict}
 use Rattle.refuse.specs.declared.Verdict.the-variants.{Accepted, Refused as RefusedFor}
 use Rattle.refuse.specs.Causes.{mostAccepted, notOpening}
-use Rattle.reflow.specs.declared.Rule.{Rule}
-use Rattle.reflow.specs.Wrapping.{overWides}
+use Rattle.wrapping.specs.declared.Rule.{Rule}
+use Rattle.wrapping.specs.Wrapping.{overWides}
 use Rattle.nothing_lost.specs.Glyphs.{solids}
 use Rattle.compose.specs.declared.Method.the-variants.{Wrapped}
 use Rattle.compose.specs.Lines.{Line, aligned, lines, skipped, dropped}

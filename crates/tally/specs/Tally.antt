@@ -9,7 +9,7 @@ use Rattle.text.specs.Lists.{countOf}
 use Rattle.refuse.specs.declared.Verdict.{Verdict}
 use Rattle.refuse.specs.declared.Verdict.the-variants.{Accepted, Refused as RefusedFor}
 use Rattle.refuse.specs.Refusal.{refusalNumber}
-use Rattle.reflow.specs.declared.Rule.{Rule}
+use Rattle.wrapping.specs.declared.Rule.{Rule}
 use Rattle.compose.specs.declared.Method.the-variants.{Wrapped}
 use Rattle.compose.specs.Lines.{Line, lines, skipped, dropped}
 use Rattle.compose.specs.Places.{starts, placed, clipped, zeroWidth}

@@ -6,8 +6,8 @@ use lib.Dec.{eqb, ltb}
 use lib.ListN.{length}
 use Rattle.text.specs.Lists.{countOf}
 use Rattle.text.specs.Line.{glyphsFrom}
-use Rattle.reflow.specs.declared.Rule.{Rule}
-use Rattle.reflow.specs.Wrapping.{overWides}
+use Rattle.wrapping.specs.declared.Rule.{Rule}
+use Rattle.wrapping.specs.Wrapping.{overWides}
 use Rattle.compose.specs.Lines.{Line}
 use Rattle.compose.specs.Places.{starts, placed, clipped, zeroWidth}
 use Rattle.tally.specs.declared.LineCounts.{LineCounts}

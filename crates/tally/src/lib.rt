@@ -2,10 +2,10 @@
 
 mod tallying;
 
-use reflow::Rule;
 use refuse::Ceilings;
 use refuse::Refusal;
 use refuse::Verdict;
+use wrapping::Rule;
 ghost use mathlib.Core.Path.{_≡_};
 ghost use Rattle.refuse.specs.Refusal.{verdictNumber, unlessRefused};
 ghost use Rattle.refuse.specs.Causes.{mostAccepted};

@@ -11,13 +11,13 @@ use lib.ListN.{length}
 use lib.Seq.{take-length}
 use Rattle.text.specs.declared.Alignment.{Alignment}
 use Rattle.text.specs.Line.{Glyph, numbered, total}
-use Rattle.reflow.specs.declared.Rule.{Rule}
-use Rattle.reflow.specs.Wrapping.{overWide, notOverWide}
+use Rattle.wrapping.specs.declared.Rule.{Rule}
+use Rattle.wrapping.specs.Wrapping.{overWide, notOverWide}
 use Rattle.truncate.specs.Truncation.{offsetOf, ends, swallows, shownFrom, truncate}
-use Rattle.reflow.proofs.RunLaws.{cond-cases}
-use Rattle.reflow.proofs.ListRuns.{Read, glyphs-run}
+use Rattle.wrapping.proofs.RunLaws.{cond-cases}
+use Rattle.wrapping.proofs.ListRuns.{Read, glyphs-run}
 use Rattle.reflow.proofs.Simulation.{ReadAll}
-use Rattle.reflow.proofs.Renumbering.{cond-map, renumber}
+use Rattle.wrapping.proofs.Renumbering.{cond-map, renumber}
 
 -- ---- what is shown is one part
 

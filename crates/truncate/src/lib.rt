@@ -1,14 +1,14 @@
 // The line of a text line that isn't wrapped: reflow.rs' `LineTruncator`.
 
-use reflow::Rule;
-use reflow::Run;
 use text::Alignment;
 use text::glyph;
+use wrapping::Rule;
+use wrapping::Run;
 ghost use mathlib.Core.Path.{_≡_};
 ghost use Prim.Native.Nat.{_^_, _<_};
 ghost use lib.ListN.{length};
 ghost use Rattle.text.specs.Line.{numbered};
-ghost use Rattle.reflow.specs.Runs.{runOf};
+ghost use Rattle.wrapping.specs.Runs.{runOf};
 ghost use Rattle.truncate.specs.Truncation.{offsetOf, shownFrom};
 
 // How much the scroll to the right takes from a line: only left lines are scrolled.

@@ -1,5 +1,5 @@
 -- `reflow::Wrapper::filled` meets its contract.
-use Rattle.reflow.proofs.RunLaws.{laws}
+use Rattle.reflow.proofs.StepLaws.{filled-emits, filled-goes}
 use Rattle.reflow.proofs.Pulling.{sound-sum, sound-within, sound-spaces, emptied-fits, emptied-next}
 use native.Mathlib.Omega.{arith}
 use Rattle.reflow.proofs.Wrapper.filled.Statement.{statement}
@@ -15,13 +15,13 @@ rest-requires : tie.Need-rest-requires
 rest-requires c κs = (search emptied-fits, search emptied-next)
 
 returns : tie.Need-returns
-returns c = search laws
+returns c = search filled-emits
 
 appended-requires : tie.Need-appended-requires
 appended-requires c κs = omega (arith, sound-sum, sound-within)
 
 returns-2 : tie.Need-returns-2
-returns-2 c = search laws
+returns-2 c = search filled-goes
 
 pub filled-spec : {M : Type 1} → statement M
 filled-spec =

@@ -1,5 +1,5 @@
 -- `reflow::Wrapper::finish` meets its contract.
-use Rattle.reflow.proofs.RunLaws.{laws}
+use Rattle.reflow.proofs.StepLaws.{finish-done, finish-first, finish-spaces, finish-row}
 use borrow.Author.Needs.{needs}
 use Rattle.reflow.proofs.Wrapper.finish.Statement.{statement}
 use Rattle.reflow.proofs.Wrapper.finish.Tie as tie
@@ -14,16 +14,16 @@ closed-requires : tie.Need-closed-requires
 closed-requires c κs = search needs
 
 returns : tie.Need-returns
-returns c = search laws
+returns c = search finish-done
 
 returns-2 : tie.Need-returns-2
-returns-2 c = search laws
+returns-2 c = search finish-first
 
 returns-3 : tie.Need-returns-3
-returns-3 c = search laws
+returns-3 c = search finish-spaces
 
 returns-4 : tie.Need-returns-4
-returns-4 c = search laws
+returns-4 c = search finish-row
 
 pub finish-spec : {M : Type 1} → statement M
 finish-spec =

@@ -1,18 +1,19 @@
 -- `reflow::Wrapper::gathered` meets its contract.
-use Rattle.reflow.proofs.RunLaws.{laws, append-width}
+use Rattle.wrapping.proofs.RunLaws.{append-width}
+use Rattle.reflow.proofs.StepLaws.{gather-word, gather-spaces, gather-row}
 use native.Mathlib.Omega.{arith}
 use borrow.Author.Needs.{needs}
 use Rattle.reflow.proofs.Wrapper.gathered.Statement.{statement}
 use Rattle.reflow.proofs.Wrapper.gathered.Tie as tie
 
 returns : tie.Need-returns
-returns c = search laws
+returns c = search gather-word
 
 append-requires : tie.Need-append-requires
 append-requires c κs = search needs
 
 returns-2 : tie.Need-returns-2
-returns-2 c = search laws
+returns-2 c = search gather-spaces
 
 append-requires-2 : tie.Need-append-requires-2
 append-requires-2 c κs = search needs
@@ -21,7 +22,7 @@ append-requires-3 : tie.Need-append-requires-3
 append-requires-3 c κs = omega (arith, append-width)
 
 returns-3 : tie.Need-returns-3
-returns-3 c = search laws
+returns-3 c = search gather-row
 
 pub gathered-spec : {M : Type 1} → statement M
 gathered-spec =

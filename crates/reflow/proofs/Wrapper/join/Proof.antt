@@ -1,5 +1,5 @@
 -- `reflow::Wrapper::join` meets its contract.
-use Rattle.reflow.proofs.RunLaws.{laws}
+use Rattle.reflow.proofs.StepLaws.{join-is}
 use borrow.Author.Needs.{needs}
 use Rattle.reflow.proofs.Wrapper.join.Statement.{statement}
 use Rattle.reflow.proofs.Wrapper.join.Tie as tie
@@ -11,7 +11,7 @@ empty-requires : tie.Need-empty-requires
 empty-requires c κs = search needs
 
 returns : tie.Need-returns
-returns c = search laws
+returns c = search join-is
 
 pub join-spec : {M : Type 1} → statement M
 join-spec = tie.close (tie.spec gathered-requires empty-requires returns)

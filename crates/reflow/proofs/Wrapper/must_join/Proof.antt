@@ -1,5 +1,5 @@
 -- `reflow::Wrapper::must_join` meets its contract.
-use Rattle.reflow.proofs.RunLaws.{laws}
+use Rattle.reflow.proofs.StepLaws.{joins-word, joins-over, joins-not}
 use borrow.Author.Needs.{needs}
 use Rattle.reflow.proofs.Wrapper.must_join.Statement.{statement}
 use Rattle.reflow.proofs.Wrapper.must_join.Tie as tie
@@ -8,16 +8,16 @@ ends-word-requires : tie.Need-ends-word-requires
 ends-word-requires c κs = search needs
 
 returns : tie.Need-returns
-returns c = search laws
+returns c = search joins-word
 
 overflows-requires : tie.Need-overflows-requires
 overflows-requires c κs = search needs
 
 returns-2 : tie.Need-returns-2
-returns-2 c = search laws
+returns-2 c = search joins-over
 
 returns-3 : tie.Need-returns-3
-returns-3 c = search laws
+returns-3 c = search joins-not
 
 pub must-join-spec : {M : Type 1} → statement M
 must-join-spec =

@@ -1,5 +1,5 @@
 -- `reflow::Wrapper::overflows` meets its contract.
-use Rattle.reflow.proofs.RunLaws.{laws}
+use Rattle.reflow.proofs.StepLaws.{over-word, over-spaces, over-both}
 use borrow.Author.Needs.{needs}
 use Rattle.reflow.proofs.Wrapper.overflows.Statement.{statement}
 use Rattle.reflow.proofs.Wrapper.overflows.Tie as tie
@@ -11,10 +11,10 @@ add-result : tie.Need-add-result
 add-result c = search needs
 
 returns : tie.Need-returns
-returns c = search laws
+returns c = search over-word
 
 returns-2 : tie.Need-returns-2
-returns-2 c = search laws
+returns-2 c = search over-spaces
 
 add-result-2 : tie.Need-add-result-2
 add-result-2 c = search needs
@@ -23,7 +23,7 @@ add-result-3 : tie.Need-add-result-3
 add-result-3 c = search needs
 
 returns-3 : tie.Need-returns-3
-returns-3 c = search laws
+returns-3 c = search over-both
 
 pub overflows-spec : {M : Type 1} → statement M
 overflows-spec =

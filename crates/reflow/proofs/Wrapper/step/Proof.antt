@@ -1,5 +1,5 @@
 -- `reflow::Wrapper::step` meets its contract.
-use Rattle.reflow.proofs.RunLaws.{laws}
+use Rattle.reflow.proofs.StepLaws.{step-wide, step-fills}
 use Rattle.reflow.proofs.Pulling.{sound-sum, sound-joined, joined-at}
 use native.Mathlib.Omega.{arith}
 use borrow.Author.Needs.{needs}
@@ -22,7 +22,7 @@ passed-requires : tie.Need-passed-requires
 passed-requires c κs = search needs
 
 returns : tie.Need-returns
-returns c = search laws
+returns c = search step-wide
 
 joined-requires : tie.Need-joined-requires
 joined-requires c κs = omega (arith, sound-sum)
@@ -31,7 +31,7 @@ filled-requires : tie.Need-filled-requires
 filled-requires c κs = (search sound-joined, omega (arith, joined-at))
 
 returns-2 : tie.Need-returns-2
-returns-2 c = search laws
+returns-2 c = search step-fills
 
 pub step-spec : {M : Type 1} → statement M
 step-spec =

@@ -1,8 +1,8 @@
--- `reflow::Run::append` meets its contract.
-use Rattle.reflow.proofs.RunLaws.{laws}
+-- `wrapping::Run::append` meets its contract.
+use Rattle.wrapping.proofs.RunLaws.{laws}
 use borrow.Author.Needs.{needs}
-use Rattle.reflow.proofs.Run.append.Statement.{statement}
-use Rattle.reflow.proofs.Run.append.Tie as tie
+use Rattle.wrapping.proofs.Run.append.Statement.{statement}
+use Rattle.wrapping.proofs.Run.append.Tie as tie
 
 returns : tie.Need-returns
 returns c = search laws

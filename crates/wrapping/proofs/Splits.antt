@@ -7,8 +7,8 @@ use native.Mathlib.Omega.{arith}
 use lib.Dec.{leb}
 use lib.ListN.{length}
 use Rattle.text.specs.Line.{Glyph, numbered}
-use Rattle.reflow.specs.declared.Rule.{Rule}
-use Rattle.reflow.specs.Wrapping.{Pending, empty, overWide, takesSpaces, gathered, unjoined, fitting, afterFitting, notOverWide}
+use Rattle.wrapping.specs.declared.Rule.{Rule}
+use Rattle.wrapping.specs.Wrapping.{Pending, empty, overWide, takesSpaces, gathered, unjoined, fitting, afterFitting, notOverWide}
 
 pub numbered-append : (i : ℕ) (xs ys : List ℕ) → numbered i (xs ++ ys) ≡ numbered i xs ++ numbered (i + length xs) ys
 numbered-append i [] ys = let n : i + 0 ≡ i = omega arith in rw n

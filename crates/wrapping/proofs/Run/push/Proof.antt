@@ -1,8 +1,8 @@
--- `reflow::Run::push` meets its contract.
-use Rattle.reflow.proofs.RunLaws.{laws}
+-- `wrapping::Run::push` meets its contract.
+use Rattle.wrapping.proofs.RunLaws.{laws}
 use borrow.Author.Needs.{needs}
-use Rattle.reflow.proofs.Run.push.Statement.{statement}
-use Rattle.reflow.proofs.Run.push.Tie as tie
+use Rattle.wrapping.proofs.Run.push.Statement.{statement}
+use Rattle.wrapping.proofs.Run.push.Tie as tie
 
 add-width : tie.Need-add-width
 add-width c = search needs

@@ -1,11 +1,11 @@
--- `reflow::Run::after_fitting` meets its contract.
+-- `wrapping::Run::after_fitting` meets its contract.
 use Prim.Native.Nat.{_-_}
 use native.Mathlib.Omega.{arith}
 use borrow.Author.Needs.{needs, scaled-fits}
 use lib.ListN.{length}
-use Rattle.reflow.proofs.Fitting.{Dropping, dropping, dropping-ends}
-use Rattle.reflow.proofs.Run.after_fitting.Statement.{statement}
-use Rattle.reflow.proofs.Run.after_fitting.Tie as tie
+use Rattle.wrapping.proofs.Fitting.{Dropping, dropping, dropping-ends}
+use Rattle.wrapping.proofs.Run.after_fitting.Statement.{statement}
+use Rattle.wrapping.proofs.Run.after_fitting.Tie as tie
 
 abbrev Inv-loop : tie.InvT-loop
 Inv-loop records rule room end i₀ room₀ width₀ i room' width = Dropping rule records (record { first = i₀; end = end; width = width₀ }) room₀ room' i width

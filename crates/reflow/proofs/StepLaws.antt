@@ -7,50 +7,14 @@ use native.Mathlib.Omega.{arith}
 use borrow.Author.Tests.{eq-eqb, ne-eqb, le-leb, lt-leb, lt-ltb, le-ltb}
 use lib.Dec.{eqb, leb, ltb}
 use Rattle.text.specs.Record.{widthOf, whitespaceOf}
-use Rattle.reflow.specs.declared.Run.{Run}
-use Rattle.reflow.specs.declared.Rule.{Rule}
+use Rattle.wrapping.specs.declared.Run.{Run}
+use Rattle.wrapping.specs.declared.Rule.{Rule}
 use Rattle.reflow.specs.declared.Wrapper.{Wrapper}
 use Rattle.reflow.specs.declared.Stepped.{Stepped}
 use Rattle.reflow.specs.declared.Stepped.the-variants.{Emitted, Went}
 use Rattle.reflow.specs.declared.Next.the-variants.{Line, Done}
-use Rattle.reflow.specs.Runs.{emptyRun, appendRun, pushRun, dropRun, gatherRun, joinRun, overflowing, joins, joinedRun, fullRun, emptiedRun, passedRun, appendedRun, restRun, filledRun, stepRun, closedRun, finishRun}
-
-pub cond-cases : {A : Type 0} (P : A → Type 0) (b : Bool) (x y : A) → (b ≡ true → P x) → (b ≡ false → P y) → P (cond b x y)
-cond-cases P true x y f g = f refl
-cond-cases P false x y f g = g refl
-
--- ---- runs
-
-module _ (a b : Run) where
-  pub append-first : a .end ≡ 0 → b ≡ appendRun a b
-  unfolding appendRun
-  append-first h = simp (eq-eqb _ _ h)
-
-  pub append-second : (a .end ≡ 0 → ⊥) → b .end ≡ 0 → a ≡ appendRun a b
-  unfolding appendRun
-  append-second g h = simp (ne-eqb _ _ g, eq-eqb _ _ h)
-
-  pub append-both : (a .end ≡ 0 → ⊥) → (b .end ≡ 0 → ⊥) → record { first = a .first; end = b .end; width = a .width + b .width } ≡ appendRun a b
-  unfolding appendRun
-  append-both g h = simp (ne-eqb _ _ g, ne-eqb _ _ h)
-
-  pub append-width : (r : Run) → r ≡ appendRun a b → r .width ≤ a .width + b .width
-  unfolding appendRun
-  append-width r e =
-      rw e
-      (cond-cases Narrow (eqb (a .end) 0) _ _ (λ _. omega arith) (λ _. cond-cases Narrow (eqb (b .end) 0) _ _ (λ _. omega arith) (λ _. omega arith)))
-    where
-      Narrow : Run → Type 0
-      Narrow q = q .width ≤ a .width + b .width
-
-module _ (a : Run) (at w : ℕ) where
-  pub push-first : a .end ≡ 0 → record { first = at; end = at + 1; width = a .width + w } ≡ pushRun a at w
-  unfolding pushRun
-  push-first h = simp (eq-eqb _ _ h)
-
-  pub push-more : (a .end ≡ 0 → ⊥) → record { first = a .first; end = at + 1; width = a .width + w } ≡ pushRun a at w
-  unfolding pushRun
-  push-more h = simp (ne-eqb _ _ h)
+use Rattle.wrapping.specs.Runs.{emptyRun, appendRun, pushRun, dropRun}
+use Rattle.reflow.specs.Steps.{gatherRun, joinRun, overflowing, joins, joinedRun, fullRun, emptiedRun, passedRun, appendedRun, restRun, filledRun, stepRun, closedRun, finishRun}
 
 -- ---- step 2
 
@@ -200,5 +164,3 @@ module _ (u : Rule) (s next : Wrapper) (last none : Run) (p : last ≡ gatherRun
   pub finish-row : (last .end ≡ 0 → ⊥) → Line last next ≡ finishRun u s
   unfolding finishRun
   finish-row a = simp (← p, ne-eqb (last .end) 0 a, r)
-
-pub ruleset laws = (append-first, append-second, append-both, push-first, push-more, gather-word, gather-spaces, gather-row, join-is, over-word, over-spaces, over-both, joins-word, joins-over, joins-not, joined-yes, joined-no, full-row, full-all, full-not, emptied-is, passed-is, appended-space, appended-word, rest-dropped, rest-space, rest-word, filled-emits, filled-goes, step-wide, step-fills, closed-is, finish-done, finish-first, finish-spaces, finish-row)

@@ -9,11 +9,11 @@ use lib.ListN.{length, getD, take, drop-of-length-le}
 use lib.Seq.{slice, slice-cons, length-take-le}
 use Rattle.text.specs.Record.{widthOf}
 use Rattle.text.specs.Line.{Glyph, glyphFrom, numbered, total}
-use Rattle.reflow.specs.declared.Run.{Run}
-use Rattle.reflow.specs.declared.Rule.{Rule}
-use Rattle.reflow.specs.Wrapping.{afterFitting, overWide, notOverWide}
-use Rattle.reflow.specs.Runs.{emptyRun, endFrom, runOf, glyphsIn, dropRun}
-use Rattle.reflow.proofs.ListRuns.{run-width}
+use Rattle.wrapping.specs.declared.Run.{Run}
+use Rattle.wrapping.specs.declared.Rule.{Rule}
+use Rattle.wrapping.specs.Wrapping.{afterFitting, overWide, notOverWide}
+use Rattle.wrapping.specs.Runs.{emptyRun, endFrom, runOf, glyphsIn, dropRun}
+use Rattle.wrapping.proofs.ListRuns.{run-width}
 
 -- a run's glyphs from i on
 unfoldable pub glyphsFrom : Rule → List ℕ → Run → ℕ → List Glyph

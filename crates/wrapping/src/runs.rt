@@ -4,7 +4,7 @@ use crate::Run;
 ghost use mathlib.Core.Path.{_≡_};
 ghost use Prim.Native.Nat.{_+_, _^_, _≤_, _<_};
 ghost use lib.ListN.{length};
-ghost use Rattle.reflow.specs.Runs.{emptyRun, appendRun, pushRun, runOf, glyphsIn, dropRun};
+ghost use Rattle.wrapping.specs.Runs.{emptyRun, appendRun, pushRun, runOf, glyphsIn, dropRun};
 
 impl Run {
     pub fn empty() -> Run

@@ -1,49 +1,18 @@
--- What each method of the wrapper computes on runs of records. `Wrapping` has the rules on lists of glyphs; the laws in proofs/
--- show that the two agree.
+-- What each method of the wrapper computes on runs of records. The rules are on lists of glyphs (`Wrapping`, in the crate of that
+-- name); the laws in proofs/ show that the two agree.
 use Prim.Native.Nat.{ℕ, _+_, _-_}
 use mathlib.Core.Bool.{Bool, true, false, cond, not, _&&_, _||_}
-use mathlib.Core.List.{List, [], _∷_}
+use mathlib.Core.List.{List}
 use lib.Dec.{eqb, leb, ltb}
-use lib.Seq.{slice}
 use Rattle.text.specs.Record.{widthOf, whitespaceOf}
-use Rattle.text.specs.Line.{Glyph, numbered, total}
-use Rattle.reflow.specs.declared.Run.{Run}
-use Rattle.reflow.specs.declared.Rule.{Rule}
+use Rattle.wrapping.specs.declared.Run.{Run}
+use Rattle.wrapping.specs.declared.Rule.{Rule}
 use Rattle.reflow.specs.declared.Wrapper.{Wrapper}
 use Rattle.reflow.specs.declared.Stepped.{Stepped}
 use Rattle.reflow.specs.declared.Stepped.the-variants.{Emitted, Went}
 use Rattle.reflow.specs.declared.Next.{Next}
 use Rattle.reflow.specs.declared.Next.the-variants.{Line, Done}
-use Rattle.reflow.specs.Wrapping.{notOverWide, afterFitting}
-
-abbrev pub emptyRun : Run
-emptyRun = record { first = 0; end = 0; width = 0 }
-
--- one past the last of a list, e where it is empty
-abbrev pub endFrom : ℕ → List Glyph → ℕ
-endFrom e [] = e
-endFrom e (g ∷ gs) = endFrom (g .number + 1) gs
-
--- the run of a list: its first record, one past its last, its width
-abbrev pub runOf : List Glyph → Run
-runOf [] = emptyRun
-runOf (g ∷ gs) = record { first = g .number; end = endFrom (g .number + 1) gs; width = g .width + total gs }
-
--- the glyphs of a run of a text line's records
-unfoldable pub glyphsIn : Rule → List ℕ → Run → List Glyph
-glyphsIn u records a = notOverWide u (numbered (a .first) (slice (a .first) (a .end) records))
-
-unfoldable pub appendRun : Run → Run → Run
-appendRun a b =
-    cond (eqb (a .end) 0) b
-    (cond (eqb (b .end) 0) a (record { first = a .first; end = b .end; width = a .width + b .width }))
-
-unfoldable pub pushRun : Run → ℕ → ℕ → Run
-pushRun a at w =
-    record { first = cond (eqb (a .end) 0) at (a .first); end = at + 1; width = a .width + w }
-
-unfoldable pub dropRun : Rule → List ℕ → Run → ℕ → Run
-dropRun u records a room = runOf (afterFitting room (glyphsIn u records a))
+use Rattle.wrapping.specs.Runs.{emptyRun, appendRun, pushRun, dropRun}
 
 abbrev pub startRun : Rule → Wrapper
 startRun u =

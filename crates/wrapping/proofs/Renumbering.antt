@@ -6,9 +6,9 @@ use mathlib.Core.List.{List, [], _∷_, map, map-append}
 use native.Mathlib.Omega.{arith}
 use lib.Dec.{eqb, leb, ltb}
 use Rattle.text.specs.Line.{Glyph, numbered, total}
-use Rattle.reflow.specs.declared.Rule.{Rule}
-use Rattle.reflow.specs.Wrapping.{Pending, start, empty, Step, overWide, mustJoin, takesSpaces, gathered, joined, unjoined, full, fitting, afterFitting, emptied, drops, appended, emitting, filled, joining, step, lastLines, finish, Wrapped, wrapFrom, wrap}
-use Rattle.reflow.proofs.WholeLine.{last-is}
+use Rattle.wrapping.specs.declared.Rule.{Rule}
+use Rattle.wrapping.specs.Wrapping.{Pending, start, empty, Step, overWide, mustJoin, takesSpaces, gathered, joined, unjoined, full, fitting, afterFitting, emptied, drops, appended, emitting, filled, joining, step, lastLines, finish, Wrapped, wrapFrom, wrap}
+use Rattle.wrapping.proofs.LastLines.{last-is}
 
 pub cond-map : {A B : Type 0} (h : A → B) (b c : Bool) {x y : B} {x' y' : A} → b ≡ c → x ≡ h x' → y ≡ h y' → cond b x y ≡ h (cond c x' y')
 cond-map h b true p q r = rw p q

@@ -1,0 +1,6 @@
+pub mod RunLaws
+pub mod ListRuns
+pub mod Fitting
+pub mod Splits
+pub mod LastLines
+pub mod Renumbering
