@@ -1,8 +1,9 @@
 //! How long the proved archive takes, and beside it, on the same inputs, a plain Rust translation
 //! and the original Rust.
 //!
-//! Usage: `bench` for the tables; `bench ROW SIDE TIMES` to make so many calls of one side of a row
-//! (from 0, in the order of the table) at the largest size, for a tool that counts instructions.
+//! Usage: `bench` for the tables; `bench ROW` for the times of one row (from 0, in the order of the
+//! table), a list of the sides for each size; `bench ROW SIDE TIMES` to make so many calls of one
+//! side of a row at the largest size, for a tool that counts instructions.
 #![deny(unsafe_code)]
 
 mod composing;
@@ -32,18 +33,18 @@ mod widgets;
 use std::env;
 
 use report::Found;
-use rows::ROWS;
+use rows::{ROWS, Row};
 
 /// A busy minute spoils no row: each is timed in so many rounds.
 const ROUNDS: usize = 6;
 
-/// The least that any round found, of every row at every size.
-fn all_rounds() -> Vec<Found> {
+/// The least that any round found, of each row at every size.
+fn all_rounds(rows: &[Row]) -> Vec<Found> {
     let round = |_| -> Vec<Found> {
-        let sizes = |row: &rows::Row| {
+        let sizes = |row: &Row| {
             [0, 1, 2].map(|size| row.with_sides(size, |sides| sides.least(row.units(size))))
         };
-        ROWS.iter().map(sizes).collect()
+        rows.iter().map(sizes).collect()
     };
     let least = |mut all: Vec<Found>, one: Vec<Found>| {
         let times = |found: Vec<Found>| found.into_iter().flatten().flatten();
@@ -57,11 +58,16 @@ fn all_rounds() -> Vec<Found> {
 
 fn main() {
     let words: Vec<String> = env::args().skip(1).collect();
+    let whole = |word: &str| word.parse::<usize>().expect("a number");
     if let [row, side, times] = &words[..] {
-        let whole = |word: &str| word.parse::<usize>().expect("a number");
         return ROWS[whole(row)].with_sides(2, |sides| sides.only(side, whole(times)));
     }
-    let found = all_rounds();
+    if let [row] = &words[..] {
+        let row = &ROWS[whole(row)];
+        println!("{}: {:.2?}", row.name, all_rounds(std::slice::from_ref(row)));
+        return;
+    }
+    let found = all_rounds(&ROWS);
     println!("Nanoseconds a record, or a cell in the last row; the least of {ROUNDS} rounds.\n");
     report::print_times(&found);
     println!();
