@@ -5,16 +5,17 @@ mod word_wrapper;
 
 // How to wrap.
 pub struct Rule {
-    pub limit: u32,
+    pub limit: usize,
     pub trim: bool,
 }
 
 // Glyphs that follow one another in a text line, over-wide ones between them left out: the first record, one past the last, and
-// the sum of the widths. A run without a glyph ends at 0.
+// the sum of the widths. A run without a glyph ends at 0. All fields have the size of a register: with a shorter one the compiler
+// would copy the bytes between fields from state to state as well.
 pub struct Run {
     pub first: usize,
     pub end: usize,
-    pub width: u32,
+    pub width: usize,
 }
 
 // Where the wrapping of a text line stands. `at` is the record to be read next, `emitted` says that a line was, and `live` that
@@ -29,9 +30,10 @@ pub struct Wrapper {
     pub at: usize,
 }
 
-// What one glyph does: it emits a line, or none.
+// What one glyph does: it emits a line, or none. The state comes first in both, so that it lies in the same place and isn't moved
+// within the enum.
 pub enum Stepped {
-    Emitted(Run, Wrapper),
+    Emitted(Wrapper, Run),
     Went(Wrapper),
 }
 

@@ -13,7 +13,7 @@ ghost use Rattle.reflow.specs.Runs.{startRun, gatherRun, joinRun, overfl
 ghost use Rattle.reflow.specs.Pulls.{Sound, Pulled};
 
 // a less b, held at 0
-fn less(a: u32, b: u32) -> u32
+fn less(a: usize, b: usize) -> usize
     ensures { λ r. ⌜ r ≡ a - b ⌝ }
 {
     if a < b {
@@ -85,7 +85,7 @@ impl Wrapper {
     }
 
     // What waits, with a glyph of width w, would overflow an empty row.
-    fn overflows(self, rule: Rule, w: u32) -> bool
+    fn overflows(self, rule: Rule, w: usize) -> bool
         requires { ⌜ self .row .width + self .spaces .width + self .word .width + w < 2 ^ 32 ⌝ }
         ensures { λ r. ⌜ r ≡ overflowing rule self w ⌝ }
     {
@@ -96,7 +96,7 @@ impl Wrapper {
     }
 
     // Step 2's test.
-    fn must_join(self, rule: Rule, w: u32, space: bool) -> bool
+    fn must_join(self, rule: Rule, w: usize, space: bool) -> bool
         requires { ⌜ self .row .width + self .spaces .width + self .word .width + w < 2 ^ 32 ⌝ }
         ensures { λ r. ⌜ r ≡ joins rule self w space ⌝ }
     {
@@ -110,7 +110,7 @@ impl Wrapper {
     }
 
     // Step 2.
-    fn joined(self, rule: Rule, w: u32, space: bool) -> Wrapper
+    fn joined(self, rule: Rule, w: usize, space: bool) -> Wrapper
         requires { ⌜ self .row .width + self .spaces .width + self .word .width + w < 2 ^ 32 ⌝ }
         ensures { λ r. ⌜ r ≡ joinedRun rule self w space ⌝ }
     {
@@ -121,7 +121,7 @@ impl Wrapper {
     }
 
     // Step 3's test.
-    fn is_full(self, rule: Rule, w: u32) -> bool
+    fn is_full(self, rule: Rule, w: usize) -> bool
         requires { ⌜ self .row .width + self .spaces .width + self .word .width + w < 2 ^ 32 ⌝ }
         ensures { λ r. ⌜ r ≡ fullRun rule self w ⌝ }
     {
@@ -162,7 +162,7 @@ impl Wrapper {
     }
 
     // Step 4.
-    fn appended(self, w: u32, space: bool) -> Wrapper
+    fn appended(self, w: usize, space: bool) -> Wrapper
         requires { ⌜ (self .row .width + self .spaces .width + self .word .width + w < 2 ^ 32) × (self .at + 1 < 2 ^ 64) ⌝ }
         ensures { λ r. ⌜ r ≡ appendedRun self w space ⌝ }
     {
@@ -184,7 +184,7 @@ impl Wrapper {
     }
 
     // After an emit: a whitespace glyph is dropped where spaces is now empty.
-    fn rest(self, w: u32, space: bool) -> Wrapper
+    fn rest(self, w: usize, space: bool) -> Wrapper
         requires { ⌜ (self .row .width + self .spaces .width + self .word .width + w < 2 ^ 32) × (self .at + 1 < 2 ^ 64) ⌝ }
         ensures { λ r. ⌜ r ≡ restRun self w space ⌝ }
     {
@@ -198,7 +198,7 @@ impl Wrapper {
     }
 
     // Steps 3 and 4, for a glyph that isn't over-wide, after the join.
-    fn filled(self, rule: Rule, records: &[u32], w: u32, space: bool) -> Stepped
+    fn filled(self, rule: Rule, records: &[u32], w: usize, space: bool) -> Stepped
         requires { ⌜ Sound rule (now records) self ⌝ }
         requires { ⌜ (length (now records) < 2 ^ 28) × (self .at < length (now records)) × (w < 8) ⌝ }
         ensures { λ r. ⌜ r ≡ filledRun rule (now (records .entry)) self w space ⌝ }
@@ -206,7 +206,7 @@ impl Wrapper {
         let row = self.row;
         if self.is_full(rule, w) {
             let left = self.emptied(rule, records);
-            return Stepped::Emitted(row, left.rest(w, space));
+            return Stepped::Emitted(left.rest(w, space), row);
         }
         Stepped::Went(self.appended(w, space))
     }
@@ -219,7 +219,7 @@ impl Wrapper {
     {
         let at = self.at;
         let record = records[at];
-        let w = glyph::width(record);
+        let w = glyph::width(record) as usize;
         let space = glyph::is_whitespace(record);
         if rule.limit < w {
             return Stepped::Went(self.passed());
@@ -267,7 +267,7 @@ impl Wrapper {
             let mut wrapper = self;
             while wrapper.at < records.len() {
                 match wrapper.step(rule, records) {
-                    Stepped::Emitted(line, next) => {
+                    Stepped::Emitted(next, line) => {
                         return Next::Line(line, next);
                     }
                     Stepped::Went(next) => {
