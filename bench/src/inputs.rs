@@ -37,7 +37,7 @@ pub fn short_lines(records: usize, number: u32) -> Vec<u32> {
 /// The same text, its glyphs in all styles: sixteen records have the same.
 pub fn styled(text: &[u32]) -> Vec<u32> {
     let style = |number: u32, record: u32| {
-        if record == HEAD { record } else { record | number / 16 % STYLES }
+        if record == HEAD { record } else { record | (number / 16 % STYLES) }
     };
     (0..).zip(text).map(|(number, &record)| style(number, record)).collect()
 }

@@ -45,6 +45,10 @@ impl Run {
 
     /// What is left where glyphs are dropped from the front while each fits in `room` less those
     /// dropped.
+    #[expect(
+        clippy::needless_range_loop,
+        reason = "in the proved code it is so, and a zip is slower on words"
+    )]
     fn after_fitting(self, records: &[u32], rule: Rule, mut room: u32) -> Self {
         let mut width = self.width;
         for first in self.first..self.end {
