@@ -63,23 +63,23 @@ impl Run {
     {
         let end = self.end;
         let mut i = self.first;
-        let mut room = room;
-        let mut width = self.width;
+        let mut left = room;
         while i < end {
             let w = text::glyph::width(records[i]) as usize;
             if rule.limit < w {
                 i += 1;
                 continue;
             }
-            if room < w {
+            if left < w {
+                let dropped = room - left;
+                let width = self.width - dropped;
                 return Run {
                     first: i,
                     end,
                     width,
                 };
             }
-            room -= w;
-            width -= w;
+            left -= w;
             i += 1;
         }
         Run::empty()
