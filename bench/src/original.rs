@@ -5,6 +5,7 @@ macro_rules! original {
     ($name:ident, $widgets:ident, $core:ident) => {
         pub mod $name {
             use std::hint::black_box;
+            use $core::buffer::CellWidth;
             use $core::layout::Alignment;
             use $core::style::Style;
             use $core::text::StyledGrapheme;
@@ -47,6 +48,25 @@ macro_rules! original {
                     while let Some(line) = composer.next_line() {
                         black_box((line.graphemes, line.width));
                     }
+                }
+
+                /// What is timed of the tally: all lines are composed, and their glyphs counted by
+                /// width and start. The counts are lines, placed, clipped and zero-width.
+                #[inline(never)]
+                pub fn counts(&self, limit: u16, trim: bool) -> [u32; 4] {
+                    let mut counts = [0; 4];
+                    let mut composer = self.composer(limit, trim);
+                    while let Some(line) = composer.next_line() {
+                        counts[0] += 1;
+                        let mut start = 0;
+                        for grapheme in line.graphemes {
+                            let width = grapheme.symbol.cell_width();
+                            let kind = if width == 0 { 3 } else { 1 + usize::from(start >= limit) };
+                            counts[kind] += 1;
+                            start += width;
+                        }
+                    }
+                    counts
                 }
 
                 /// The entries that the lines come to, for comparison.

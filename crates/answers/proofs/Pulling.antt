@@ -6,8 +6,10 @@ use native.Mathlib.Omega.{arith}
 use mir.Val.{Fits}
 use mir.Syntax.{w32}
 use lib.ListN.{length}
+use lib.Seq.{slice, length-slice}
 use Rattle.text.specs.declared.Alignment.{Alignment}
 use Rattle.wrapping.specs.declared.Rule.{Rule}
+use Rattle.wrapping.proofs.ListRuns.{total-bound}
 use Rattle.compose.specs.declared.Composed.{Composed}
 use Rattle.compose.specs.declared.Composer.{Composer}
 use Rattle.compose.specs.declared.Pull.{Pull}
@@ -49,6 +51,17 @@ module _ (u : Rule) (column : ℕ) (own : Alignment) (text : List ℕ) (c : Comp
       pub end-fits : length text < 2 ^ 28 → line .end < 2 ^ 32
       end-fits h = omega (arith, told .within)
 
+      pub width-fits : length text < 2 ^ 28 → line .width < 2 ^ 32
+      unfolding lineAt composedOf
+      width-fits h =
+          omega (
+            arith,
+            ap (λ (x : Composed). x .width) (told .is),
+            total-bound u (line .first) (slice (line .first) (line .end) text),
+            length-slice (line .first) (line .end) text (told .within),
+            told .within,
+          )
+
       pub count-fits : length text < 2 ^ 28 → Fits w32 (count + 1)
       count-fits h = record { fits = omega (arith, k .counted, ap length left-is, lines-few u column own text) }
 
@@ -72,4 +85,4 @@ module _ (u : Rule) (column : ℕ) (own : Alignment) (text : List ℕ) (c : Comp
         let counted : count ≡ length (lines u (Truncated column) own text) = omega (arith, k .counted, ap length z) in
         cc
 
-pub ruleset pulling = (pulling-starts, first-fits, end-fits, count-fits, pulling-less, pulling-goes, pulling-ends)
+pub ruleset pulling = (pulling-starts, first-fits, end-fits, width-fits, count-fits, pulling-less, pulling-goes, pulling-ends)

@@ -50,7 +50,7 @@ fn truncated_lines(case: Case, text: &[u32]) -> Answer {
     }
     let own = case.own;
     let rule = Rule {
-        limit: case.limit as u32,
+        limit: case.limit as usize,
         trim: case.trim,
     };
     Answer::Sum(sums::sum_truncated(rule, case.column, own, text))

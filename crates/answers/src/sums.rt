@@ -30,13 +30,13 @@ pub fn sum_counts(counts: Counts) -> u32
 
 // The sum with what is told of one line more.
 fn with_line(sum: u32, line: Composed) -> u32
-    requires { ⌜ (line .first < 2 ^ 32) × (line .end < 2 ^ 32) ⌝ }
+    requires { ⌜ (line .first < 2 ^ 32) × (line .end < 2 ^ 32) × (line .width < 2 ^ 32) ⌝ }
     ensures { λ r. ⌜ r ≡ withLine sum line ⌝ }
 {
     let alignment = line.alignment;
     let first = with_number(sum, line.first as u32);
     let end = with_number(first, line.end as u32);
-    let width = with_number(end, line.width);
+    let width = with_number(end, line.width as u32);
     with_number(width, text::alignment_number(alignment))
 }
 

@@ -19,7 +19,7 @@ ghost use Rattle.compose.specs.Composing.{composedRun, Ready, Opened, St
 pub struct Composed {
     pub first: usize,
     pub end: usize,
-    pub width: u32,
+    pub width: usize,
     pub alignment: Alignment,
 }
 

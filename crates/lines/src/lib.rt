@@ -102,7 +102,7 @@ pub fn list_lines(text: &[u32], own: Alignment, limit: u16, trim: bool, list: &m
         return Listed::Refused(why);
     }
     let rule = Rule {
-        limit: limit as u32,
+        limit: limit as usize,
         trim,
     };
     let count = count_lines(rule, own, text);

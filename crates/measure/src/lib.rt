@@ -49,7 +49,7 @@ fn lines_at(wrap: Wrap, width: u16, text: &[u32]) -> usize
         return line::count_lines(text);
     };
     let rule = Rule {
-        limit: width as u32,
+        limit: width as usize,
         trim,
     };
     lines::count_lines(rule, Alignment::Left, text)

@@ -41,7 +41,7 @@ pub struct Notice {
 fn setting(notice: Notice, width: u16) -> Setting
     ensures { λ r. ⌜ r ≡ settingOf notice width ⌝ }
 {
-    let limit = width as u32;
+    let limit = width as usize;
     let own = notice.alignment;
     let style = notice.text_style;
     let scroll = notice.scroll;

@@ -134,7 +134,7 @@ module _ (u : Rule) (records : List ℕ) (s : Wrapper) where
           let r = rw f at stepping in
           omega (arith, r .2)
 
-      pub pulling-emits : (line : Run) (n : Wrapper) → o ≡ Emitted line n → Pulled u records s (Line line n)
+      pub pulling-emits : (line : Run) (n : Wrapper) → o ≡ Emitted n line → Pulled u records s (Line line n)
       unfolding pulled
       pulling-emits line n f =
           let r = rw f at stepping in

@@ -71,7 +71,7 @@ module _ (u : Rule) (records : List ℕ) (s : Wrapper) (t : Pending) (h : Shows 
 
 module _ (u : Rule) (records : List ℕ) (s : Wrapper) (t : Pending) (h : Shows u records s t) (g : Glyph) (in-text : s .at < length records)
     (e : g ≡ glyphFrom (s .at) (getD records (s .at) 0)) (o : overWide u g ≡ false) (f : g .whitespace ≡ true → t .word ≡ []) where
-  emit-matches : Matches u records s (Emitted (s .row) (restRun (emptiedRun u records s) (g .width) (g .whitespace))) (emitting u t g)
+  emit-matches : Matches u records s (Emitted (restRun (emptiedRun u records s) (g .width) (g .whitespace)) (s .row)) (emitting u t g)
   unfolding emptiedRun emptied emitting
   emit-matches =
       let r = rest-follows (emptiedRun u records s) (g .width) (g .whitespace) in
@@ -87,7 +87,7 @@ module _ (u : Rule) (records : List ℕ) (s : Wrapper) (t : Pending) (h : Shows 
   filled-matches = rw (full-is u records s t h g) (both (full u t g))
     where
       both : (b : Bool) → Matches u records s
-          (cond b (Emitted (s .row) (restRun (emptiedRun u records s) (g .width) (g .whitespace))) (Went (appendedRun s (g .width) (g .whitespace))))
+          (cond b (Emitted (restRun (emptiedRun u records s) (g .width) (g .whitespace)) (s .row)) (Went (appendedRun s (g .width) (g .whitespace))))
           (cond b (emitting u t g) (record { lines = []; dropped = []; pending = appended t g }))
       both true = emit-matches
       both false = record { lines = refl; read = tt; shows = appended-shows u records s t h g in-text e o f; follows = appended-follows s (g .width) (g .whitespace) }

@@ -125,7 +125,7 @@ module _ (s : Wrapper) (w : ℕ) (space : Bool) where
 
 module _ (u : Rule) (records : List ℕ) (s r : Wrapper) (w : ℕ) where
   module _ (space full : Bool) (p : full ≡ fullRun u s w) where
-    pub filled-emits : (left : Wrapper) → full ≡ true → left ≡ emptiedRun u records s → r ≡ restRun left w space → Emitted (s .row) r ≡ filledRun u records s w space
+    pub filled-emits : (left : Wrapper) → full ≡ true → left ≡ emptiedRun u records s → r ≡ restRun left w space → Emitted r (s .row) ≡ filledRun u records s w space
     unfolding filledRun
     filled-emits left q m n = simp (← p, q, n, m)
 

@@ -37,11 +37,11 @@ lineOf (Line line s) = line ∷ []
 lineOf Done = []
 
 abbrev pub emittedOf : Stepped → List Run
-emittedOf (Emitted line s) = line ∷ []
+emittedOf (Emitted s line) = line ∷ []
 emittedOf (Went s) = []
 
 abbrev pub nextOf : Stepped → Wrapper
-nextOf (Emitted line s) = s
+nextOf (Emitted s line) = s
 nextOf (Went s) = s
 
 -- the lines that are left, from a state, over the records that are left

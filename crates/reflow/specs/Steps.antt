@@ -113,7 +113,7 @@ restRun s w space = cond (space && eqb (s .spaces .end) 0) (passedRun s) (append
 
 unfoldable pub filledRun : Rule → List ℕ → Wrapper → ℕ → Bool → Stepped
 filledRun u records s w space =
-    cond (fullRun u s w) (Emitted (s .row) (restRun (emptiedRun u records s) w space)) (Went (appendedRun s w space))
+    cond (fullRun u s w) (Emitted (restRun (emptiedRun u records s) w space) (s .row)) (Went (appendedRun s w space))
 
 -- what the glyph with the record r does
 unfoldable pub stepRun : Rule → List ℕ → Wrapper → ℕ → Stepped

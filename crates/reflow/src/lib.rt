@@ -15,9 +15,10 @@ pub struct Wrapper {
     pub at: usize,
 }
 
-// What one glyph does: it emits a line, or none.
+// What one glyph does: it emits a line, or none. The state comes first in both, so that it lies in the same place and isn't moved
+// within the enum.
 pub enum Stepped {
-    Emitted(Run, Wrapper),
+    Emitted(Wrapper, Run),
     Went(Wrapper),
 }
 

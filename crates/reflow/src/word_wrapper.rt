@@ -14,7 +14,7 @@ ghost use Rattle.reflow.specs.Steps.{startRun, gatherRun, joinRun, overf
 ghost use Rattle.reflow.specs.Pulls.{Sound, Pulled};
 
 // a less b, held at 0
-fn less(a: u32, b: u32) -> u32
+fn less(a: usize, b: usize) -> usize
     ensures { λ r. ⌜ r ≡ a - b ⌝ }
 {
     if a < b {
@@ -86,7 +86,7 @@ impl Wrapper {
     }
 
     // What waits, with a glyph of width w, would overflow an empty row.
-    fn overflows(self, rule: Rule, w: u32) -> bool
+    fn overflows(self, rule: Rule, w: usize) -> bool
         requires { ⌜ self .row .width + self .spaces .width + self .word .width + w < 2 ^ 32 ⌝ }
         ensures { λ r. ⌜ r ≡ overflowing rule self w ⌝ }
     {
@@ -97,7 +97,7 @@ impl Wrapper {
     }
 
     // Step 2's test.
-    fn must_join(self, rule: Rule, w: u32, space: bool) -> bool
+    fn must_join(self, rule: Rule, w: usize, space: bool) -> bool
         requires { ⌜ self .row .width + self .spaces .width + self .word .width + w < 2 ^ 32 ⌝ }
         ensures { λ r. ⌜ r ≡ joins rule self w space ⌝ }
     {
@@ -111,7 +111,7 @@ impl Wrapper {
     }
 
     // Step 2.
-    fn joined(self, rule: Rule, w: u32, space: bool) -> Wrapper
+    fn joined(self, rule: Rule, w: usize, space: bool) -> Wrapper
         requires { ⌜ self .row .width + self .spaces .width + self .word .width + w < 2 ^ 32 ⌝ }
         ensures { λ r. ⌜ r ≡ joinedRun rule self w space ⌝ }
     {
@@ -122,7 +122,7 @@ impl Wrapper {
     }
 
     // Step 3's test.
-    fn is_full(self, rule: Rule, w: u32) -> bool
+    fn is_full(self, rule: Rule, w: usize) -> bool
         requires { ⌜ self .row .width + self .spaces .width + self .word .width + w < 2 ^ 32 ⌝ }
         ensures { λ r. ⌜ r ≡ fullRun rule self w ⌝ }
     {
@@ -163,7 +163,7 @@ impl Wrapper {
     }
 
     // Step 4.
-    fn appended(self, w: u32, space: bool) -> Wrapper
+    fn appended(self, w: usize, space: bool) -> Wrapper
         requires { ⌜ (self .row .width + self .spaces .width + self .word .width + w < 2 ^ 32) × (self .at + 1 < 2 ^ 64) ⌝ }
         ensures { λ r. ⌜ r ≡ appendedRun self w space ⌝ }
     {
@@ -185,7 +185,7 @@ impl Wrapper {
     }
 
     // After an emit: a whitespace glyph is dropped where spaces is now empty.
-    fn rest(self, w: u32, space: bool) -> Wrapper
+    fn rest(self, w: usize, space: bool) -> Wrapper
         requires { ⌜ (self .row .width + self .spaces .width + self .word .width + w < 2 ^ 32) × (self .at + 1 < 2 ^ 64) ⌝ }
         ensures { λ r. ⌜ r ≡ restRun self w space ⌝ }
     {
@@ -199,7 +199,7 @@ impl Wrapper {
     }
 
     // Steps 3 and 4, for a glyph that isn't over-wide, after the join.
-    fn filled(self, rule: Rule, records: &[u32], w: u32, space: bool) -> Stepped
+    fn filled(self, rule: Rule, records: &[u32], w: usize, space: bool) -> Stepped
         requires { ⌜ Sound rule (now records) self ⌝ }
         requires { ⌜ (length (now records) < 2 ^ 28) × (self .at < length (now records)) × (w < 8) ⌝ }
         ensures { λ r. ⌜ r ≡ filledRun rule (now (records .entry)) self w space ⌝ }
@@ -207,7 +207,7 @@ impl Wrapper {
         let row = self.row;
         if self.is_full(rule, w) {
             let left = self.emptied(rule, records);
-            return Stepped::Emitted(row, left.rest(w, space));
+            return Stepped::Emitted(left.rest(w, space), row);
         }
         Stepped::Went(self.appended(w, space))
     }
@@ -220,7 +220,7 @@ impl Wrapper {
     {
         let at = self.at;
         let record = records[at];
-        let w = glyph::width(record);
+        let w = glyph::width(record) as usize;
         let space = glyph::is_whitespace(record);
         if rule.limit < w {
             return Stepped::Went(self.passed());
@@ -268,7 +268,7 @@ impl Wrapper {
             let mut wrapper = self;
             while wrapper.at < records.len() {
                 match wrapper.step(rule, records) {
-                    Stepped::Emitted(line, next) => {
+                    Stepped::Emitted(next, line) => {
                         return Next::Line(line, next);
                     }
                     Stepped::Went(next) => {

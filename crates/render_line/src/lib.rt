@@ -63,7 +63,7 @@ fn write_glyphs(row: &mut [u64], styles: &[u64], style: u8, rule: Rule, records:
     let mut i = 0;
     while i < records.len() {
         let word = records[i];
-        let width = glyph::width(word);
+        let width = glyph::width(word) as usize;
         i += 1;
         if rule.limit < width {
             continue;
@@ -77,7 +77,7 @@ fn write_glyphs(row: &mut [u64], styles: &[u64], style: u8, rule: Rule, records:
         } else {
             clipped += 1;
         }
-        column += width as usize;
+        column += width;
     }
     Glyphs { placed, clipped }
 }
@@ -100,6 +100,6 @@ pub fn draw_line(
     let first = line.first;
     let end = line.end;
     let alignment = line.alignment;
-    let start = line_offset(alignment, row.len(), line.width as usize);
+    let start = line_offset(alignment, row.len(), line.width);
     write_glyphs(&mut row[start..], styles, style, rule, &text[first..end])
 }

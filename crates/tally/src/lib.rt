@@ -54,7 +54,7 @@ pub fn tally(text: &[u32], limit: u16, trim: bool) -> Tallied
         return Tallied::Refused(why);
     }
     let rule = Rule {
-        limit: limit as u32,
+        limit: limit as usize,
         trim,
     };
     Tallied::Counted(tallying::text_counts(rule, text))

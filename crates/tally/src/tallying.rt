@@ -34,7 +34,7 @@ impl LineCounts {
     }
 
     // One more glyph, of width w, that starts at `column`.
-    fn with_glyph(self, limit: u32, column: u32, w: u32) -> LineCounts
+    fn with_glyph(self, limit: usize, column: usize, w: usize) -> LineCounts
         requires { ⌜ self .placed + self .clipped + self .«zero_width» + 1 < 2 ^ 32 ⌝ }
         ensures { λ r. ⌜ r ≡ withGlyph limit self column w ⌝ }
     {
@@ -75,7 +75,7 @@ fn one_line_counts(rule: Rule, text: &[u32], line: Composed) -> LineCounts
     let mut column = 0;
     let mut i = line.first;
     while i < end {
-        let w = glyph::width(text[i]);
+        let w = glyph::width(text[i]) as usize;
         i += 1;
         if rule.limit < w {
             continue;
@@ -117,7 +117,7 @@ fn glyph_counts(rule: Rule, text: &[u32]) -> GlyphCounts
             continue;
         }
         glyphs += 1;
-        if rule.limit < glyph::width(glyph_or_head) {
+        if rule.limit < glyph::width(glyph_or_head) as usize {
             over_wide += 1;
         }
     }

@@ -23,7 +23,7 @@ fn offset(column: u32, alignment: Alignment) -> u32
 }
 
 // The glyphs of a text line that are shown, where the offset swallows those before them.
-fn shown(rule: Rule, offset: u32, records: &[u32]) -> Run
+fn shown(rule: Rule, offset: usize, records: &[u32]) -> Run
     requires { ⌜ length (now records) < 2 ^ 28 ⌝ }
     ensures { λ r. ⌜ r ≡ runOf (shownFrom rule offset 0 (numbered 0 (now (records .entry)))) ⌝ }
 {
@@ -32,7 +32,7 @@ fn shown(rule: Rule, offset: u32, records: &[u32]) -> Run
     let mut i = 0;
     while i < records.len() {
         let at = i;
-        let w = glyph::width(records[at]);
+        let w = glyph::width(records[at]) as usize;
         i += 1;
         if rule.limit < w {
             continue;
@@ -55,6 +55,6 @@ pub fn line(rule: Rule, column: u32, alignment: Alignment, records: &[u32]) -> R
     requires { ⌜ length (now records) < 2 ^ 28 ⌝ }
     ensures { λ r. ⌜ r ≡ runOf (shownFrom rule (offsetOf column alignment) 0 (numbered 0 (now (records .entry)))) ⌝ }
 {
-    let taken = offset(column, alignment);
+    let taken = offset(column, alignment) as usize;
     shown(rule, taken, records)
 }

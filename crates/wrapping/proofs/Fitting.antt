@@ -19,10 +19,11 @@ use Rattle.wrapping.proofs.ListRuns.{run-width}
 unfoldable pub glyphsFrom : Rule → List ℕ → Run → ℕ → List Glyph
 glyphsFrom u records a i = notOverWide u (numbered i (slice i (a .end) records))
 
-pub record Dropping (u : Rule) (records : List ℕ) (a : Run) (room₀ room i width : ℕ) : Type 0 where
+pub record Dropping (u : Rule) (records : List ℕ) (a : Run) (room₀ room i : ℕ) : Type 0 where
   pub within : a .end ≤ length records
   pub same : afterFitting room₀ (glyphsIn u records a) ≡ afterFitting room (glyphsFrom u records a i)
-  pub sum : width ≡ total (glyphsFrom u records a i)
+  pub less : room ≤ room₀
+  pub sum : a .width ≡ (room₀ - room) + total (glyphsFrom u records a i)
   pub last : endFrom (a .end) (glyphsFrom u records a i) ≡ a .end
 
 run-end : (l : List Glyph) (a : Run) → a ≡ runOf l → endFrom (a .end) l ≡ a .end
@@ -34,11 +35,12 @@ end-again e d [] h = refl
 end-again e d (g ∷ l) h = h
 
 module _ (u : Rule) (records : List ℕ) (a : Run) where
-  pub dropping-starts : (room : ℕ) → a .end ≤ length records → a ≡ runOf (glyphsIn u records a) → Dropping u records a room room (a .first) (a .width)
+  pub dropping-starts : (room : ℕ) → a .end ≤ length records → a ≡ runOf (glyphsIn u records a) → Dropping u records a room room (a .first)
   unfolding glyphsIn glyphsFrom
   dropping-starts room k e =
       let l = glyphsIn u records a in
-      record { within = k; same = refl; sum = ap (λ (r : Run). r .width) e ∙ run-width l; last = run-end l a e }
+      let v : a .width ≡ total l = ap (λ (r : Run). r .width) e ∙ run-width l in
+      record { within = k; same = refl; less = omega arith; sum = omega (arith, v); last = run-end l a e }
 
   from-end : (i : ℕ) → a .end ≤ length records → a .end ≤ i → glyphsFrom u records a i ≡ []
   unfolding glyphsFrom
@@ -46,7 +48,7 @@ module _ (u : Rule) (records : List ℕ) (a : Run) where
       let l : length (take (a .end) records) ≤ i = simp (length-take-le (a .end) records k) h in
       rw (drop-of-length-le (take (a .end) records) l)
 
-  module _ (room₀ room i width : ℕ) (d : Dropping u records a room₀ room i width) where
+  module _ (room₀ room i : ℕ) (d : Dropping u records a room₀ room i) where
     pub dropping-ends : (r : Run) → a .end ≤ i → r ≡ emptyRun → r ≡ dropRun u records a room₀
     unfolding dropRun
     dropping-ends r h e =
@@ -61,39 +63,40 @@ module _ (u : Rule) (records : List ℕ) (a : Run) where
       unfolding glyphsFrom
       read = rw (slice-cons i (a .end) records 0 h (d .within))
 
-      pub dropping-skips : u .limit < w → Dropping u records a room₀ room (i + 1) width
+      pub dropping-skips : u .limit < w → Dropping u records a room₀ room (i + 1)
       unfolding overWide glyphsFrom
       dropping-skips o =
           let s : glyphsFrom u records a i ≡ glyphsFrom u records a (i + 1) = read ∙ rw (← e, lt-ltb (u .limit) w o, add-one i) in
-          record { within = d .within; same = rw s at (d .same); sum = rw s at (d .sum); last = rw s at (d .last) }
+          record { within = d .within; same = rw s at (d .same); less = d .less; sum = rw s at (d .sum); last = rw s at (d .last) }
 
       module _ (o : w ≤ u .limit) where
         keeps : glyphsFrom u records a i ≡ glyph ∷ glyphsFrom u records a (i + 1)
         unfolding overWide glyphsFrom
         keeps = read ∙ rw (← e, le-ltb (u .limit) w o, add-one i)
 
-        sum-later : width ≡ w + total (glyphsFrom u records a (i + 1))
-        sum-later = d .sum ∙ ap total keeps ∙ rw e
+        sum-later : a .width ≡ (room₀ - room) + (w + total (glyphsFrom u records a (i + 1)))
+        sum-later = d .sum ∙ ap (λ (n : ℕ). (room₀ - room) + n) (ap total keeps ∙ rw e)
 
-        pub dropping-enough : w ≤ width
+        pub dropping-enough : room₀ - room ≤ a .width
         dropping-enough = omega (arith, sum-later)
 
-        pub dropping-goes : w ≤ room → Dropping u records a room₀ (room - w) (i + 1) (width - w)
+        pub dropping-goes : w ≤ room → Dropping u records a room₀ (room - w) (i + 1)
         dropping-goes f =
             record {
               within = d .within;
               same = d .same ∙ ap (afterFitting room) keeps ∙ rw (← e, le-leb w room f);
-              sum = omega (arith, sum-later);
+              less = omega (arith, d .less);
+              sum = omega (arith, sum-later, d .less);
               last = end-again (a .end) (i + 1) (glyphsFrom u records a (i + 1)) (rw keeps at (d .last));
             }
 
-        pub dropping-stops : room < w → record { first = i; end = a .end; width = width } ≡ dropRun u records a room₀
+        pub dropping-stops : room < w → record { first = i; end = a .end; width = a .width - (room₀ - room) } ≡ dropRun u records a room₀
         unfolding dropRun
         dropping-stops f =
             let q : afterFitting room₀ (glyphsIn u records a) ≡ glyph ∷ glyphsFrom u records a (i + 1)
             = d .same ∙ ap (afterFitting room) keeps ∙ rw (← e, lt-leb w room f) in
             let l : endFrom (i + 1) (glyphsFrom u records a (i + 1)) ≡ a .end = rw keeps at (d .last) in
-            let v : width ≡ widthOf (getD records i 0) + total (glyphsFrom u records a (i + 1)) = omega (arith, sum-later) in
+            let v : a .width - (room₀ - room) ≡ widthOf (getD records i 0) + total (glyphsFrom u records a (i + 1)) = omega (arith, sum-later) in
             rw q (cc)
 
 pub ruleset dropping = (dropping-starts, dropping-ends, dropping-skips, dropping-enough, dropping-goes, dropping-stops)

@@ -36,7 +36,7 @@ impl Run {
     }
 
     // This run and then the record at `at`, w cells wide.
-    pub fn push(self, at: usize, w: u32) -> Run
+    pub fn push(self, at: usize, w: usize) -> Run
         requires { ⌜ (self .width + w < 2 ^ 32) × (at + 1 < 2 ^ 64) ⌝ }
         ensures { λ r. ⌜ r ≡ pushRun self at w ⌝ }
     {
@@ -57,29 +57,29 @@ impl Run {
     }
 
     // What is left where glyphs are dropped from the front while each fits in `room` less those dropped.
-    pub fn after_fitting(self, records: &[u32], rule: Rule, room: u32) -> Run
+    pub fn after_fitting(self, records: &[u32], rule: Rule, room: usize) -> Run
         requires { ⌜ (self .end ≤ length (now records)) × (self ≡ runOf (glyphsIn rule (now records) self)) ⌝ }
         ensures { λ r. ⌜ r ≡ dropRun rule (now (records .entry)) self room ⌝ }
     {
         let end = self.end;
         let mut i = self.first;
-        let mut room = room;
-        let mut width = self.width;
+        let mut left = room;
         while i < end {
-            let w = text::glyph::width(records[i]);
+            let w = text::glyph::width(records[i]) as usize;
             if rule.limit < w {
                 i += 1;
                 continue;
             }
-            if room < w {
+            if left < w {
+                let dropped = room - left;
+                let width = self.width - dropped;
                 return Run {
                     first: i,
                     end,
                     width,
                 };
             }
-            room -= w;
-            width -= w;
+            left -= w;
             i += 1;
         }
         Run::empty()

@@ -15,9 +15,6 @@ mul-result-2 c = search needs
 add-result : tie.Need-add-result
 add-result c = search needs
 
-cast-result : tie.Need-cast-result
-cast-result c = search needs
-
 mul-result-3 : tie.Need-mul-result-3
 mul-result-3 c = search needs
 
@@ -27,14 +24,14 @@ add-result-2 c = search needs
 alignment-number-requires : tie.Need-alignment-number-requires
 alignment-number-requires c κs = search needs
 
-cast-result-2 : tie.Need-cast-result-2
-cast-result-2 c = search needs
+cast-result : tie.Need-cast-result
+cast-result c = search needs
 
 mul-result-4 : tie.Need-mul-result-4
 mul-result-4 c = search needs
 
 add-result-3 : tie.Need-add-result-3
-add-result-3 c = omega (arith, alignment-small (c .alignment-number .result) (c .before .before .args .line .alignment) (c .alignment-number .ensures))
+add-result-3 c = omega (arith, alignment-small (c .alignment-number .result) (c .before .args .line .alignment) (c .alignment-number .ensures))
 
 returns : tie.Need-returns
 unfolding packed
@@ -47,11 +44,10 @@ pack-spec =
     mul-result
     mul-result-2
     add-result
-    cast-result
     mul-result-3
     add-result-2
     alignment-number-requires
-    cast-result-2
+    cast-result
     mul-result-4
     add-result-3
     returns)

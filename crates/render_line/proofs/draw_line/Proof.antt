@@ -4,9 +4,6 @@ use borrow.Author.Needs.{needs}
 use Rattle.render_line.proofs.draw_line.Statement.{statement}
 use Rattle.render_line.proofs.draw_line.Tie as tie
 
-cast-line-offset : tie.Need-cast-line-offset
-cast-line-offset c = search needs
-
 line-offset-requires : tie.Need-line-offset-requires
 line-offset-requires c κs = search needs
 
@@ -47,7 +44,6 @@ pub draw-line-spec : {M : Type 1} → statement M
 draw-line-spec =
     tie.close
     (tie.spec
-    cast-line-offset
     line-offset-requires
     mul-write-glyphs
     sub-write-glyphs

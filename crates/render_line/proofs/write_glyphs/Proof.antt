@@ -25,6 +25,9 @@ shared-slice-read-word c = search needs
 width-requires : tie.Need-width-requires Inv-loop μ-loop
 width-requires c κs = search needs
 
+cast-width : tie.Need-cast-width Inv-loop μ-loop
+cast-width c = search needs
+
 add-i : tie.Need-add-i Inv-loop μ-loop
 add-i c = search needs
 
@@ -48,9 +51,6 @@ add-placed c = search needs
 
 add-clipped : tie.Need-add-clipped Inv-loop μ-loop
 add-clipped c = search needs
-
-cast-column : tie.Need-cast-column Inv-loop μ-loop
-cast-column c = search needs
 
 add-column : tie.Need-add-column Inv-loop μ-loop
 add-column c = search needs
@@ -85,6 +85,7 @@ write-glyphs-spec =
     mul-word
     shared-slice-read-word
     width-requires
+    cast-width
     add-i
     loop-less
     loop-again
@@ -93,7 +94,6 @@ write-glyphs-spec =
     write-glyph-requires
     add-placed
     add-clipped
-    cast-column
     add-column
     loop-less-3
     loop-again-3

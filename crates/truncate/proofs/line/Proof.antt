@@ -6,6 +6,9 @@ use Rattle.truncate.proofs.line.Tie as tie
 offset-requires : tie.Need-offset-requires
 offset-requires c κs = search needs
 
+cast-taken : tie.Need-cast-taken
+cast-taken c = search needs
+
 shown-requires : tie.Need-shown-requires
 shown-requires c κs = search needs
 
@@ -13,4 +16,4 @@ returns : tie.Need-returns
 returns c = cc
 
 pub line-spec : {M : Type 1} → statement M
-line-spec = tie.close (tie.spec offset-requires shown-requires returns)
+line-spec = tie.close (tie.spec offset-requires cast-taken shown-requires returns)

@@ -16,6 +16,9 @@ cast-with-number-2 c = search needs
 with-number-requires-2 : tie.Need-with-number-requires-2
 with-number-requires-2 c κs = search needs
 
+cast-with-number-3 : tie.Need-cast-with-number-3
+cast-with-number-3 c = search needs
+
 with-number-requires-3 : tie.Need-with-number-requires-3
 with-number-requires-3 c κs = search needs
 
@@ -36,6 +39,7 @@ with-line-spec =
     with-number-requires
     cast-with-number-2
     with-number-requires-2
+    cast-with-number-3
     with-number-requires-3
     alignment-number-requires
     with-number-requires-4

@@ -19,14 +19,14 @@ loop-holds c = search pulling
 step-requires : tie.Need-step-requires Inv-loop μ-loop
 step-requires c κs = search needs
 
-enum-known-line : tie.Need-enum-known-line Inv-loop μ-loop
-enum-known-line c = search needs
+enum-known-next : tie.Need-enum-known-next Inv-loop μ-loop
+enum-known-next c = search needs
 
 returns : tie.Need-returns Inv-loop μ-loop
 returns c = search pulling
 
-enum-known-next : tie.Need-enum-known-next Inv-loop μ-loop
-enum-known-next c = search needs
+enum-known-next-2 : tie.Need-enum-known-next-2 Inv-loop μ-loop
+enum-known-next-2 c = search needs
 
 loop-less : tie.Need-loop-less Inv-loop μ-loop
 loop-less c = search pulling
@@ -51,9 +51,9 @@ next-line-spec =
     μ-loop
     loop-holds
     step-requires
-    enum-known-line
-    returns
     enum-known-next
+    returns
+    enum-known-next-2
     loop-less
     loop-again
     finish-requires

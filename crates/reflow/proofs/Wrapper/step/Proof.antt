@@ -15,6 +15,9 @@ shared-slice-read-record c = search needs
 width-requires : tie.Need-width-requires
 width-requires c κs = search needs
 
+cast-w : tie.Need-cast-w
+cast-w c = search needs
+
 is-whitespace-requires : tie.Need-is-whitespace-requires
 is-whitespace-requires c κs = search needs
 
@@ -40,6 +43,7 @@ step-spec =
     mul-record
     shared-slice-read-record
     width-requires
+    cast-w
     is-whitespace-requires
     passed-requires
     returns

@@ -39,6 +39,9 @@ add-glyphs c = search needs
 width-requires : tie.Need-width-requires Inv-loop μ-loop
 width-requires c κs = search needs
 
+cast-if2 : tie.Need-cast-if2 Inv-loop μ-loop
+cast-if2 c = search needs
+
 add-over-wide : tie.Need-add-over-wide Inv-loop μ-loop
 add-over-wide c = search needs
 
@@ -72,6 +75,7 @@ glyph-counts-spec =
     loop-again
     add-glyphs
     width-requires
+    cast-if2
     add-over-wide
     loop-less-2
     loop-again-2

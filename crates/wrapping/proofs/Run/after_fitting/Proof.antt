@@ -8,10 +8,10 @@ use Rattle.wrapping.proofs.Run.after_fitting.Statement.{statement}
 use Rattle.wrapping.proofs.Run.after_fitting.Tie as tie
 
 abbrev Inv-loop : tie.InvT-loop
-Inv-loop records rule room end i₀ room₀ width₀ i room' width = Dropping rule records (record { first = i₀; end = end; width = width₀ }) room₀ room' i width
+Inv-loop self records rule room end i₀ left₀ i left = Dropping rule records self room left i
 
 abbrev μ-loop : tie.MeasureT-loop
-μ-loop records rule room end i₀ room₀ width₀ i room' width = end - i
+μ-loop self records rule room end i₀ left₀ i left = self .end - i
 
 loop-holds : tie.Need-loop-holds Inv-loop μ-loop
 loop-holds c = search dropping
@@ -25,6 +25,9 @@ shared-slice-read-width c = omega arith
 width-requires : tie.Need-width-requires Inv-loop μ-loop
 width-requires c κs = search needs
 
+cast-w : tie.Need-cast-w Inv-loop μ-loop
+cast-w c = search needs
+
 add-i : tie.Need-add-i Inv-loop μ-loop
 add-i c = omega arith
 
@@ -34,11 +37,14 @@ loop-less c = omega arith
 loop-again : tie.Need-loop-again Inv-loop μ-loop
 loop-again c = search dropping
 
-returns : tie.Need-returns Inv-loop μ-loop
-returns c = search dropping
+sub-dropped : tie.Need-sub-dropped Inv-loop μ-loop
+sub-dropped c = search dropping
 
 sub-width : tie.Need-sub-width Inv-loop μ-loop
 sub-width c = search dropping
+
+returns : tie.Need-returns Inv-loop μ-loop
+returns c = search dropping
 
 add-i-2 : tie.Need-add-i-2 Inv-loop μ-loop
 add-i-2 c = omega arith
@@ -53,7 +59,7 @@ empty-requires : tie.Need-empty-requires Inv-loop μ-loop
 empty-requires c κs = search needs
 
 returns-2 : tie.Need-returns-2 Inv-loop μ-loop
-returns-2 c = dropping-ends _ _ _ _ _ _ _ (c .before .before .loop .inv) _ (omega arith) (search needs)
+returns-2 c = dropping-ends _ _ _ _ _ _ (c .before .before .loop .inv) _ (omega arith) (search needs)
 
 pub after-fitting-spec : {M : Type 1} → statement M
 after-fitting-spec =
@@ -65,11 +71,13 @@ after-fitting-spec =
     mul-width
     shared-slice-read-width
     width-requires
+    cast-w
     add-i
     loop-less
     loop-again
-    returns
+    sub-dropped
     sub-width
+    returns
     add-i-2
     loop-less-2
     loop-again-2

@@ -1,0 +1,198 @@
+//! The lines of one text line, wrapped: what waits is held as runs of records.
+
+use crate::text::glyph;
+
+/// How to wrap.
+#[derive(Clone, Copy)]
+pub struct Rule {
+    pub limit: u32,
+    pub trim: bool,
+}
+
+/// Glyphs that follow one another in a text line, over-wide ones between them left out: the first
+/// record, one past the last, and the sum of the widths. A run without a glyph ends at 0.
+#[derive(Clone, Copy, Default)]
+pub struct Run {
+    pub first: usize,
+    pub end: usize,
+    pub width: u32,
+}
+
+impl Run {
+    pub fn is_empty(&self) -> bool {
+        self.end == 0
+    }
+
+    /// This run and then the other.
+    fn append(self, other: Self) -> Self {
+        if self.is_empty() {
+            return other;
+        }
+        if other.is_empty() {
+            return self;
+        }
+        Self { first: self.first, end: other.end, width: self.width + other.width }
+    }
+
+    /// Adds the record at `at`, so many cells wide.
+    pub fn push(&mut self, at: usize, width: u32) {
+        if self.is_empty() {
+            self.first = at;
+        }
+        self.end = at + 1;
+        self.width += width;
+    }
+
+    /// What is left where glyphs are dropped from the front while each fits in `room` less those
+    /// dropped.
+    #[expect(
+        clippy::needless_range_loop,
+        reason = "in the proved code it is so, and a zip is slower on words"
+    )]
+    fn after_fitting(self, records: &[u32], rule: Rule, mut room: u32) -> Self {
+        let mut width = self.width;
+        for first in self.first..self.end {
+            let glyph_width = glyph::width(records[first]);
+            if glyph_width > rule.limit {
+                continue;
+            }
+            if glyph_width > room {
+                return Self { first, width, ..self };
+            }
+            room -= glyph_width;
+            width -= glyph_width;
+        }
+        Self::default()
+    }
+}
+
+/// Where the wrapping of a text line stands.
+pub struct Wrapper {
+    row: Run,
+    spaces: Run,
+    word: Run,
+    solid: bool,
+    emitted: bool,
+    live: bool,
+    at: usize,
+}
+
+impl Wrapper {
+    /// Before a text line's first glyph. Limit 0 gives no line.
+    pub fn start(rule: Rule) -> Self {
+        Self { live: rule.limit != 0, ..Self::closed() }
+    }
+
+    /// No line is left.
+    pub fn closed() -> Self {
+        let none = Run::default();
+        Self {
+            row: none,
+            spaces: none,
+            word: none,
+            solid: false,
+            emitted: false,
+            live: false,
+            at: 0,
+        }
+    }
+
+    /// Whether a line may be left; none is after this question.
+    pub fn close(&mut self) -> bool {
+        std::mem::take(&mut self.live)
+    }
+
+    /// Row, then spaces if row isn't empty or trim is off, then word.
+    fn gathered(&self, trim: bool) -> Run {
+        if self.row.is_empty() && trim {
+            return self.word;
+        }
+        self.row.append(self.spaces).append(self.word)
+    }
+
+    /// Step 2's test.
+    fn must_join(&self, rule: Rule, width: u32, space: bool) -> bool {
+        if space && self.solid {
+            return true;
+        }
+        if !self.row.is_empty() {
+            return false;
+        }
+        if rule.trim {
+            self.word.width + width > rule.limit || self.spaces.width + width > rule.limit
+        } else {
+            self.word.width + self.spaces.width + width > rule.limit
+        }
+    }
+
+    /// Step 2.
+    fn join(&mut self, trim: bool) {
+        self.row = self.gathered(trim);
+        self.spaces = Run::default();
+        self.word = Run::default();
+    }
+
+    /// Step 3's test.
+    fn is_full(&self, rule: Rule, width: u32) -> bool {
+        self.row.width >= rule.limit
+            || width > 0 && self.row.width + self.spaces.width + self.word.width >= rule.limit
+    }
+
+    /// Step 3: the row is emitted, and spaces are dropped while they fit where it ended.
+    fn emit(&mut self, rule: Rule, records: &[u32]) -> Run {
+        let line = std::mem::take(&mut self.row);
+        let room = rule.limit.saturating_sub(line.width);
+        self.spaces = self.spaces.after_fitting(records, rule, room);
+        self.emitted = true;
+        line
+    }
+
+    /// Step 4.
+    fn append(&mut self, width: u32, space: bool) {
+        let run = if space { &mut self.spaces } else { &mut self.word };
+        run.push(self.at, width);
+        self.solid = !space;
+    }
+
+    /// What the glyph at the state's place does: it emits a line, or none.
+    fn step(&mut self, rule: Rule, records: &[u32], record: u32) -> Option<Run> {
+        let width = glyph::width(record);
+        let space = glyph::is_whitespace(record);
+        if width > rule.limit {
+            self.at += 1;
+            return None;
+        }
+        if self.must_join(rule, width, space) {
+            self.join(rule.trim);
+        }
+        let line = self.is_full(rule, width).then(|| self.emit(rule, records));
+        let dropped = line.is_some() && space && self.spaces.is_empty();
+        if !dropped {
+            self.append(width, space);
+        }
+        self.at += 1;
+        line
+    }
+
+    /// The line's end.
+    fn finish(&mut self, rule: Rule) -> Option<Run> {
+        self.live = false;
+        let last = self.gathered(rule.trim);
+        let none = last.is_empty() && self.spaces.is_empty() && self.emitted;
+        (!none).then_some(last)
+    }
+
+    /// The next line of the text line whose records are handed on, or none.
+    pub fn next_line(&mut self, rule: Rule, records: &[u32]) -> Option<Run> {
+        if !self.live {
+            return None;
+        }
+        while let Some(&record) = records.get(self.at) {
+            let line = self.step(rule, records, record);
+            if line.is_some() {
+                return line;
+            }
+        }
+        self.finish(rule)
+    }
+}

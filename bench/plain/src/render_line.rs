@@ -1,0 +1,55 @@
+//! One composed line on a row of the text's area.
+
+use crate::buffer::style_at;
+use crate::cell;
+use crate::compose::Composed;
+use crate::reflow::Rule;
+use crate::text::{Alignment, glyph};
+
+/// How many glyphs are placed, and how many are clipped.
+pub struct Glyphs {
+    pub placed: u32,
+    pub clipped: u32,
+}
+
+fn line_offset(alignment: Alignment, area: usize, line: usize) -> usize {
+    match alignment {
+        Alignment::Left => 0,
+        Alignment::Center => (area / 2).saturating_sub(line / 2),
+        Alignment::Right => area.saturating_sub(line),
+    }
+}
+
+/// The cell with a glyph written in it: the symbol, then the text style, then its own style.
+fn write_glyph(styles: &[u64], style: u8, word: u32, cell: u64) -> u64 {
+    let written = cell::set_symbol(glyph::symbol(word), cell);
+    let text_styled = cell::apply_style(style_at(styles, style), written);
+    cell::apply_style(style_at(styles, glyph::style(word)), text_styled)
+}
+
+/// Draws a composed line on a row of the area.
+pub fn draw_line(
+    row: &mut [u64],
+    styles: &[u64],
+    style: u8,
+    rule: Rule,
+    text: &[u32],
+    line: Composed,
+) -> Glyphs {
+    let mut column = line_offset(line.alignment, row.len(), line.width as usize);
+    let mut counts = Glyphs { placed: 0, clipped: 0 };
+    for &word in &text[line.first..line.end] {
+        let width = glyph::width(word);
+        if width > rule.limit || width == 0 {
+            continue;
+        }
+        if let Some(cell) = row.get_mut(column) {
+            *cell = write_glyph(styles, style, word, *cell);
+            counts.placed += 1;
+        } else {
+            counts.clipped += 1;
+        }
+        column += width as usize;
+    }
+    counts
+}

@@ -1,0 +1,63 @@
+//! The call `tally`: what becomes of a text's glyphs.
+
+use crate::compose::{Composer, Method};
+use crate::lines::check_text;
+use crate::reflow::Rule;
+use crate::refuse::Refusal;
+use crate::text::{Alignment, glyph, head};
+
+#[derive(Debug, Default, Clone, Copy, PartialEq, Eq)]
+pub struct Counts {
+    pub lines: u32,
+    pub placed: u32,
+    pub clipped: u32,
+    pub zero_width: u32,
+    pub over_wide: u32,
+    pub dropped: u32,
+}
+
+impl Counts {
+    /// Counts the glyphs of a composed line.
+    fn add_line(&mut self, limit: u32, records: &[u32]) {
+        self.lines += 1;
+        let mut column = 0;
+        for &record in records {
+            let width = glyph::width(record);
+            if width > limit {
+                continue;
+            }
+            if width == 0 {
+                self.zero_width += 1;
+            } else if column < limit {
+                self.placed += 1;
+            } else {
+                self.clipped += 1;
+            }
+            column += width;
+        }
+    }
+}
+
+/// Tallies a text at a limit: causes 3, 4, 8. The composed lines are counted first, and all glyphs
+/// after them: those dropped are the rest.
+pub fn tally(text: &[u32], limit: u16, trim: bool) -> Result<Counts, Refusal> {
+    check_text(limit, text)?;
+    if limit == 0 {
+        return Ok(Counts::default());
+    }
+    let rule = Rule { limit: limit.into(), trim };
+    let mut counts = Counts::default();
+    for line in Composer::new(rule, Method::Wrapped, Alignment::Left, text) {
+        counts.add_line(rule.limit, &text[line.first..line.end]);
+    }
+    let mut glyphs = 0;
+    for &record in text.iter().filter(|&&record| !head::is_head(record)) {
+        glyphs += 1;
+        if glyph::width(record) > rule.limit {
+            counts.over_wide += 1;
+        }
+    }
+    let emitted = counts.placed + counts.clipped + counts.zero_width;
+    counts.dropped = glyphs - counts.over_wide - emitted;
+    Ok(counts)
+}

@@ -1,0 +1,85 @@
+//! The records of a text and of titles: glyphs, heads, and the lines that heads open.
+
+#[derive(Debug, Clone, Copy, PartialEq, Eq)]
+pub enum Alignment {
+    Left,
+    Center,
+    Right,
+}
+
+#[derive(Debug, Clone, Copy, PartialEq, Eq)]
+pub enum TitlePosition {
+    Top,
+    Bottom,
+}
+
+/// "0 | symbol 21 | width 3 | whitespace 1 | style 6".
+pub mod glyph {
+    pub fn symbol(glyph: u32) -> u32 {
+        glyph >> 10 & 0x1f_ffff
+    }
+
+    pub fn width(glyph: u32) -> u32 {
+        glyph >> 7 & 0b111
+    }
+
+    pub fn is_whitespace(glyph: u32) -> bool {
+        glyph >> 6 & 1 == 1
+    }
+
+    pub fn style(glyph: u32) -> u8 {
+        (glyph & 0b11_1111) as u8
+    }
+}
+
+/// "1 | alignment 2 | position 2 | 27 zeros".
+pub mod head {
+    use super::{Alignment, TitlePosition};
+
+    pub fn is_head(record: u32) -> bool {
+        record >> 31 == 1
+    }
+
+    pub fn position(head: u32) -> u32 {
+        head >> 27 & 0b11
+    }
+
+    pub fn zeros(head: u32) -> u32 {
+        head & 0x7ff_ffff
+    }
+
+    /// The alignment that a head gives, or the notice's or block's own.
+    pub fn resolve(head: u32, own: Alignment) -> Alignment {
+        match head >> 29 & 0b11 {
+            0 => Alignment::Left,
+            1 => Alignment::Center,
+            2 => Alignment::Right,
+            _ => own,
+        }
+    }
+
+    /// The position that a title's head gives, or the block's own.
+    pub fn resolve_position(head: u32, own: TitlePosition) -> TitlePosition {
+        match position(head) {
+            0 => TitlePosition::Top,
+            1 => TitlePosition::Bottom,
+            _ => own,
+        }
+    }
+}
+
+/// How many of the records after a head are its line's.
+pub fn line_length(after: &[u32]) -> usize {
+    after.iter().position(|&record| head::is_head(record)).unwrap_or(after.len())
+}
+
+/// The heads of some records that open with one, each with the glyphs of its line.
+pub fn lines(records: &[u32]) -> impl Iterator<Item = (u32, &[u32])> {
+    let mut left = records;
+    std::iter::from_fn(move || {
+        let (&head, after) = left.split_first()?;
+        let (glyphs, rest) = after.split_at(line_length(after));
+        left = rest;
+        Some((head, glyphs))
+    })
+}

@@ -1,0 +1,153 @@
+//! The rows of `list_lines` and `tally`.
+
+use std::hint::black_box;
+
+use oracle::{Alignment, ComposedLine, Outcome};
+use ratatui_core::glyph::Glyph;
+
+use crate::original::{over_lean, over_oracle};
+use crate::raw;
+use crate::sides::Sides;
+
+/// The number of the alignment left.
+const LEFT: u8 = 0;
+
+/// The symbols of a text for the oracle's stand-ins, one after the other.
+fn symbols(text: &[u32]) -> String {
+    (0..).zip(text).map(|(number, &record)| Glyph { record, number }.encode()).collect()
+}
+
+/// The oracle's answer, which must not be a panic.
+pub fn answered<T>(answer: Outcome<T>) -> T {
+    match answer {
+        Outcome::Value(value) => value,
+        Outcome::Panicked(message) => panic!("the crate panicked: {message}"),
+    }
+}
+
+fn proved_list(text: &[u32], limit: u16, trim: bool, list: &mut [u64]) -> usize {
+    let answer = raw::list_lines(text, LEFT, limit, trim.into(), list);
+    assert_eq!(answer.number, 0, "refused");
+    answer.lines
+}
+
+fn plain_list(text: &[u32], limit: u16, trim: bool, list: &mut [u64]) -> usize {
+    plain::list_lines(text, plain::Alignment::Left, limit, trim, list).expect("no refusal")
+}
+
+/// The texts made ready for the crate's wrapper.
+struct Originals<'a> {
+    over_oracle: Vec<over_oracle::Text<'a>>,
+    over_lean: Vec<over_lean::Text<'a>>,
+}
+
+/// Makes texts ready for the crate's wrapper, and hands them on.
+fn with_originals<T>(texts: &[Vec<u32>], work: impl FnOnce(Originals) -> T) -> T {
+    let oracle: Vec<String> = texts.iter().map(|text| symbols(text)).collect();
+    let lean: Vec<String> = texts.iter().map(|text| lean::symbols(text)).collect();
+    work(Originals {
+        over_oracle: texts.iter().zip(&oracle).map(|(t, s)| over_oracle::Text::new(t, s)).collect(),
+        over_lean: texts.iter().zip(&lean).map(|(t, s)| over_lean::Text::new(t, s)).collect(),
+    })
+}
+
+/// Compares the entries of every side, those after the last line too.
+fn compare_lists(texts: &[Vec<u32>], originals: &Originals, limit: u16, trim: bool) {
+    for (number, text) in texts.iter().enumerate() {
+        let lines = answered(oracle::wrapped_lines(text, Alignment::Left, limit, trim));
+        let mut entries: Vec<u64> = lines.iter().map(ComposedLine::packed).collect();
+        assert_eq!(originals.over_oracle[number].entries(limit, trim), entries);
+        assert_eq!(originals.over_lean[number].entries(limit, trim), entries);
+        let (mut proved, mut plain) = (vec![0; 2 * text.len()], vec![0; 2 * text.len()]);
+        assert_eq!(proved_list(text, limit, trim, &mut proved), entries.len());
+        assert_eq!(plain_list(text, limit, trim, &mut plain), entries.len());
+        entries.resize(proved.len(), 0);
+        assert!(proved == entries && plain == entries);
+    }
+}
+
+pub fn list<T>(
+    texts: &[Vec<u32>],
+    limit: u16,
+    trim: bool,
+    work: impl FnOnce(&mut Sides) -> T,
+) -> T {
+    with_originals(texts, |originals| {
+        compare_lists(texts, &originals, limit, trim);
+        let mut list = vec![0; 2 * texts[0].len()];
+        let mut plain = list.clone();
+        work(&mut Sides::new([
+            Box::new(|| {
+                for text in texts {
+                    black_box(proved_list(black_box(text), limit, trim, &mut list));
+                }
+            }),
+            Box::new(|| {
+                for text in texts {
+                    black_box(plain_list(black_box(text), limit, trim, &mut plain));
+                }
+            }),
+            Box::new(|| originals.over_oracle.iter().for_each(|text| text.compose(limit, trim))),
+            Box::new(|| originals.over_lean.iter().for_each(|text| text.compose(limit, trim))),
+        ]))
+    })
+}
+
+fn proved_tally(text: &[u32], limit: u16, trim: bool) -> [u32; 6] {
+    let raw::TallyAnswer { number, lines, placed, clipped, zero_width, over_wide, dropped } =
+        raw::tally(text, limit, trim.into());
+    assert_eq!(number, 0, "refused");
+    [lines, placed, clipped, zero_width, over_wide, dropped]
+}
+
+fn plain_tally(text: &[u32], limit: u16, trim: bool) -> [u32; 6] {
+    let plain::Counts { lines, placed, clipped, zero_width, over_wide, dropped } =
+        plain::tally(text, limit, trim).expect("no refusal");
+    [lines, placed, clipped, zero_width, over_wide, dropped]
+}
+
+/// Compares the counts of every side. The crate's lines don't tell the last two.
+fn compare_tallies(texts: &[Vec<u32>], originals: &Originals, limit: u16, trim: bool) {
+    for (number, text) in texts.iter().enumerate() {
+        let oracle::Tally { lines, placed, clipped, zero_width, over_wide, dropped } =
+            answered(oracle::tally(text, limit, trim));
+        let counts = [lines, placed, clipped, zero_width, over_wide, dropped];
+        assert_eq!(proved_tally(text, limit, trim), counts);
+        assert_eq!(plain_tally(text, limit, trim), counts);
+        assert_eq!(originals.over_oracle[number].counts(limit, trim), counts[..4]);
+        assert_eq!(originals.over_lean[number].counts(limit, trim), counts[..4]);
+    }
+}
+
+pub fn tally<T>(
+    texts: &[Vec<u32>],
+    limit: u16,
+    trim: bool,
+    work: impl FnOnce(&mut Sides) -> T,
+) -> T {
+    with_originals(texts, |originals| {
+        compare_tallies(texts, &originals, limit, trim);
+        work(&mut Sides::new([
+            Box::new(|| {
+                for text in texts {
+                    black_box(proved_tally(black_box(text), limit, trim));
+                }
+            }),
+            Box::new(|| {
+                for text in texts {
+                    black_box(plain_tally(black_box(text), limit, trim));
+                }
+            }),
+            Box::new(|| {
+                for text in &originals.over_oracle {
+                    black_box(text.counts(limit, trim));
+                }
+            }),
+            Box::new(|| {
+                for text in &originals.over_lean {
+                    black_box(text.counts(limit, trim));
+                }
+            }),
+        ]))
+    })
+}

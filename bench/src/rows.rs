@@ -1,0 +1,167 @@
+//! The rows of the tables: which call, on which input.
+
+use crate::inputs;
+use crate::sides::Sides;
+use crate::{composing, drawing};
+
+/// What a row does.
+#[derive(Clone, Copy)]
+pub enum Call {
+    /// `list_lines` at a limit, trimmed or not.
+    List { limit: u16, trim: bool },
+    /// `tally` at a limit, trimmed or not.
+    Tally { limit: u16, trim: bool },
+    /// `draw_notice` of a framed notice on a screen.
+    Notice { screen: [u16; 2], method: Method, page: Page },
+    /// `draw_block` of a block that has a style and nothing else, on a whole screen.
+    Style,
+}
+
+/// How the lines of a notice are composed.
+#[derive(Clone, Copy, PartialEq, Eq)]
+pub enum Method {
+    Wrapped,
+    Truncated,
+    /// Truncated, and scrolled to the right as far as glyphs are shown.
+    TruncatedAtEnd,
+}
+
+#[derive(Clone, Copy, PartialEq, Eq)]
+pub enum Page {
+    First,
+    Last,
+}
+
+pub struct Row {
+    pub name: &'static str,
+    text: Making,
+    call: Call,
+}
+
+/// Makes a text of so many records; texts with other numbers are other texts, where there are such.
+type Making = fn(usize, u32) -> Vec<u32>;
+
+/// The screens of the row without a text, by the place of a size among the sizes.
+const SCREENS: [[u16; 2]; 3] = [[80, 24], [200, 60], [512, 256]];
+const SIZES: [usize; 3] = [1_000, 4_000, 16_384];
+/// There are as many texts of a size as make up the largest. One text over and over would be learnt
+/// by the processor, which then guesses each branch from the text's beginning on.
+const RECORDS: usize = SIZES[2];
+
+impl Row {
+    /// How many records all texts of a size have, or how many cells the screen has.
+    pub fn units(&self, size: usize) -> usize {
+        match self.call {
+            Call::Style => SCREENS[size].map(usize::from).iter().product(),
+            _ => SIZES[size] * (RECORDS / SIZES[size]),
+        }
+    }
+
+    /// The size as it is printed: of one text, or of the screen.
+    pub fn size(&self, size: usize) -> usize {
+        match self.call {
+            Call::Style => self.units(size),
+            _ => SIZES[size],
+        }
+    }
+
+    /// Makes a size of the row ready for every side, and hands the sides on.
+    pub fn with_sides<T>(&self, size: usize, work: impl FnOnce(&mut Sides) -> T) -> T {
+        let numbers = 0..(RECORDS / SIZES[size]) as u32;
+        let texts: Vec<Vec<u32>> = numbers.map(|number| (self.text)(SIZES[size], number)).collect();
+        match self.call {
+            Call::List { limit, trim } => composing::list(&texts, limit, trim, work),
+            Call::Tally { limit, trim } => composing::tally(&texts, limit, trim, work),
+            Call::Notice { screen, method, page } => {
+                drawing::notice(screen, &texts, method, page, work)
+            }
+            Call::Style => drawing::style(SCREENS[size], work),
+        }
+    }
+}
+
+const fn row(name: &'static str, text: Making, call: Call) -> Row {
+    Row { name, text, call }
+}
+
+const fn list(limit: u16, trim: bool) -> Call {
+    Call::List { limit, trim }
+}
+
+const fn tally(limit: u16, trim: bool) -> Call {
+    Call::Tally { limit, trim }
+}
+
+const fn draw(screen: [u16; 2], method: Method, page: Page) -> Call {
+    Call::Notice { screen, method, page }
+}
+
+const SMALL: [u16; 2] = SCREENS[0];
+const LARGE: [u16; 2] = SCREENS[1];
+
+pub const ROWS: [Row; 28] = [
+    row("list, words, 20", inputs::words, list(20, false)),
+    row("list, words, 20, trimmed", inputs::words, list(20, true)),
+    row("list, words, 80", inputs::words, list(80, false)),
+    row("list, words, 80, trimmed", inputs::words, list(80, true)),
+    row("list, words, 4,096", inputs::words, list(4096, false)),
+    row("list, words, 4,096, trimmed", inputs::words, list(4096, true)),
+    row("list, short lines, 20", inputs::short_lines, list(20, false)),
+    row("list, short lines, 20, trimmed", inputs::short_lines, list(20, true)),
+    row("list, blanks, 20", inputs::blanks, list(20, false)),
+    row("list, blanks, 20, trimmed", inputs::blanks, list(20, true)),
+    row("list, letter and blanks, 4,096", inputs::letter_and_blanks, list(4096, false)),
+    row("list, letter and blanks, 4,096, trimmed", inputs::letter_and_blanks, list(4096, true)),
+    row("list, one word, 20", inputs::one_word, list(20, false)),
+    row("list, one word, 20, trimmed", inputs::one_word, list(20, true)),
+    row("tally, words, 20", inputs::words, tally(20, false)),
+    row("tally, words, 80, trimmed", inputs::words, tally(80, true)),
+    row("tally, short lines, 20, trimmed", inputs::short_lines, tally(20, true)),
+    row("tally, one word, 20", inputs::one_word, tally(20, false)),
+    row(
+        "truncation, short lines, first page",
+        inputs::short_lines,
+        draw(SMALL, Method::Truncated, Page::First),
+    ),
+    row(
+        "truncation, short lines, last page",
+        inputs::short_lines,
+        draw(SMALL, Method::Truncated, Page::Last),
+    ),
+    row(
+        "truncation, words, scrolled to the right",
+        inputs::words,
+        draw(SMALL, Method::TruncatedAtEnd, Page::First),
+    ),
+    row(
+        "notice, words, 80 × 24, first page",
+        inputs::words,
+        draw(SMALL, Method::Wrapped, Page::First),
+    ),
+    row(
+        "notice, words, 80 × 24, last page",
+        inputs::words,
+        draw(SMALL, Method::Wrapped, Page::Last),
+    ),
+    row(
+        "notice, short lines, 80 × 24, first page",
+        inputs::short_lines,
+        draw(SMALL, Method::Wrapped, Page::First),
+    ),
+    row(
+        "notice, short lines, 80 × 24, last page",
+        inputs::short_lines,
+        draw(SMALL, Method::Wrapped, Page::Last),
+    ),
+    row(
+        "notice, words, 200 × 60, first page",
+        inputs::words,
+        draw(LARGE, Method::Wrapped, Page::First),
+    ),
+    row(
+        "notice, words, 200 × 60, last page",
+        inputs::words,
+        draw(LARGE, Method::Wrapped, Page::Last),
+    ),
+    row("whole-screen style", inputs::words, Call::Style),
+];
