@@ -44,8 +44,8 @@ type Making = fn(usize, u32) -> Vec<u32>;
 /// The screens of the row without a text, by the place of a size among the sizes.
 const SCREENS: [[u16; 2]; 3] = [[80, 24], [200, 60], [512, 256]];
 const SIZES: [usize; 3] = [1_000, 4_000, 16_384];
-/// There are as many texts of a size as make up the largest. One text over and over would be learnt
-/// by the processor, which then guesses each branch from the text's beginning on.
+/// There are as many texts of a size as make up the largest: with one text over and over the
+/// processor predicts its branches from the time before.
 const RECORDS: usize = SIZES[2];
 
 impl Row {

@@ -49,18 +49,17 @@ impl Run {
         clippy::needless_range_loop,
         reason = "in the proved code it is so, and a zip is slower on words"
     )]
-    fn after_fitting(self, records: &[u32], rule: Rule, mut room: u32) -> Self {
-        let mut width = self.width;
+    fn after_fitting(self, records: &[u32], rule: Rule, room: u32) -> Self {
+        let mut left = room;
         for first in self.first..self.end {
             let glyph_width = glyph::width(records[first]);
             if glyph_width > rule.limit {
                 continue;
             }
-            if glyph_width > room {
-                return Self { first, width, ..self };
+            if glyph_width > left {
+                return Self { first, width: self.width - (room - left), ..self };
             }
-            room -= glyph_width;
-            width -= glyph_width;
+            left -= glyph_width;
         }
         Self::default()
     }
