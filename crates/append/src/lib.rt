@@ -13,6 +13,15 @@ pub fn put(buffer: &mut [u8], at: usize, byte: u8) -> usize
     at + 1
 }
 
+// Puts two bytes.
+pub fn put_2(buffer: &mut [u8], at: usize, first: u8, second: u8) -> usize
+    requires { ⌜ at + 2 ≤ length (now buffer) ⌝ }
+    ensures { λ r. ⌜ Written (now (buffer .entry)) at (now (buffer .exit)) r (first ∷ second ∷ []) ⌝ }
+{
+    let next = put(buffer, at, first);
+    put(buffer, next, second)
+}
+
 // Puts several bytes.
 pub fn put_all(buffer: &mut [u8], at: usize, bytes: &[u8]) -> usize
     requires { ⌜ at + length (now bytes) ≤ length (now buffer) ⌝ }

@@ -1,8 +1,8 @@
 // A symbol as UTF-8. One that can't be shown is replaced, so that no symbol sends a control character to a terminal.
 use append::put;
+use append::put_2;
 ghost use mathlib.Core.Path.{_≡_};
 ghost use Prim.Native.Nat.{_+_, _<_, _≤_};
-ghost use mathlib.Core.List.{[], _∷_};
 ghost use lib.ListN.{length};
 ghost use Rattle.append.specs.Written.{Written};
 ghost use Rattle.utf8.specs.Utf8.{between, hidden, shown, following, encoded, utf8};
@@ -40,15 +40,6 @@ fn shown_symbol(symbol: u64) -> u64
         return 65533;
     }
     symbol
-}
-
-// Puts two bytes.
-fn put_2(buffer: &mut [u8], at: usize, first: u8, second: u8) -> usize
-    requires { ⌜ at + 2 ≤ length (now buffer) ⌝ }
-    ensures { λ r. ⌜ Written (now (buffer .entry)) at (now (buffer .exit)) r (first ∷ second ∷ []) ⌝ }
-{
-    let next = put(buffer, at, first);
-    put(buffer, next, second)
 }
 
 // A byte after the first: the lowest six bits.

@@ -1,8 +1,8 @@
--- `utf8::put_2` meets its contract.
+-- `append::put_2` meets its contract.
 use Rattle.append.proofs.Writing.{written-cons}
 use borrow.Author.Needs.{needs}
-use Rattle.utf8.proofs.put_2.Statement.{statement}
-use Rattle.utf8.proofs.put_2.Tie as tie
+use Rattle.append.proofs.put_2.Statement.{statement}
+use Rattle.append.proofs.put_2.Tie as tie
 
 put-requires : tie.Need-put-requires
 put-requires c κs = search needs
