@@ -162,15 +162,6 @@ module _ (bytes : List ℕ) (p : Parsed) (o : Opening) (e : p ≡ parsedOf bytes
       rw (← e, g) at
       (parsed-within (length bytes) (openingIn bytes) (ltb mostBytes (length bytes)) (unmarked bytes) (ltb (length bytes) openingBytes))
 
-  pub good-styles : o .styles ≤ mostStyles
-  good-styles = good-sized .styles-in
-
-  pub good-titles : o .titles ≤ mostTitles
-  good-titles = good-sized .titles-in
-
-  pub good-text : o .records ≤ mostText
-  good-text = good-sized .text-in
-
 pub bad-is : (bytes : List ℕ) (p : Parsed) (flaw : Flaw) → p ≡ parsedOf bytes → p ≡ Bad flaw → Bad flaw ≡ parsedOf bytes
 bad-is bytes p flaw e b = sym b ∙ e
 
