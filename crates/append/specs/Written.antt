@@ -1,0 +1,11 @@
+-- Bytes put one after another into a lent buffer.
+use Prim.Native.Nat.{ℕ, _+_}
+use mathlib.Core.Path.{_≡_}
+use mathlib.Core.List.{List, _++_}
+use lib.ListN.{length, take}
+
+-- a buffer that held text up to `from` holds that text and these bytes, up to `to`
+pub record Written (old : List ℕ) (from : ℕ) (new : List ℕ) (to : ℕ) (bytes : List ℕ) : Type 0 where
+  pub moved : to ≡ from + length bytes
+  pub kept : length new ≡ length old
+  pub same : take to new ≡ take from old ++ bytes

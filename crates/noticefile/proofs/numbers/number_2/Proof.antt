@@ -1,0 +1,42 @@
+-- `noticefile::numbers::number_2` meets its contract.
+use Rattle.noticefile.proofs.Reading.{numbers}
+use borrow.Author.Needs.{needs}
+use Rattle.noticefile.proofs.numbers.number_2.Statement.{statement}
+use Rattle.noticefile.proofs.numbers.number_2.Tie as tie
+
+shared-slice-read-wide : tie.Need-shared-slice-read-wide
+shared-slice-read-wide c = search needs
+
+wide-requires : tie.Need-wide-requires
+wide-requires c κs = search needs
+
+mul-result : tie.Need-mul-result
+mul-result c = search needs
+
+add-wide : tie.Need-add-wide
+add-wide c = search needs
+
+shared-slice-read-wide-2 : tie.Need-shared-slice-read-wide-2
+shared-slice-read-wide-2 c = search needs
+
+wide-requires-2 : tie.Need-wide-requires-2
+wide-requires-2 c κs = search needs
+
+add-result : tie.Need-add-result
+add-result c = search needs
+
+returns : tie.Need-returns
+returns c = search (numbers, needs)
+
+pub number-2-spec : {M : Type 1} → statement M
+number-2-spec =
+    tie.close
+    (tie.spec
+    shared-slice-read-wide
+    wide-requires
+    mul-result
+    add-wide
+    shared-slice-read-wide-2
+    wide-requires-2
+    add-result
+    returns)

@@ -1,0 +1,60 @@
+// The pages of a notice.
+ghost use mathlib.Core.Path.{_≡_};
+ghost use Prim.Native.Nat.{_+_, _-_, min};
+ghost use Rattle.paging.specs.Paging.{pagesFrom};
+
+// Which pages are shown.
+pub enum Pages {
+    All,
+    Only(u64),
+}
+
+// a less b, held at 0.
+fn less(a: u32, b: u32) -> u32
+    ensures { λ r. ⌜ r ≡ a - b ⌝ }
+{
+    if b <= a {
+        return a - b;
+    }
+    0
+}
+
+// How many pages the lines from the first one shown on need, and at least one.
+pub fn page_count(lines: u32, first: u16, height: u16) -> u64
+    ensures { λ r. ⌜ r ≡ pagesFrom lines first height ⌝ }
+{
+    if height == 0 {
+        return 1;
+    }
+    let left = less(lines, first as u32) as u64;
+    let pages = (left + (height as u64 - 1)) / height as u64;
+    if pages < 1 {
+        return 1;
+    }
+    pages
+}
+
+// The first line of the page after one: at most 65,535, which no text reaches.
+pub fn next_first(first: u16, height: u16) -> u16
+    ensures { λ r. ⌜ r ≡ min (first + height) 65535 ⌝ }
+{
+    num::saturating_add(first, height)
+}
+
+impl Pages {
+    // Whether a page is one of them.
+    pub fn has(self, page: u64) -> bool {
+        match self {
+            Pages::All => true,
+            Pages::Only(number) => number == page,
+        }
+    }
+
+    // Whether one is asked for that isn't among so many.
+    pub fn is_past(self, pages: u64) -> bool {
+        match self {
+            Pages::All => false,
+            Pages::Only(number) => pages <= number,
+        }
+    }
+}

@@ -1,0 +1,41 @@
+-- A row of cells as text. The bits of a cell that drawing never touches hold here the width, in columns, of what stands in it.
+use Prim.Native.Nat.{ℕ, _-_, _/_, _%_, _^_}
+use mathlib.Core.Bool.{Bool, cond}
+use mathlib.Core.List.{List, [], _∷_, _++_}
+use lib.Dec.{eqb, ltb}
+use Rattle.cell.specs.Cell.{cellFrom}
+use Rattle.utf8.specs.Utf8.{utf8}
+use Rattle.sgr.specs.Sgr.{sgr}
+
+-- a cell's foreground, background and modifiers, as one number
+abbrev pub styleIn : ℕ → ℕ
+styleIn cell = cell / 2 ^ 18 % 2 ^ 25
+
+-- a style's sequence, where sequences are asked for and the style before is another
+unfoldable pub styleText : Bool → ℕ → ℕ → List ℕ
+styleText ansi before style = cond ansi (cond (eqb before style) [] (sgr style)) []
+
+unfoldable pub cellText : Bool → ℕ → ℕ → List ℕ
+cellText ansi before cell = styleText ansi before (styleIn cell) ++ utf8 (cellFrom cell .symbol)
+
+-- what a cell adds, the style after it, and how many cells after it are covered, where some are covered by a wider symbol before
+unfoldable pub stepText : Bool → ℕ → ℕ → ℕ → List ℕ
+stepText ansi before covered cell = cond (ltb 0 covered) [] (cellText ansi before cell)
+
+unfoldable pub styleAfter : ℕ → ℕ → ℕ → ℕ
+styleAfter before covered cell = cond (ltb 0 covered) before (styleIn cell)
+
+unfoldable pub coveredAfter : ℕ → ℕ → ℕ
+coveredAfter covered cell = cond (ltb 0 covered) (covered - 1) (cellFrom cell .untouched - 1)
+
+abbrev pub cellsText : Bool → ℕ → ℕ → List ℕ → List ℕ
+cellsText ansi before covered [] = []
+cellsText ansi before covered (cell ∷ cells) =
+    stepText ansi before covered cell ++ cellsText ansi (styleAfter before covered cell) (coveredAfter covered cell) cells
+
+-- at a row's end the style is reset, and the line ends
+unfoldable pub endText : Bool → List ℕ
+endText ansi = cond ansi (sgr 0) [] ++ (10 ∷ [])
+
+unfoldable pub rowText : Bool → List ℕ → List ℕ
+rowText ansi cells = cellsText ansi 0 0 cells ++ endText ansi

@@ -1,0 +1,38 @@
+-- A cell's colours and modifiers as a terminal's sequence: Select Graphic Rendition of ECMA-48, `ESC [ 0 ; .. m`, which starts anew.
+use Prim.Native.Nat.{ℕ, zero, suc, _+_, _/_, _%_, _^_}
+use mathlib.Core.Bool.{cond}
+use mathlib.Core.List.{List, [], _∷_, _++_}
+use lib.Dec.{eqb, ltb}
+
+-- a number below 1,000 in decimal
+abbrev pub digit : ℕ → ℕ
+digit n = 48 + n % 10
+
+unfoldable pub decimal : ℕ → List ℕ
+decimal n =
+    cond (ltb n 10) (digit n ∷ [])
+    (cond (ltb n 100) (digit (n / 10) ∷ digit n ∷ [])
+    (digit (n / 100) ∷ digit (n / 10) ∷ digit n ∷ []))
+
+-- `;` and the code, where a bit is 1
+unfoldable pub code : ℕ → ℕ → List ℕ
+code bit k = cond (eqb bit 1) (59 ∷ (48 + k) ∷ []) []
+
+-- the codes of so many bits, the lowest first, from a code on
+abbrev pub codes : ℕ → ℕ → ℕ → List ℕ
+codes bits k zero = []
+codes bits k (suc n) = code (bits % 2) k ++ codes (bits / 2) (k + 1) n
+
+-- `;38;5;` or `;48;5;`, by its first digit, and the palette's colour; 0 is the terminal's own
+unfoldable pub colour : ℕ → ℕ → List ℕ
+colour kind n = cond (eqb n 0) [] (59 ∷ kind ∷ 56 ∷ 59 ∷ 53 ∷ 59 ∷ decimal n)
+
+-- of a style as a cell has it: foreground 8 | background 8 | modifiers 9, these bold, dim, italic, underlined, slow blink, rapid
+-- blink, reversed, hidden and crossed out from the lowest bit on, which are the codes 1 to 9
+unfoldable pub sgr : ℕ → List ℕ
+sgr style =
+    (27 ∷ 91 ∷ 48 ∷ [])
+    ++ (codes (style % 2 ^ 9) 1 9
+    ++ (colour 51 (style / 2 ^ 17 % 2 ^ 8)
+    ++ (colour 52 (style / 2 ^ 9 % 2 ^ 8)
+    ++ (109 ∷ []))))

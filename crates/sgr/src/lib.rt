@@ -1,0 +1,97 @@
+// A cell's colours and modifiers as a terminal's sequence.
+use append::put;
+use append::put_2;
+use append::put_all;
+ghost use mathlib.Core.Path.{_≡_};
+ghost use mathlib.Core.List.{[], _∷_, _++_};
+ghost use Prim.Native.Nat.{_+_, _/_, _%_, _<_, _≤_, _^_};
+ghost use lib.ListN.{length};
+ghost use Rattle.append.specs.Written.{Written};
+ghost use Rattle.sgr.specs.Sgr.{digit, decimal, code, codes, colour, sgr};
+
+fn last_digit(number: u64) -> u8
+    ensures { λ r. ⌜ r ≡ digit number ⌝ }
+{
+    (48 + number % 10) as u8
+}
+
+// Puts a number below 1,000 in decimal.
+fn put_decimal(buffer: &mut [u8], at: usize, number: u64) -> usize
+    requires { ⌜ at + 3 ≤ length (now buffer) ⌝ }
+    ensures { λ r. ⌜ Written (now (buffer .entry)) at (now (buffer .exit)) r (decimal number) ⌝ }
+    ensures { λ r. ⌜ r ≤ at + 3 ⌝ }
+{
+    if number < 10 {
+        return put(buffer, at, last_digit(number));
+    }
+    if number < 100 {
+        return put_2(buffer, at, last_digit(number / 10), last_digit(number));
+    }
+    let next = put(buffer, at, last_digit(number / 100));
+    put_2(buffer, next, last_digit(number / 10), last_digit(number))
+}
+
+// Puts a modifier's code, where its bit is 1.
+fn put_code(buffer: &mut [u8], at: usize, bit: u64, number: u8) -> usize
+    requires { ⌜ at + 2 ≤ length (now buffer) ⌝ }
+    requires { ⌜ number < 10 ⌝ }
+    ensures { λ r. ⌜ Written (now (buffer .entry)) at (now (buffer .exit)) r (code bit number) ⌝ }
+    ensures { λ r. ⌜ r ≤ at + 2 ⌝ }
+{
+    if bit == 1 {
+        return put_2(buffer, at, 59, 48 + number);
+    }
+    at
+}
+
+// Puts the codes of all modifiers that are set.
+fn put_codes(buffer: &mut [u8], at: usize, modifiers: u64) -> usize
+    requires { ⌜ at + 18 ≤ length (now buffer) ⌝ }
+    ensures { λ r. ⌜ Written (now (buffer .entry)) at (now (buffer .exit)) r (codes modifiers 1 9) ⌝ }
+    ensures { λ r. ⌜ r ≤ at + 18 ⌝ }
+{
+    let mut next = at;
+    let mut bits = modifiers;
+    let mut number = 1;
+    while number < 10 {
+        next = put_code(buffer, next, bits % 2, number);
+        bits = bits / 2;
+        number += 1;
+    }
+    next
+}
+
+// Puts a colour, where it isn't the terminal's own; the kind is 51 for a foreground, 52 for a background.
+fn put_colour(buffer: &mut [u8], at: usize, kind: u8, number: u64) -> usize
+    requires { ⌜ at + 9 ≤ length (now buffer) ⌝ }
+    ensures { λ r. ⌜ Written (now (buffer .entry)) at (now (buffer .exit)) r (colour kind number) ⌝ }
+    ensures { λ r. ⌜ r ≤ at + 9 ⌝ }
+{
+    if number == 0 {
+        return at;
+    }
+    let next = put_all(buffer, at, &[59, kind, 56, 59, 53, 59]);
+    put_decimal(buffer, next, number)
+}
+
+// Puts both colours and the sequence's end.
+fn put_colours(buffer: &mut [u8], at: usize, style: u64) -> usize
+    requires { ⌜ at + 19 ≤ length (now buffer) ⌝ }
+    ensures { λ r. ⌜ Written (now (buffer .entry)) at (now (buffer .exit)) r (colour 51 (style / 2 ^ 17 % 2 ^ 8) ++ (colour 52 (style / 2 ^ 9 % 2 ^ 8) ++ (109 ∷ []))) ⌝ }
+    ensures { λ r. ⌜ r ≤ at + 19 ⌝ }
+{
+    let next = put_colour(buffer, at, 51, style / 131072 % 256);
+    let end = put_colour(buffer, next, 52, style / 512 % 256);
+    put(buffer, end, 109)
+}
+
+// Puts the sequence of a style: at most 40 bytes.
+pub fn put_style(buffer: &mut [u8], at: usize, style: u64) -> usize
+    requires { ⌜ at + 40 ≤ length (now buffer) ⌝ }
+    ensures { λ r. ⌜ Written (now (buffer .entry)) at (now (buffer .exit)) r (sgr style) ⌝ }
+    ensures { λ r. ⌜ r ≤ at + 40 ⌝ }
+{
+    let start = put_all(buffer, at, &[27, 91, 48]);
+    let next = put_codes(buffer, start, style % 512);
+    put_colours(buffer, next, style)
+}

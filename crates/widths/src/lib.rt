@@ -1,0 +1,55 @@
+// The same notice with widths for symbols: drawn as the notice is, its cells tell how wide that is which stands in them.
+use flat::FlatBlock;
+use text::glyph;
+use text::head;
+ghost use mathlib.Core.Path.{_≡_};
+ghost use Rattle.widths.specs.Widths.{widened, withWidth};
+
+// A glyph whose symbol is its width; a head stays.
+fn widened_record(word: u32) -> u32
+    ensures { λ r. ⌜ r ≡ widened word ⌝ }
+{
+    if head::is_head(word) {
+        return word;
+    }
+    glyph::width(word) * 1024 + word % 1024
+}
+
+// Puts the records of a notice so changed into others.
+pub fn widen(records: &[u32], wide: &mut [u32]) {
+    let mut i = 0;
+    while i < records.len() && i < wide.len() {
+        wide[i] = widened_record(records[i]);
+        i += 1;
+    }
+}
+
+// The block whose symbols are all 1, their width.
+pub fn widened_block(mut block: FlatBlock) -> FlatBlock {
+    block.top_left = 1;
+    block.top_right = 1;
+    block.bottom_left = 1;
+    block.bottom_right = 1;
+    block.vertical_left = 1;
+    block.vertical_right = 1;
+    block.horizontal_top = 1;
+    block.horizontal_bottom = 1;
+    block.shadow_symbol = 1;
+    block
+}
+
+// A cell with the width that another tells, in the bits that drawing never touches.
+fn with_width(cell: u64, wide: u64) -> u64
+    ensures { λ r. ⌜ r ≡ withWidth cell wide ⌝ }
+{
+    cell / 262144 * 262144 + cell::symbol(wide) % 8
+}
+
+// Puts the widths that other cells tell into cells.
+pub fn mark(cells: &mut [u64], wide: &[u64]) {
+    let mut i = 0;
+    while i < cells.len() && i < wide.len() {
+        cells[i] = with_width(cells[i], wide[i]);
+        i += 1;
+    }
+}
