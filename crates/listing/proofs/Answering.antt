@@ -18,9 +18,10 @@ use Rattle.lines.specs.declared.Listed.{Listed}
 use Rattle.lines.specs.declared.Listed.the-variants as listed-variant
 use Rattle.listing.specs.declared.Answer.{Answer}
 use Rattle.listing.specs.declared.Answer.the-variants as answer
-use Rattle.listing.specs.declared.Parsed.{Parsed}
-use Rattle.listing.specs.declared.Parsed.the-variants.{Refused, Text}
-use Rattle.listing.specs.Program.{limitOf, trimOf, recordsOf, mostRecords, incomplete, trimWrong, tooMany, parsedOf, holding, answerFor, programVerdict, answerOf, listOf}
+use Rattle.listinput.specs.declared.Parsed.{Parsed}
+use Rattle.listinput.specs.declared.Parsed.the-variants.{Refused, Text}
+use Rattle.listinput.specs.Input.{limitOf, trimOf, recordsOf, mostRecords, incomplete, trimWrong, tooMany, parsedOf, holding}
+use Rattle.listing.specs.Program.{answerFor, programVerdict, answerOf, listOf}
 
 module _ (l : Listed) where
   pub answer-lines : (count : ℕ) → l ≡ listed-variant.Written count → answer.Lines count ≡ answerFor l

@@ -8,10 +8,10 @@ use borrow.Author.Tests.{lt-ltb}
 use lib.Dec.{eqb}
 use lib.ListN.{length, take}
 use lib.Seq.{length-take-le, getD-take}
-use Rattle.listing.specs.declared.Parsed.the-variants.{Refused}
-use Rattle.listing.specs.Program.{recordsOf, mostRecords, trimWrong, tooMany, parsedOf}
+use Rattle.listinput.specs.declared.Parsed.the-variants.{Refused}
+use Rattle.listinput.specs.Input.{recordsOf, mostRecords, trimWrong, tooMany, parsedOf}
 use Rattle.listing.specs.Cut.{buffered, Cut}
-use Rattle.listing.proofs.Parsing.{records-count, rest-incomplete}
+use Rattle.listinput.proofs.Parsing.{records-count, rest-incomplete}
 
 -- over 4,096 records, the bytes after the last whole one and the trim byte say what is refused
 long : (input : List ℕ) → 3 + 4 * 4097 ≤ length input → parsedOf input ≡ cond (not (eqb ((length input - 3) % 4) 0)) (Refused 0) (cond (trimWrong input) (Refused 0) (Refused 3))

@@ -1,3 +1,2 @@
-pub mod Parsing
 pub mod Answering
 pub mod Cutting

@@ -1,25 +1,16 @@
 // The program `listlines`: reads a limit, a trim byte and records, and prints the text's lines, or why they are refused.
 use lines::Listed;
+use listinput::Parsed;
 use text::Alignment;
 ghost use mathlib.Core.Path.{_≡_};
 ghost use Prim.Native.Nat.{_≤_};
 ghost use lib.ListN.{length};
-ghost use Rattle.listing.specs.Program.{mostRecords, answerFor, answerOf, listOf};
+ghost use Rattle.listinput.specs.Input.{mostRecords};
+ghost use Rattle.listing.specs.Program.{answerFor, answerOf, listOf};
 
 mod entry;
-mod input;
 mod print;
 mod read;
-
-// What the program's input holds: a text at the start of the numbers lent for it, or the number of a refusal.
-pub enum Parsed {
-    Refused(u32),
-    Text {
-        limit: u16,
-        trim: bool,
-        records: usize,
-    },
-}
 
 // What the program answers: how many lines stand in the list, or the number of a refusal.
 pub enum Answer {
@@ -42,7 +33,7 @@ fn answer_to(input: &[u8], text: &mut [u32], list: &mut [u64]) -> Answer
     requires { ⌜ mostRecords ≤ length (now text) ⌝ }
     ensures { λ r. ⌜ (r ≡ answerOf (now (input .entry)) (length (now (list .entry)))) × (now (list .exit) ≡ listOf (now (input .entry)) (now (list .entry))) ⌝ }
 {
-    match input::parse(input, text) {
+    match listinput::parse(input, text) {
         Parsed::Refused(number) => Answer::Refused(number),
         Parsed::Text {
             limit,

@@ -11,8 +11,8 @@ use lib.Dec.{eqb, ltb}
 use lib.ListN.{length, getD, set, take, drop, length-append, length-take, length-drop}
 use lib.Seq.{paste-suc, take-length, getD-drop}
 use Rattle.text.proofs.Bools.{neither}
-use Rattle.listing.specs.declared.Parsed.the-variants.{Refused, Text}
-use Rattle.listing.specs.Program.{limitOf, trimOf, numberAt, recordsFrom, recordsOf, mostRecords, incomplete, trimWrong, parsedOf}
+use Rattle.listinput.specs.declared.Parsed.the-variants.{Refused, Text}
+use Rattle.listinput.specs.Input.{limitOf, trimOf, numberAt, recordsFrom, recordsOf, mostRecords, incomplete, trimWrong, parsedOf}
 
 -- the tests of completeness
 module _ (input : List ℕ) where

@@ -1,9 +1,9 @@
--- `listing::input::store_records` meets its contract.
+-- `listinput::store_records` meets its contract.
 use Prim.Native.Nat.{_-_}
-use Rattle.listing.proofs.Parsing.{Storing, storing}
+use Rattle.listinput.proofs.Parsing.{Storing, storing}
 use borrow.Author.Needs.{needs}
-use Rattle.listing.proofs.input.store_records.Statement.{statement}
-use Rattle.listing.proofs.input.store_records.Tie as tie
+use Rattle.listinput.proofs.store_records.Statement.{statement}
+use Rattle.listinput.proofs.store_records.Tie as tie
 
 abbrev Inv-loop : tie.InvT-loop
 Inv-loop input count text₀ i₀ text i = Storing input text₀ text i

@@ -1,8 +1,8 @@
--- `listing::input::is_incomplete` meets its contract.
-use Rattle.listing.proofs.Parsing.{tests}
+-- `listinput::is_incomplete` meets its contract.
+use Rattle.listinput.proofs.Parsing.{tests}
 use borrow.Author.Needs.{needs}
-use Rattle.listing.proofs.input.is_incomplete.Statement.{statement}
-use Rattle.listing.proofs.input.is_incomplete.Tie as tie
+use Rattle.listinput.proofs.is_incomplete.Statement.{statement}
+use Rattle.listinput.proofs.is_incomplete.Tie as tie
 
 returns : tie.Need-returns
 returns c = search tests

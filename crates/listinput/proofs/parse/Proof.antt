@@ -1,8 +1,8 @@
--- `listing::input::parse` meets its contract.
-use Rattle.listing.proofs.Parsing.{parsing}
+-- `listinput::parse` meets its contract.
+use Rattle.listinput.proofs.Parsing.{parsing}
 use borrow.Author.Needs.{needs}
-use Rattle.listing.proofs.input.parse.Statement.{statement}
-use Rattle.listing.proofs.input.parse.Tie as tie
+use Rattle.listinput.proofs.parse.Statement.{statement}
+use Rattle.listinput.proofs.parse.Tie as tie
 
 is-incomplete-requires : tie.Need-is-incomplete-requires
 is-incomplete-requires c κs = search needs

@@ -1,10 +1,19 @@
-// The program's input, high byte first: limit (2 bytes), trim (byte 0 or 1), then records of 4 bytes.
-use crate::Parsed;
+// The input of the program `listlines`, high byte first: limit (2 bytes), trim (byte 0 or 1), then records of 4 bytes.
 ghost use mathlib.Core.Path.{_≡_};
 ghost use Prim.Native.Nat.{_+_, _<_, _≤_};
 ghost use mathlib.Core.List.{_++_};
 ghost use lib.ListN.{length, drop};
-ghost use Rattle.listing.specs.Program.{limitOf, numberAt, recordsOf, mostRecords, incomplete, trimWrong, parsedOf, holding};
+ghost use Rattle.listinput.specs.Input.{limitOf, numberAt, recordsOf, mostRecords, incomplete, trimWrong, parsedOf, holding};
+
+// What the program's input holds: a text at the start of the numbers lent for it, or the number of a refusal.
+pub enum Parsed {
+    Refused(u32),
+    Text {
+        limit: u16,
+        trim: bool,
+        records: usize,
+    },
+}
 
 // A byte as a record's number, with its bound.
 fn wide(byte: u8) -> u32
