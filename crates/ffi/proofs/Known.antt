@@ -3,7 +3,7 @@ use Prim.Native.Nat.{ℕ, _<_, _≤_}
 use mathlib.Core.Path.{_≡_}
 use mathlib.Core.Bool.{Bool, true, false, cond, not, and-false}
 use borrow.Author.Tests.{not-true, not-false, le-leb, lt-leb}
-use Rattle.ffi.specs.Answer.{listKnown, tallyKnown}
+use Rattle.flat_answers.specs.Answer.{listKnown, tallyKnown}
 
 -- what is answered, in both cases; the test is the code's, negated
 module _ {A : Type 0} (known test : Bool) (e : test ≡ known) (x unknown : A) where

@@ -1,2 +1,1 @@
-pub mod Flattened
 pub mod Known

@@ -1,13 +1,13 @@
 // The calls that C and Rust programs link to: include/notice.h. Each is the call of the same name in `notice`, with settings and answers
 // as flat structs. A setting whose number names no case is answered with 255, and nothing is changed.
-use answers::AreaAnswer;
-use answers::DrawAnswer;
-use answers::ListAnswer;
-use answers::MeasureAnswer;
-use answers::TallyAnswer;
 use flat::FlatArea;
 use flat::FlatBlock;
 use flat::FlatText;
+use flat_answers::AreaAnswer;
+use flat_answers::DrawAnswer;
+use flat_answers::ListAnswer;
+use flat_answers::MeasureAnswer;
+use flat_answers::TallyAnswer;
 ghost use mathlib.Core.Path.{_≡_};
 ghost use mathlib.Core.Bool.{cond, _&&_};
 ghost use mathlib.Core.List.{map};
@@ -27,9 +27,7 @@ ghost use Rattle.paragraph.specs.Notice.{noticeCounts};
 ghost use Rattle.draw_block.specs.Call.{blockVerdict, blockCells};
 ghost use Rattle.draw_notice.specs.Call.{noticeVerdict, noticeAnswer, screenOf, noticeCells};
 ghost use Rattle.flat.specs.Flat.{flagNamed, alignmentNamed, wrapNamed, areaFrom, blockKnown, blockFrom, textKnown, noticeFrom};
-ghost use Rattle.ffi.specs.Answer.{unknownNumber, listKnown, tallyKnown, listFlat, tallyFlat, areaFlat, drawFlat, measureFlat, listUnknown, tallyUnknown, areaUnknown, drawUnknown, measureUnknown};
-
-pub mod answers;
+ghost use Rattle.flat_answers.specs.Answer.{unknownNumber, listKnown, tallyKnown, listFlat, tallyFlat, areaFlat, drawFlat, measureFlat, listUnknown, tallyUnknown, areaUnknown, drawUnknown, measureUnknown};
 
 // Lists the composed lines of a text.
 #[no_mangle]
@@ -56,7 +54,7 @@ pub extern "C" fn notice_list_lines(
         };
     }
     let own = flat::alignment_named(alignment);
-    answers::list_answer(notice::list_lines(text, own, limit, trim == 1, list))
+    flat_answers::list_answer(notice::list_lines(text, own, limit, trim == 1, list))
 }
 
 // Tallies a text at a limit.
@@ -75,7 +73,7 @@ pub extern "C" fn notice_tally(text: &[u32], limit: u16, trim: u8) -> TallyAnswe
             dropped: 0,
         };
     }
-    answers::tally_answer(notice::tally(text, limit, trim == 1))
+    flat_answers::tally_answer(notice::tally(text, limit, trim == 1))
 }
 
 // The inner area of a block.
@@ -92,7 +90,7 @@ pub extern "C" fn notice_inner(block: FlatBlock, titles: &[u32], area: FlatArea)
             height: 0,
         };
     }
-    answers::area_answer(notice::inner(block.block(), titles, area.area()))
+    flat_answers::area_answer(notice::inner(block.block(), titles, area.area()))
 }
 
 // Draws a block.
@@ -114,7 +112,7 @@ pub extern "C" fn notice_draw_block(
     }
     let drawn = block.block();
     let framed = notice::draw_block(columns, rows, cells, styles, titles, area.area(), drawn);
-    answers::framed_number(framed)
+    flat_answers::framed_number(framed)
 }
 
 // Draws a notice.
@@ -152,7 +150,7 @@ pub extern "C" fn notice_draw_notice(
         area.area(),
         notice,
     );
-    answers::draw_answer(drawn)
+    flat_answers::draw_answer(drawn)
 }
 
 // How many lines a notice has at a width, with its frame's. Of the text's settings `wrap` and `column` are looked at, and all are checked.
@@ -173,7 +171,7 @@ pub extern "C" fn notice_line_count(
         };
     }
     let wrap = settings.named_wrap();
-    answers::measure_answer(notice::line_count(text, titles, block.block(), wrap, width))
+    flat_answers::measure_answer(notice::line_count(text, titles, block.block(), wrap, width))
 }
 
 // How many columns a notice needs.
@@ -187,5 +185,5 @@ pub extern "C" fn notice_line_width(text: &[u32], titles: &[u32], block: FlatBlo
             value: 0,
         };
     }
-    answers::measure_answer(notice::line_width(text, titles, block.block()))
+    flat_answers::measure_answer(notice::line_width(text, titles, block.block()))
 }

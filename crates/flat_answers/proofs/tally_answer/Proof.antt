@@ -1,8 +1,8 @@
--- `ffi::answers/tally_answer` meets its contract.
-use Rattle.ffi.proofs.Flattened.{flattened}
+-- `flat_answers::tally_answer` meets its contract.
+use Rattle.flat_answers.proofs.Flattened.{flattened}
 use borrow.Author.Needs.{needs}
-use Rattle.ffi.proofs.answers.tally_answer.Statement.{statement}
-use Rattle.ffi.proofs.answers.tally_answer.Tie as tie
+use Rattle.flat_answers.proofs.tally_answer.Statement.{statement}
+use Rattle.flat_answers.proofs.tally_answer.Tie as tie
 
 enum-known-tallied : tie.Need-enum-known-tallied
 enum-known-tallied c = search needs

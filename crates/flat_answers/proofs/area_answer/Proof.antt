@@ -1,8 +1,8 @@
--- `ffi::answers/area_answer` meets its contract.
-use Rattle.ffi.proofs.Flattened.{flattened}
+-- `flat_answers::area_answer` meets its contract.
+use Rattle.flat_answers.proofs.Flattened.{flattened}
 use borrow.Author.Needs.{needs}
-use Rattle.ffi.proofs.answers.area_answer.Statement.{statement}
-use Rattle.ffi.proofs.answers.area_answer.Tie as tie
+use Rattle.flat_answers.proofs.area_answer.Statement.{statement}
+use Rattle.flat_answers.proofs.area_answer.Tie as tie
 
 enum-known-inner : tie.Need-enum-known-inner
 enum-known-inner c = search needs

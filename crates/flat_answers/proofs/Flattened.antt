@@ -16,7 +16,7 @@ use Rattle.measure.specs.declared.Measured.the-variants.{Value, Refused as NotM
 use Rattle.rows.specs.declared.Rows.{Rows}
 use Rattle.draw_notice.specs.declared.Drawn.{Drawn}
 use Rattle.draw_notice.specs.declared.Drawn.the-variants.{Shown, Refused as NotDrawn}
-use Rattle.ffi.specs.Answer.{listFlat, tallyFlat, areaFlat, drawFlat, measureFlat}
+use Rattle.flat_answers.specs.Answer.{listFlat, tallyFlat, areaFlat, drawFlat, measureFlat}
 
 module _ (a : Listed) where
   pub list-written : (count : ℕ) → a ≡ Written count → record { lines = count; number = 0 } ≡ listFlat a

@@ -1,8 +1,8 @@
--- `ffi::answers/measure_answer` meets its contract.
-use Rattle.ffi.proofs.Flattened.{flattened}
+-- `flat_answers::measure_answer` meets its contract.
+use Rattle.flat_answers.proofs.Flattened.{flattened}
 use borrow.Author.Needs.{needs}
-use Rattle.ffi.proofs.answers.measure_answer.Statement.{statement}
-use Rattle.ffi.proofs.answers.measure_answer.Tie as tie
+use Rattle.flat_answers.proofs.measure_answer.Statement.{statement}
+use Rattle.flat_answers.proofs.measure_answer.Tie as tie
 
 enum-known-measured : tie.Need-enum-known-measured
 enum-known-measured c = search needs

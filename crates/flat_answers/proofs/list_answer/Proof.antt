@@ -1,8 +1,8 @@
--- `ffi::answers/list_answer` meets its contract.
-use Rattle.ffi.proofs.Flattened.{flattened}
+-- `flat_answers::list_answer` meets its contract.
+use Rattle.flat_answers.proofs.Flattened.{flattened}
 use borrow.Author.Needs.{needs}
-use Rattle.ffi.proofs.answers.list_answer.Statement.{statement}
-use Rattle.ffi.proofs.answers.list_answer.Tie as tie
+use Rattle.flat_answers.proofs.list_answer.Statement.{statement}
+use Rattle.flat_answers.proofs.list_answer.Tie as tie
 
 enum-known-listed : tie.Need-enum-known-listed
 enum-known-listed c = search needs

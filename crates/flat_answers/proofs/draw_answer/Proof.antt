@@ -1,8 +1,8 @@
--- `ffi::answers/draw_answer` meets its contract.
-use Rattle.ffi.proofs.Flattened.{flattened}
+-- `flat_answers::draw_answer` meets its contract.
+use Rattle.flat_answers.proofs.Flattened.{flattened}
 use borrow.Author.Needs.{needs}
-use Rattle.ffi.proofs.answers.draw_answer.Statement.{statement}
-use Rattle.ffi.proofs.answers.draw_answer.Tie as tie
+use Rattle.flat_answers.proofs.draw_answer.Statement.{statement}
+use Rattle.flat_answers.proofs.draw_answer.Tie as tie
 
 enum-known-drawn : tie.Need-enum-known-drawn
 enum-known-drawn c = search needs

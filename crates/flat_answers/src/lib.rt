@@ -7,7 +7,7 @@ use notice::Measured;
 use notice::Tallied;
 ghost use mathlib.Core.Path.{_≡_};
 ghost use Rattle.draw_block.specs.Call.{framedNumber};
-ghost use Rattle.ffi.specs.Answer.{listFlat, tallyFlat, areaFlat, drawFlat, measureFlat};
+ghost use Rattle.flat_answers.specs.Answer.{listFlat, tallyFlat, areaFlat, drawFlat, measureFlat};
 
 // Lines written, and 0 or the refusal's number.
 #[repr(C)]

@@ -16,11 +16,11 @@ use Rattle.measure.specs.Calls.{measuredNumber, measuredValue}
 use Rattle.rows.specs.declared.Rows.{Rows}
 use Rattle.draw_notice.specs.declared.Drawn.{Drawn}
 use Rattle.draw_notice.specs.Call.{drawnNumber, drawnCounts}
-use Rattle.ffi.specs.declared.answers.ListAnswer.{ListAnswer}
-use Rattle.ffi.specs.declared.answers.TallyAnswer.{TallyAnswer}
-use Rattle.ffi.specs.declared.answers.AreaAnswer.{AreaAnswer}
-use Rattle.ffi.specs.declared.answers.DrawAnswer.{DrawAnswer}
-use Rattle.ffi.specs.declared.answers.MeasureAnswer.{MeasureAnswer}
+use Rattle.flat_answers.specs.declared.ListAnswer.{ListAnswer}
+use Rattle.flat_answers.specs.declared.TallyAnswer.{TallyAnswer}
+use Rattle.flat_answers.specs.declared.AreaAnswer.{AreaAnswer}
+use Rattle.flat_answers.specs.declared.DrawAnswer.{DrawAnswer}
+use Rattle.flat_answers.specs.declared.MeasureAnswer.{MeasureAnswer}
 
 -- a setting's number names no case
 abbrev pub unknownNumber : ℕ
