@@ -1,9 +1,12 @@
--- How many pages there are, one law for each way through the code.
+-- How many pages there are, and which are asked for: one law for each way through the code.
 use Prim.Native.Nat.{ℕ, _+_, _-_, _/_, _<_, _≤_, max}
 use mathlib.Core.Path.{_≡_, refl}
 use native.Mathlib.Omega.{arith}
 use borrow.Author.Tests.{eq-eqb, ne-eqb}
-use Rattle.paging.specs.Paging.{pagesFrom}
+use lib.Dec.{eqb, leb}
+use Rattle.paging.specs.declared.Pages.{Pages}
+use Rattle.paging.specs.declared.Pages.the-variants.{Only}
+use Rattle.paging.specs.Paging.{pagesFrom, isAsked, isPast}
 
 module _ (lines first height : ℕ) where
   pub pages-none : height ≡ 0 → 1 ≡ pagesFrom lines first height
@@ -26,3 +29,13 @@ module _ (lines first height : ℕ) where
     pages-more h = rw (ne-eqb height 0 n, ← e) (more ((left + (height - 1)) / height) h)
 
 pub ruleset paging = (pages-none, pages-one, pages-more)
+
+-- one page asked for
+module _ (p : Pages) (number : ℕ) (e : p ≡ Only number) where
+  pub one-asked : (page : ℕ) → eqb number page ≡ isAsked p page
+  one-asked page = rw e
+
+  pub one-past : (pages : ℕ) → leb pages number ≡ isPast p pages
+  one-past pages = rw e
+
+pub ruleset asking = (one-asked, one-past)

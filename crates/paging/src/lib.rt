@@ -1,7 +1,7 @@
 // The pages of a notice.
 ghost use mathlib.Core.Path.{_≡_};
 ghost use Prim.Native.Nat.{_+_, _-_, min};
-ghost use Rattle.paging.specs.Paging.{pagesFrom};
+ghost use Rattle.paging.specs.Paging.{pagesFrom, isAsked, isPast};
 
 // Which pages are shown.
 pub enum Pages {
@@ -43,7 +43,9 @@ pub fn next_first(first: u16, height: u16) -> u16
 
 impl Pages {
     // Whether a page is one of them.
-    pub fn has(self, page: u64) -> bool {
+    pub fn has(self, page: u64) -> bool
+        ensures { λ r. ⌜ r ≡ isAsked self page ⌝ }
+    {
         match self {
             Pages::All => true,
             Pages::Only(number) => number == page,
@@ -51,7 +53,9 @@ impl Pages {
     }
 
     // Whether one is asked for that isn't among so many.
-    pub fn is_past(self, pages: u64) -> bool {
+    pub fn is_past(self, pages: u64) -> bool
+        ensures { λ r. ⌜ r ≡ isPast self pages ⌝ }
+    {
         match self {
             Pages::All => false,
             Pages::Only(number) => pages <= number,
