@@ -1,7 +1,7 @@
 -- A whole text line: the wrapper's lines are those of the rules, and each is what the records of its run give.
 use Prim.Native.Nat.{ℕ, suc, _+_, _<_}
 use mathlib.Core.Path.{_≡_, refl, ap}
-use mathlib.Core.Bool.{Bool, true, false, cond, not, _&&_, _||_}
+use mathlib.Core.Bool.{Bool, true, false, cond, not, _||_}
 use mathlib.Core.List.{List, [], _∷_, _++_, map, map-append}
 use native.Mathlib.Omega.{arith}
 use native.Mathlib.Numerals.{add-one}
@@ -13,7 +13,7 @@ use Rattle.wrapping.specs.declared.Run.{Run}
 use Rattle.wrapping.specs.declared.Rule.{Rule}
 use Rattle.reflow.specs.declared.Wrapper.{Wrapper}
 use Rattle.reflow.specs.declared.Next.the-variants.{Line, Done}
-use Rattle.wrapping.specs.Wrapping.{Pending, start, empty, takesSpaces, gathered, step, lastLines, finish, Wrapped, wrapFrom, wrap}
+use Rattle.wrapping.specs.Wrapping.{Pending, start, empty, gathered, step, finish, Wrapped, wrapFrom, wrap}
 use Rattle.wrapping.specs.Runs.{emptyRun, runOf}
 use Rattle.reflow.specs.Steps.{startRun, gatherRun, closedRun, finishRun, stepRun}
 use Rattle.reflow.specs.Pulls.{Shows, Sound, lineOf, nextOf, runsFrom, runs}

@@ -13,7 +13,7 @@ use Rattle.reflow.specs.declared.Stepped.the-variants.{Emitted, Went}
 use Rattle.reflow.specs.declared.Next.{Next}
 use Rattle.reflow.specs.declared.Next.the-variants.{Line, Done}
 use Rattle.wrapping.specs.Wrapping.{Pending, notOverWide}
-use Rattle.wrapping.specs.Runs.{runOf, glyphsIn, Spans}
+use Rattle.wrapping.specs.Runs.{runOf, Spans}
 use Rattle.reflow.specs.Steps.{stepRun, finishRun}
 
 -- The invariant: row, spaces and word are the runs of three lists that follow one another in what was read, with only over-wide

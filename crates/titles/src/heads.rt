@@ -1,6 +1,5 @@
 // The last title, looked for from the end.
 use text::head;
-ghost use mathlib.Core.Path.{_≡_};
 ghost use Prim.Native.Nat.{_<_, _≤_};
 ghost use lib.ListN.{length, take};
 ghost use Rattle.text.specs.Line.{linesFrom};
