@@ -153,7 +153,8 @@ pub extern "C" fn notice_draw_notice(
     flat_answers::draw_answer(drawn)
 }
 
-// How many lines a notice has at a width, with its frame's. Of the text's settings `wrap` and `column` are looked at, and all are checked.
+// How many lines a notice has at a width, with its frame's. Of the text's settings `wrap` decides; those that have numbers for cases
+// are all checked.
 #[no_mangle]
 pub extern "C" fn notice_line_count(
     text: &[u32],
