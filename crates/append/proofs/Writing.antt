@@ -4,26 +4,33 @@ use mathlib.Core.Path.{_≡_, refl, sym, ap, _∙_}
 use mathlib.Core.List.{List, [], _∷_, _++_, append-assoc, append-nil}
 use native.Mathlib.Numerals.{add-one}
 use native.Mathlib.Omega.{arith}
-use lib.ListN.{length, getD, set, take, length-append, length-set}
-use lib.Seq.{take-suc, take-suc-set, take-length, length-take-le}
+use lib.ListN.{length, getD, set, take, drop, length-append, length-set}
+use lib.Seq.{take-suc, take-suc-set, take-length, length-take-le, drop-set-lt, drop-drop}
 use Rattle.append.specs.Written.{Written}
 
 module _ (old : List ℕ) (from : ℕ) where
   pub written-none : Written old from old from []
-  written-none = record { moved = omega arith; kept = refl; same = sym (append-nil (take from old)) }
+  written-none = record { moved = omega arith; kept = refl; same = sym (append-nil (take from old)); rest = refl }
 
   pub written-byte : (byte : ℕ) → from < length old → Written old from (set old from byte) (from + 1) (byte ∷ [])
   written-byte byte h =
-      record { moved = refl; kept = length-set old from byte; same = rw (add-one from, take-suc-set old from byte h) refl }
+      record {
+        moved = refl;
+        kept = length-set old from byte;
+        same = rw (add-one from, take-suc-set old from byte h) refl;
+        rest = drop-set-lt (from + 1) old from byte (omega arith);
+      }
 
   pub written-then :
       (middle new : List ℕ) (to end : ℕ) (first second : List ℕ) →
       Written old from middle to first → Written middle to new end second → Written old from new end (first ++ second)
   written-then middle new to end first second a b =
+      let later : (n : ℕ) → drop (to + n) middle ≡ drop (to + n) old = λ n. sym (drop-drop n to middle) ∙ ap (drop n) (a .rest) ∙ drop-drop n to old in
       record {
         moved = omega (arith, a .moved, b .moved, length-append first second);
         kept = b .kept ∙ a .kept;
         same = b .same ∙ (rw (a .same) (append-assoc (take from old) first second));
+        rest = b .rest ∙ (rw (b .moved) (later (length second)));
       }
 
   pub written-cons :

@@ -2,10 +2,11 @@
 use Prim.Native.Nat.{ℕ, _+_}
 use mathlib.Core.Path.{_≡_}
 use mathlib.Core.List.{List, _++_}
-use lib.ListN.{length, take}
+use lib.ListN.{length, take, drop}
 
--- a buffer that held text up to `from` holds that text and these bytes, up to `to`
+-- a buffer that held text up to `from` holds that text and these bytes, up to `to`, and after them what it held there
 pub record Written (old : List ℕ) (from : ℕ) (new : List ℕ) (to : ℕ) (bytes : List ℕ) : Type 0 where
   pub moved : to ≡ from + length bytes
   pub kept : length new ≡ length old
   pub same : take to new ≡ take from old ++ bytes
+  pub rest : drop to new ≡ drop to old
