@@ -4,7 +4,6 @@ use crate::Paddings;
 use crate::Symbols;
 use crate::numbers::count;
 use crate::numbers::half;
-use crate::numbers::number_2;
 use crate::numbers::number_4;
 use crate::numbers::signed;
 use flat::FlatArea;
@@ -114,8 +113,8 @@ pub fn opening(input: &[u8]) -> Opening
     let block = block(input);
     let text = text(input);
     Opening {
-        columns: number_2(input, 4),
-        rows: number_2(input, 6),
+        columns: half(input, 4),
+        rows: half(input, 6),
         area,
         block,
         text,

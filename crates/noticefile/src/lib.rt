@@ -25,8 +25,8 @@ mod store;
 
 // What stands before the styles.
 pub struct Opening {
-    pub columns: u32,
-    pub rows: u32,
+    pub columns: u16,
+    pub rows: u16,
     pub area: FlatArea,
     pub block: FlatBlock,
     pub text: FlatText,

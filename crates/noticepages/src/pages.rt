@@ -61,15 +61,6 @@ impl Sums {
     }
 }
 
-// Makes all cells blank.
-fn clear(cells: &mut [u64]) {
-    let mut i = 0;
-    while i < cells.len() {
-        cells[i] = cell::blank();
-        i += 1;
-    }
-}
-
 // Draws the page that starts with a line.
 fn draw_page(
     framing: Framing,
@@ -100,7 +91,7 @@ fn read_page(
     symbols: &mut [u64],
 ) -> Sums {
     let inner = framing.inner;
-    clear(cells);
+    fill::fill(cells, cell::blank());
     let Drawn::Shown(rows) = draw_page(framing, first, styles, text, titles, cells) else {
         return sums.with_refused();
     };

@@ -8,7 +8,6 @@ use noticefile::Opening;
 use noticefile::Parsed;
 use sheet::Fitting;
 use sheet::Measure;
-use sheet::Sheet;
 ghost use mathlib.Core.Path.{_≡_};
 ghost use Prim.Native.Nat.{_≤_, min};
 ghost use lib.ListN.{length};
@@ -29,7 +28,7 @@ fn blank_width() -> u64 {
 // Prints a page that is drawn, its cells marked with the widths.
 fn print_page(
     page: Page,
-    columns: u32,
+    columns: u16,
     ansi: bool,
     rows: Rows,
     cells: &mut [u64],
@@ -43,7 +42,7 @@ fn print_page(
 
 // Draws a page and prints it.
 fn show_page(
-    sheet: Sheet,
+    opening: Opening,
     page: Page,
     ansi: bool,
     styles: &[u64],
@@ -55,9 +54,8 @@ fn show_page(
     wide_cells: &mut [u64],
 ) {
     let first = page.first;
-    let notice = sheet.notice;
-    let wide = sheet.wide;
-    sheet.draw(
+    let wide = sheet::widened(opening);
+    sheet::draw(
         wide,
         first,
         blank_width(),
@@ -66,15 +64,15 @@ fn show_page(
         wide_text,
         wide_cells,
     );
-    match sheet.draw(notice, first, cell::blank(), styles, titles, text, cells) {
+    match sheet::draw(opening, first, cell::blank(), styles, titles, text, cells) {
         Drawn::Refused(why) => messages::refused(why.number()),
-        Drawn::Shown(rows) => { print_page(page, sheet.columns, ansi, rows, cells, wide_cells) }
+        Drawn::Shown(rows) => { print_page(page, opening.columns, ansi, rows, cells, wide_cells) }
     }
 }
 
 // Shows a page, if it is asked for.
 fn show_asked(
-    sheet: Sheet,
+    opening: Opening,
     page: Page,
     asked: Asked,
     styles: &[u64],
@@ -88,7 +86,7 @@ fn show_asked(
     let pages = asked.pages;
     if pages.has(page.number) {
         show_page(
-            sheet,
+            opening,
             page,
             asked.ansi,
             styles,
@@ -104,7 +102,7 @@ fn show_asked(
 
 // Shows the pages that are asked for, of so many.
 fn show_pages(
-    sheet: Sheet,
+    opening: Opening,
     pages: u64,
     height: u16,
     asked: Asked,
@@ -116,8 +114,8 @@ fn show_pages(
     cells: &mut [u64],
     wide_cells: &mut [u64],
 ) {
-    let notice = sheet.notice;
-    let mut first = notice.scroll;
+    let settings = opening.text;
+    let mut first = settings.scroll;
     let mut number = 0;
     while number < pages {
         let page = Page {
@@ -126,7 +124,7 @@ fn show_pages(
             first,
         };
         show_asked(
-            sheet,
+            opening,
             page,
             asked,
             styles,
@@ -155,7 +153,7 @@ fn show_tally(text: &[u32], width: u16, wrap: Wrap) {
 
 // Shows the pages of a notice whose lines are measured.
 fn show_measured(
-    sheet: Sheet,
+    opening: Opening,
     measure: Measure,
     asked: Asked,
     styles: &[u64],
@@ -166,16 +164,16 @@ fn show_measured(
     cells: &mut [u64],
     wide_cells: &mut [u64],
 ) {
-    let notice = sheet.notice;
-    let wrap = notice.wrap;
+    let settings = opening.text;
+    let wrap = settings.named_wrap();
     let shown = asked.pages;
-    let pages = paging::page_count(measure.lines, notice.scroll, measure.height);
+    let pages = paging::page_count(measure.lines, settings.scroll, measure.height);
     if shown.is_past(pages) {
         messages::past_the_last(pages);
         return;
     }
     show_pages(
-        sheet,
+        opening,
         pages,
         measure.height,
         asked,
@@ -192,7 +190,7 @@ fn show_measured(
 
 // Shows a notice, or says why it is refused: drawing looks at all that measuring does.
 fn show_notice(
-    sheet: Sheet,
+    opening: Opening,
     asked: Asked,
     styles: &[u64],
     titles: &[u32],
@@ -202,14 +200,24 @@ fn show_notice(
     cells: &mut [u64],
     wide_cells: &mut [u64],
 ) {
-    if let Drawn::Refused(why) = sheet.draw_first(styles, titles, text, cells) {
+    let settings = opening.text;
+    let first = settings.scroll;
+    if let Drawn::Refused(why) = sheet::draw(
+        opening,
+        first,
+        cell::blank(),
+        styles,
+        titles,
+        text,
+        cells,
+    ) {
         messages::refused(why.number());
         return;
     }
-    match sheet.measured(titles, text) {
+    match sheet::measured(opening, titles, text) {
         Fitting::Refused(number) => messages::refused(number),
         Fitting::Fits(measure) => show_measured(
-            sheet,
+            opening,
             measure,
             asked,
             styles,
@@ -234,14 +242,14 @@ fn least(a: usize, b: usize) -> usize
 }
 
 // How many cells a screen has, of those that drawing accepts; another is lent none, and refused.
-fn cell_count(columns: u32, rows: u32) -> usize {
+fn cell_count(columns: u16, rows: u16) -> usize {
     if 512 < columns {
         return 0;
     }
     if 256 < rows {
         return 0;
     }
-    (columns * rows) as usize
+    columns as usize * rows as usize
 }
 
 // Shows a notice on as many cells as its screen has.
@@ -257,11 +265,10 @@ fn show_on_cells(
     wide_cells: &mut [u64],
 ) {
     let count = cell_count(opening.columns, opening.rows);
-    let sheet = Sheet::new(opening);
     let drawn = least(count, cells.len());
     let told = least(count, wide_cells.len());
     show_notice(
-        sheet,
+        opening,
         asked,
         styles,
         titles,

@@ -1,5 +1,6 @@
-// A notice ready to be drawn.
+// What `preview` draws and measures: the notice that an opening of the packed form gives.
 use buffer::Screen;
+use flat::FlatArea;
 use flat::FlatBlock;
 use notice::Block;
 use notice::Drawn;
@@ -7,16 +8,15 @@ use notice::InnerArea;
 use notice::Measured;
 use notice::Notice;
 use notice::Rect;
+use notice::Wrap;
 use noticefile::Opening;
-
-// What is drawn: the notice, and the same with widths for symbols.
-pub struct Sheet {
-    pub columns: u32,
-    pub rows: u32,
-    pub area: Rect,
-    pub notice: Notice,
-    pub wide: Notice,
-}
+ghost use mathlib.Core.Path.{_≡_};
+ghost use lib.ListN.{length, replicate};
+ghost use Rattle.layout.specs.Rect.{meet};
+ghost use Rattle.buffer.specs.Drawing.{areaOf};
+ghost use Rattle.draw_notice.specs.Call.{screenOf};
+ghost use Rattle.flat.specs.Flat.{areaFrom, blockFrom};
+ghost use Rattle.sheet.specs.Sheet.{noticeAt, drawnOf, cellsOf, widenedOpening, nothingSet, linesIn, fittingOf};
 
 // Where the lines of a notice go, and how many there are.
 pub struct Measure {
@@ -31,8 +31,52 @@ pub enum Fitting {
     Refused(u32),
 }
 
+// The notice, its first line another.
+fn notice_at(opening: Opening, first: u16) -> Notice
+    ensures { λ r. ⌜ r ≡ noticeAt opening first ⌝ }
+{
+    let block = opening.block;
+    let mut settings = opening.text;
+    settings.scroll = first;
+    settings.notice(block)
+}
+
+// The same with widths for the symbols of its block.
+pub fn widened(opening: Opening) -> Opening
+    ensures { λ r. ⌜ r ≡ widenedOpening opening ⌝ }
+{
+    let block = widths::widened_block(opening.block);
+    let mut wide = opening;
+    wide.block = block;
+    wide
+}
+
+// Draws it from a line on, on cells that are all the same.
+pub fn draw(
+    opening: Opening,
+    first: u16,
+    blank: u64,
+    styles: &[u64],
+    titles: &[u32],
+    text: &[u32],
+    cells: &mut [u64],
+) -> Drawn
+    ensures answer { λ r. ⌜ r ≡ drawnOf opening first (length (now (cells .entry))) (now (styles .entry)) (now (titles .entry)) (now (text .entry)) ⌝ }
+    ensures cells { λ r. ⌜ now (cells .exit) ≡ cellsOf opening first (now (styles .entry)) (now (titles .entry)) (now (text .entry)) (replicate (length (now (cells .entry))) blank) ⌝ }
+{
+    let flat_area = opening.area;
+    let area = flat_area.area();
+    let notice = notice_at(opening, first);
+    let columns = opening.columns as u32;
+    let rows = opening.rows as u32;
+    fill::fill(cells, blank);
+    notice::draw_notice(columns, rows, cells, styles, text, titles, area, notice)
+}
+
 // A block with nothing set: what it frames needs just its lines.
-fn no_block() -> Block {
+fn no_block() -> Block
+    ensures { λ r. ⌜ r ≡ blockFrom nothingSet ⌝ }
+{
     let flat = FlatBlock {
         top_left: 0,
         top_right: 0,
@@ -64,103 +108,38 @@ fn no_block() -> Block {
     flat.block()
 }
 
-// Makes all cells the same.
-fn fill(cells: &mut [u64], cell: u64) {
-    let mut i = 0;
-    while i < cells.len() {
-        cells[i] = cell;
-        i += 1;
+// What an area and a screen share.
+fn met(area: FlatArea, columns: u16, rows: u16) -> Rect
+    ensures { λ r. ⌜ r ≡ meet (areaFrom area) (areaOf (screenOf columns rows)) ⌝ }
+{
+    let screen = Screen { columns, rows };
+    area.area().intersection(screen.area())
+}
+
+// How many lines an area of its width has.
+fn lines_in(wrap: Wrap, inside: Rect, text: &[u32]) -> Fitting
+    ensures { λ r. ⌜ r ≡ linesIn wrap (now (text .entry)) inside ⌝ }
+{
+    match notice::line_count(text, &[0u32; 0], no_block(), wrap, inside.width) {
+        Measured::Value(lines) => Fitting::Fits(Measure {
+            width: inside.width,
+            height: inside.height,
+            lines,
+        }),
+        Measured::Refused(why) => Fitting::Refused(why.number()),
     }
 }
 
-impl Sheet {
-    pub fn new(opening: Opening) -> Sheet {
-        let flat_area = opening.area;
-        let flat_block = opening.block;
-        let flat_text = opening.text;
-        let area = flat_area.area();
-        let notice = flat_text.notice(flat_block);
-        let wide = flat_text.notice(widths::widened_block(flat_block));
-        Sheet {
-            columns: opening.columns,
-            rows: opening.rows,
-            area,
-            notice,
-            wide,
-        }
-    }
-
-    // Draws a notice from a line on, on cells that are all the same.
-    pub fn draw(
-        self,
-        shown: Notice,
-        first: u16,
-        blank: u64,
-        styles: &[u64],
-        titles: &[u32],
-        text: &[u32],
-        cells: &mut [u64],
-    ) -> Drawn {
-        let area = self.area;
-        let mut notice = shown;
-        notice.scroll = first;
-        fill(cells, blank);
-        notice::draw_notice(
-            self.columns,
-            self.rows,
-            cells,
-            styles,
-            text,
-            titles,
-            area,
-            notice,
-        )
-    }
-
-    // Draws the notice as it is given.
-    pub fn draw_first(
-        self,
-        styles: &[u64],
-        titles: &[u32],
-        text: &[u32],
-        cells: &mut [u64],
-    ) -> Drawn {
-        let notice = self.notice;
-        let first = notice.scroll;
-        self.draw(notice, first, cell::blank(), styles, titles, text, cells)
-    }
-
-    // The screen's part of the area.
-    fn met(self) -> Rect {
-        let area = self.area;
-        let screen = Screen {
-            columns: (self.columns % 65536) as u16,
-            rows: (self.rows % 65536) as u16,
-        };
-        area.intersection(screen.area())
-    }
-
-    // How many lines there are in an inner area.
-    fn lines_in(self, inside: Rect, text: &[u32]) -> Fitting {
-        let notice = self.notice;
-        let wrap = notice.wrap;
-        match notice::line_count(text, &[0u32; 0], no_block(), wrap, inside.width) {
-            Measured::Value(lines) => Fitting::Fits(Measure {
-                width: inside.width,
-                height: inside.height,
-                lines,
-            }),
-            Measured::Refused(why) => Fitting::Refused(why.number()),
-        }
-    }
-
-    // Where the lines go, and how many there are.
-    pub fn measured(self, titles: &[u32], text: &[u32]) -> Fitting {
-        let notice = self.notice;
-        let block = notice.block;
-        match notice::inner(block, titles, self.met()) {
-            InnerArea::Area(inside) => self.lines_in(inside, text),
-            InnerArea::Refused(why) => Fitting::Refused(why.number()),
-        }
+// Where the lines go, and how many there are.
+pub fn measured(opening: Opening, titles: &[u32], text: &[u32]) -> Fitting
+    ensures { λ r. ⌜ r ≡ fittingOf opening (now (titles .entry)) (now (text .entry)) ⌝ }
+{
+    let area = opening.area;
+    let flat_block = opening.block;
+    let settings = opening.text;
+    let met = met(area, opening.columns, opening.rows);
+    match notice::inner(flat_block.block(), titles, met) {
+        InnerArea::Area(inside) => lines_in(settings.named_wrap(), inside, text),
+        InnerArea::Refused(why) => Fitting::Refused(why.number()),
     }
 }

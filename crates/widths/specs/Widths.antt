@@ -1,13 +1,53 @@
--- The same notice with widths for symbols: drawn as the notice is, its cells tell how wide that is which stands in them.
+-- The same notice with widths for symbols: drawn as the notice is, each of its cells tells the width of what stands there.
 use Prim.Native.Nat.{ℕ, _+_, _*_, _/_, _%_, _^_}
 use mathlib.Core.Bool.{cond}
+use mathlib.Core.List.{List, [], _∷_}
 use Rattle.text.specs.Record.{isHead, widthOf}
 use Rattle.cell.specs.Cell.{cellFrom}
+use Rattle.flat.specs.declared.FlatBlock.{FlatBlock}
 
 -- a glyph whose symbol is its width; a head stays
 unfoldable pub widened : ℕ → ℕ
 widened r = cond (isHead r) r (widthOf r * 2 ^ 10 + r % 2 ^ 10)
 
+-- a block whose symbols are all 1, the width of each
+abbrev pub widenedBlock : FlatBlock → FlatBlock
+widenedBlock b =
+    record {
+      «top_left» = 1;
+      «top_right» = 1;
+      «bottom_left» = 1;
+      «bottom_right» = 1;
+      «vertical_left» = 1;
+      «vertical_right» = 1;
+      «horizontal_top» = 1;
+      «horizontal_bottom» = 1;
+      «shadow_symbol» = 1;
+      «shadow_x» = b .«shadow_x»;
+      «shadow_y» = b .«shadow_y»;
+      «padding_left» = b .«padding_left»;
+      «padding_right» = b .«padding_right»;
+      «padding_top» = b .«padding_top»;
+      «padding_bottom» = b .«padding_bottom»;
+      «border_top» = b .«border_top»;
+      «border_right» = b .«border_right»;
+      «border_bottom» = b .«border_bottom»;
+      «border_left» = b .«border_left»;
+      «border_style» = b .«border_style»;
+      style = b .style;
+      «titles_style» = b .«titles_style»;
+      «titles_alignment» = b .«titles_alignment»;
+      «titles_position» = b .«titles_position»;
+      shadow = b .shadow;
+      «shadow_style» = b .«shadow_style»;
+    }
+
 -- a cell with the width told by another in the bits that drawing never touches
 unfoldable pub withWidth : ℕ → ℕ → ℕ
 withWidth cell wide = cell / 2 ^ 18 * 2 ^ 18 + cellFrom wide .symbol % 2 ^ 3
+
+-- a list in which each entry is changed by the entry of another in its place, where that has one
+abbrev pub changedBy : (ℕ → ℕ → ℕ) → List ℕ → List ℕ → List ℕ
+changedBy f [] others = []
+changedBy f (x ∷ xs) [] = x ∷ xs
+changedBy f (x ∷ xs) (y ∷ ys) = f x y ∷ changedBy f xs ys

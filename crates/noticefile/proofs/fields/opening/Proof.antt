@@ -13,11 +13,11 @@ block-requires c κs = search needs
 text-requires : tie.Need-text-requires
 text-requires c κs = search needs
 
-number-2-requires : tie.Need-number-2-requires
-number-2-requires c κs = search needs
+half-requires : tie.Need-half-requires
+half-requires c κs = search needs
 
-number-2-requires-2 : tie.Need-number-2-requires-2
-number-2-requires-2 c κs = search needs
+half-requires-2 : tie.Need-half-requires-2
+half-requires-2 c κs = search needs
 
 count-requires : tie.Need-count-requires
 count-requires c κs = search needs
@@ -38,8 +38,8 @@ opening-spec =
     area-requires
     block-requires
     text-requires
-    number-2-requires
-    number-2-requires-2
+    half-requires
+    half-requires-2
     count-requires
     count-requires-2
     count-requires-3

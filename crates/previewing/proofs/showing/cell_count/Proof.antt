@@ -13,11 +13,8 @@ returns-2 c = search needs
 mul-result : tie.Need-mul-result
 mul-result c = record { fits = search (counting, needs) }
 
-cast-result : tie.Need-cast-result
-cast-result c = record { fits = search (counting, needs) }
-
 returns-3 : tie.Need-returns-3
 returns-3 c = search needs
 
 pub cell-count-spec : {M : Type 1} → statement M
-cell-count-spec = tie.close (tie.spec returns returns-2 mul-result cast-result returns-3)
+cell-count-spec = tie.close (tie.spec returns returns-2 mul-result returns-3)

@@ -7,9 +7,6 @@ use Rattle.previewing.proofs.showing.show_on_cells.Tie as tie
 cell-count-requires : tie.Need-cell-count-requires
 cell-count-requires c κs = search needs
 
-new-requires : tie.Need-new-requires
-new-requires c κs = search needs
-
 least-requires : tie.Need-least-requires
 least-requires c κs = search needs
 
@@ -45,7 +42,6 @@ show-on-cells-spec =
     tie.close
     (tie.spec
     cell-count-requires
-    new-requires
     least-requires
     least-requires-2
     slice-relend-prefix-show-notice
