@@ -1,13 +1,5 @@
 // The oracle's sums: a file has a sum for each case in order, 4 bytes each, high byte first.
-ghost use mathlib.Core.Path.{_≡_};
-ghost use Prim.Native.Nat.{_<_};
-
-fn wide(byte: u8) -> u32
-    ensures { λ r. ⌜ r ≡ byte ⌝ }
-    ensures { λ r. ⌜ r < 256 ⌝ }
-{
-    byte as u32
-}
+use num::wide;
 
 // The next sum of a file, or 0 past its end.
 pub fn next_sum(fd: i32) -> u32 {

@@ -48,13 +48,14 @@ wrapNamed t = cond (eqb (t .wrap) 0) (Off (t .column)) (On (eqb (t .wrap) 2))
 abbrev pub areaFrom : FlatArea → Rect
 areaFrom a = record { x = a .x; y = a .y; width = a .width; height = a .height }
 
--- every number of a block's settings names a case, and the block
+-- every number of a block's settings names a case
 unfoldable pub blockKnown : FlatBlock → Bool
 blockKnown b =
     not
     (unnamed 2 (b .«border_top» ∷ b .«border_right» ∷ b .«border_bottom» ∷ b .«border_left» ∷ b .«titles_position» ∷ [])
     || unnamed 3 (b .«titles_alignment» ∷ b .shadow ∷ []))
 
+-- the block that they name
 unfoldable pub blockFrom : FlatBlock → Block
 blockFrom b =
     record {
@@ -95,6 +96,7 @@ blockFrom b =
 unfoldable pub textKnown : FlatText → Bool
 textKnown t = not (unnamed 3 (t .alignment ∷ t .wrap ∷ []))
 
+-- the notice that both name
 unfoldable pub noticeFrom : FlatBlock → FlatText → Notice
 noticeFrom b t =
     record {

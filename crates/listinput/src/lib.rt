@@ -1,4 +1,5 @@
 // The input of the program `listlines`, high byte first: limit (2 bytes), trim (byte 0 or 1), then records of 4 bytes.
+use num::wide;
 ghost use mathlib.Core.Path.{_≡_};
 ghost use Prim.Native.Nat.{_+_, _<_, _≤_};
 ghost use mathlib.Core.List.{_++_};
@@ -13,14 +14,6 @@ pub enum Parsed {
         trim: bool,
         records: usize,
     },
-}
-
-// A byte as a record's number, with its bound.
-fn wide(byte: u8) -> u32
-    ensures { λ r. ⌜ r ≡ byte ⌝ }
-    ensures { λ r. ⌜ r < 256 ⌝ }
-{
-    byte as u32
 }
 
 // The first two bytes.

@@ -126,7 +126,7 @@ pub fn line_count(text: &[u32], titles: &[u32], block: Block, wrap: Wrap, width:
     Measured::Value(count as u32 + both(block.vertical_space(titles)))
 }
 
-// How many columns a text needs in a block for none of its lines to be wrapped or truncated: causes 3, 4, 5, 7.
+// The width of a text's widest line, with what a block takes at both sides: causes 3, 4, 5, 7.
 pub fn line_width(text: &[u32], titles: &[u32], block: Block) -> Measured
     ensures answer { λ r. ⌜ r ≡ measuredAnswer (widthVerdict mostAccepted (now (text .entry)) (now (titles .entry)) block) (lineWidth block (now (text .entry))) ⌝ }
     ensures number { λ r. ⌜ measuredNumber r ≡ verdictNumber (widthVerdict mostAccepted (now (text .entry)) (now (titles .entry)) block) ⌝ }

@@ -1,15 +1,9 @@
 // Numbers among bytes, high byte first.
+use num::wide;
 ghost use mathlib.Core.Path.{_≡_};
 ghost use Prim.Native.Nat.{_+_, _<_, _^_};
 ghost use lib.ListN.{length};
 ghost use Rattle.noticefile.specs.Numbers.{number2, number4, number8, signed};
-
-// A byte as a number, with its bound.
-fn wide(byte: u8) -> u32
-    ensures { λ r. ⌜ (r ≡ byte) × (r < 256) ⌝ }
-{
-    byte as u32
-}
 
 pub fn number_2(input: &[u8], at: usize) -> u32
     requires { ⌜ at + 1 < length (now input) ⌝ }

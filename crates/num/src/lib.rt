@@ -1,6 +1,6 @@
-// Numbers of 16 bits whose sums and differences are held at the ends.
+// Numbers of 16 bits whose sums and differences are held at the ends; a difference of sizes that is; a byte with its bound.
 ghost use mathlib.Core.Path.{_≡_};
-ghost use Prim.Native.Nat.{_+_, _-_, min, max};
+ghost use Prim.Native.Nat.{_+_, _-_, _<_, min, max};
 ghost use Rattle.num.specs.Held.{held};
 
 // a + b, held at 65,535.
@@ -29,4 +29,21 @@ pub fn max(a: u16, b: u16) -> u16
     ensures { λ r. ⌜ r ≡ max a b ⌝ }
 {
     if a <= b { b } else { a }
+}
+
+// a - b of sizes, held at 0.
+pub fn less(a: usize, b: usize) -> usize
+    ensures { λ r. ⌜ r ≡ a - b ⌝ }
+{
+    if a < b {
+        return 0;
+    }
+    a - b
+}
+
+// A byte as a number, with its bound.
+pub fn wide(byte: u8) -> u32
+    ensures { λ r. ⌜ (r ≡ byte) × (r < 256) ⌝ }
+{
+    byte as u32
 }

@@ -9,16 +9,6 @@ pub enum Pages {
     Only(u64),
 }
 
-// a less b, held at 0.
-fn less(a: u32, b: u32) -> u32
-    ensures { λ r. ⌜ r ≡ a - b ⌝ }
-{
-    if b <= a {
-        return a - b;
-    }
-    0
-}
-
 // How many pages the lines from the first one shown on need, and at least one.
 pub fn page_count(lines: u32, first: u16, height: u16) -> u64
     ensures { λ r. ⌜ r ≡ pagesFrom lines first height ⌝ }
@@ -26,7 +16,7 @@ pub fn page_count(lines: u32, first: u16, height: u16) -> u64
     if height == 0 {
         return 1;
     }
-    let left = less(lines, first as u32) as u64;
+    let left = num::less(lines as usize, first as usize) as u64;
     let pages = (left + (height as u64 - 1)) / height as u64;
     if pages < 1 {
         return 1;

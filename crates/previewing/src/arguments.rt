@@ -43,7 +43,7 @@ fn argument_at(number: usize) -> Argument {
     meaning(&buffer[..length])
 }
 
-// The number that digits make, of at most nine.
+// The number that digits make, below 1,000,000,000.
 fn numeral_of(digits: &[u8]) -> Numeral {
     if digits.len() == 0 {
         return Numeral::Wrong;

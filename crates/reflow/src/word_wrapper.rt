@@ -2,6 +2,7 @@
 use crate::Next;
 use crate::Stepped;
 use crate::Wrapper;
+use num::less;
 use text::glyph;
 use wrapping::Rule;
 use wrapping::Run;
@@ -12,16 +13,6 @@ ghost use lib.ListN.{length, getD};
 ghost use Rattle.wrapping.specs.Runs.{runOf, glyphsIn};
 ghost use Rattle.reflow.specs.Steps.{startRun, gatherRun, joinRun, overflowing, joins, joinedRun, fullRun, emptiedRun, passedRun, appendedRun, restRun, filledRun, stepRun, closedRun, finishRun};
 ghost use Rattle.reflow.specs.Pulls.{Sound, Pulled};
-
-// a less b, held at 0
-fn less(a: usize, b: usize) -> usize
-    ensures { λ r. ⌜ r ≡ a - b ⌝ }
-{
-    if a < b {
-        return 0;
-    }
-    a - b
-}
 
 impl Wrapper {
     // The state before a text line's first glyph. Limit 0 gives no line.

@@ -1,5 +1,6 @@
 // One composed line on a row of the text's area: paragraph.rs' `render_line`.
 use compose::Composed;
+use num::less;
 use text::Alignment;
 use text::glyph;
 use wrapping::Rule;
@@ -28,16 +29,6 @@ fn line_offset(alignment: Alignment, area: usize, line: usize) -> usize
         Alignment::Center => less(area / 2, line / 2),
         Alignment::Right => less(area, line),
     }
-}
-
-// a less b, held at 0
-fn less(a: usize, b: usize) -> usize
-    ensures { λ r. ⌜ r ≡ a - b ⌝ }
-{
-    if a < b {
-        return 0;
-    }
-    a - b
 }
 
 // Writes a glyph in the cell of its column: the symbol, then the text style, then its own style.

@@ -2,14 +2,9 @@
 use blocksettings::plain;
 use layout::Rect;
 use libc::STDOUT_FILENO;
+use num::wide;
 ghost use Prim.Native.Nat.{_<_, _≤_};
 ghost use lib.ListN.{length};
-
-fn wide(byte: u8) -> u32
-    ensures { λ r. ⌜ r < 256 ⌝ }
-{
-    byte as u32
-}
 
 // A centred title's head for a bar, or a letter one column wide.
 fn record(byte: u8) -> u32 {

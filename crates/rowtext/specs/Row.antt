@@ -18,13 +18,15 @@ styleText ansi before style = cond ansi (cond (eqb before style) [] (sgr style))
 unfoldable pub cellText : Bool → ℕ → ℕ → List ℕ
 cellText ansi before cell = styleText ansi before (styleIn cell) ++ utf8 (cellFrom cell .symbol)
 
--- what a cell adds, the style after it, and how many cells after it are covered, where some are covered by a wider symbol before
+-- what a cell adds to the text where so many cells from it on are covered by a wide symbol before
 unfoldable pub stepText : Bool → ℕ → ℕ → ℕ → List ℕ
 stepText ansi before covered cell = cond (ltb 0 covered) [] (cellText ansi before cell)
 
+-- the style after it: a covered cell changes none
 unfoldable pub styleAfter : ℕ → ℕ → ℕ → ℕ
 styleAfter before covered cell = cond (ltb 0 covered) before (styleIn cell)
 
+-- how many cells are covered after it: one fewer, or as many as its own width is above 1
 unfoldable pub coveredAfter : ℕ → ℕ → ℕ
 coveredAfter covered cell = cond (ltb 0 covered) (covered - 1) (cellFrom cell .untouched - 1)
 

@@ -10,9 +10,6 @@ returns c = search (paging, needs)
 less-requires : tie.Need-less-requires
 less-requires c κs = search needs
 
-cast-left : tie.Need-cast-left
-cast-left c = search needs
-
 sub-pages : tie.Need-sub-pages
 sub-pages c = search needs
 
@@ -31,4 +28,4 @@ returns-3 c = search (paging, needs)
 pub page-count-spec : {M : Type 1} → statement M
 page-count-spec =
     tie.close
-    (tie.spec returns less-requires cast-left sub-pages add-pages div-pages returns-2 returns-3)
+    (tie.spec returns less-requires sub-pages add-pages div-pages returns-2 returns-3)
