@@ -15,8 +15,8 @@ use Rattle.compose.specs.declared.Composer.{Composer}
 use Rattle.compose.specs.declared.Pull.{Pull}
 use Rattle.compose.specs.declared.Pull.the-variants.{Line as PulledLine, Done}
 use Rattle.compose.specs.declared.Method.the-variants.{Truncated}
-use Rattle.compose.specs.Lines.{lines, composedOf}
-use Rattle.compose.specs.Composing.{left, lineAt, Ready, Started, Told, Pulled}
+use Rattle.compose.specs.Lines.{lines, composedOf, lineAt}
+use Rattle.compose.specs.Composing.{left, Ready, Started, Told, Pulled}
 use Rattle.compose.proofs.Pulled.{pulled-left, pulled-ready, pulled-told, none-left}
 use Rattle.checksum.specs.Sums.{withNumber}
 use Rattle.answers.specs.Sums.{withLine, withLines, linesSum}

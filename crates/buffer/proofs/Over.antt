@@ -1,18 +1,22 @@
--- Laws of `over` and `sparing`: what is drawn on a rectangle's cells, and what spares them.
-use Prim.Native.Nat.{ℕ, _+_, _*_, _<_, _≤_}
+-- Laws of `over`, `inside` and `sparing`: what is drawn on a rectangle's cells, and what spares them.
+use Prim.Native.Nat.{ℕ, _+_, _-_, _*_, _<_, _≤_}
 use mathlib.Core.Path.{_≡_, refl}
 use mathlib.Core.Bool.{Bool, true, false}
-use mathlib.Core.Logic.{_⊎_, inl, inr}
+use mathlib.Core.Logic.{_⊎_, inl, inr, dite}
 use mathlib.Core.List.{List}
+use native.Mathlib.Decide.{decLt, ℕ-discrete}
 use native.Mathlib.Omega.{arith}
+use borrow.Author.Tests.{eq-eqb, ne-eqb}
 use mir.Syntax.{w16}
 use mir.Val.{Fits}
+use lib.Dec.{eqb}
 use lib.ListN.{length}
 use Rattle.layout.specs.declared.Rect.{Rect}
-use Rattle.layout.specs.Rect.{rightOf, bottomOf, contains}
+use Rattle.layout.specs.Rect.{rightOf, bottomOf, within, contains}
 use Rattle.buffer.specs.declared.Screen.{Screen}
-use Rattle.buffer.specs.Drawing.{Drawing, drawn, over, sparing}
-use Rattle.buffer.specs.Parts.{inRows, OnScreen}
+use Rattle.buffer.specs.Drawing.{Drawing, drawn, over, inside, sparing}
+use Rattle.buffer.specs.Parts.{inRow, inRows, OnScreen}
+use Rattle.buffer.proofs.Within.{within-inside, within-before, within-past}
 use Rattle.buffer.proofs.Drawn.{drawn-commute}
 use Rattle.buffer.proofs.Rows.{DrawingRows, rows-start, rows-done, row-fits}
 
@@ -20,6 +24,28 @@ use Rattle.buffer.proofs.Rows.{DrawingRows, rows-start, rows-done, row-
 pub rows-over : (r : Rect) (f : ℕ → ℕ) → inRows (r .x) (rightOf r) (r .y) (bottomOf r) (λ j i cell. f cell) ≡ over r f
 unfolding inRows over
 rows-over r f = refl
+
+-- and so are rows that are drawn each in its way
+pub rows-are : (r : Rect) (f : ℕ → ℕ → ℕ → ℕ) → inRows (r .x) (rightOf r) (r .y) (bottomOf r) f ≡ inside r (λ column row. f row column)
+unfolding inRows inside
+rows-are r f = refl
+
+-- the one row of a rectangle that is one row high
+one-row : (y row : ℕ) → within y (y + 1) row ≡ eqb row y
+one-row y row =
+    dite (ℕ-discrete row y)
+    (λ e. rw (within-inside y (y + 1) row (omega arith) (omega arith), eq-eqb row y e))
+    (λ n.
+    dite (decLt row y)
+    (λ p. rw (within-before y (y + 1) row p, ne-eqb row y n))
+    (λ q. rw (within-past y (y + 1) row (omega (arith, n, q)), ne-eqb row y n)))
+
+pub row-is : (r : Rect) (f : ℕ → ℕ → ℕ) (column row cell : ℕ) → r .height ≡ 1 → r .y < 65535
+    → inRow (r .x) (rightOf r) (r .y) f column row cell ≡ inside r (λ column row. f column) column row cell
+unfolding inRow inside
+row-is r f column row cell high low =
+    let b : bottomOf r ≡ r .y + 1 = omega arith in
+    rw (b, one-row (r .y) row)
 
 -- a loop over the rows of a rectangle that lies on a screen, its edges read before
 module _ (s : Screen) (r : Rect) (right bottom : ℕ) (right-is : right ≡ rightOf r) (bottom-is : bottom ≡ bottomOf r) where
@@ -49,6 +75,17 @@ module _ (s : Screen) (r : Rect) (right bottom : ℕ) (right-is : right ≡ righ
       rw (right-is, bottom-is, rows-over r f) at (rows-done (s .columns) (r .x) right (r .y) bottom (λ j i cell. f cell) old cells n d h)
 
 pub ruleset drawing-area = (area-starts, area-left, area-right, area-row, area-done)
+
+module _ (r : Rect) (d : Drawing) (column row cell : ℕ) where
+  -- a cell inside is drawn on, as it is numbered there
+  pub inside-there : contains r column row ≡ true → inside r d column row cell ≡ d (column - r .x) (row - r .y) cell
+  unfolding inside
+  inside-there h = rw h
+
+  -- one outside is left as it is
+  pub inside-outside : contains r column row ≡ false → inside r d column row cell ≡ cell
+  unfolding inside
+  inside-outside h = rw h
 
 module _ (r : Rect) (f : ℕ → ℕ) (column row cell : ℕ) where
   -- a cell inside is changed

@@ -1,5 +1,5 @@
 -- What drawing does to a screen: a drawing says of every cell what becomes of it.
-use Prim.Native.Nat.{ℕ, suc, _/_, _%_}
+use Prim.Native.Nat.{ℕ, suc, _-_, _/_, _%_}
 use mathlib.Core.Bool.{Bool, cond}
 use mathlib.Core.List.{List, [], _∷_}
 use lib.ListN.{getD}
@@ -26,6 +26,10 @@ drawn columns d cells = changed (λ i cell. d (i % columns) (i / columns) cell) 
 -- the same for each cell of a rectangle, and nothing for any other
 unfoldable pub over : Rect → (ℕ → ℕ) → Drawing
 over r f column row cell = cond (contains r column row) (f cell) cell
+
+-- a drawing in a rectangle, whose columns and rows it numbers from 0, and nothing for any other cell
+unfoldable pub inside : Rect → Drawing → Drawing
+inside r d column row cell = cond (contains r column row) (d (column - r .x) (row - r .y) cell) cell
 
 -- a drawing that spares the cells of a rectangle
 unfoldable pub sparing : Rect → Drawing → Drawing

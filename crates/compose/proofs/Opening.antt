@@ -19,9 +19,9 @@ use Rattle.reflow.proofs.Simulation.{ReadAll}
 use Rattle.wrapping.proofs.Renumbering.{renumber, numbered-from}
 use Rattle.compose.specs.declared.Composer.{Composer}
 use Rattle.compose.specs.declared.Method.{Method}
-use Rattle.compose.specs.Lines.{aligned, linesOf, lineLines, allLines}
+use Rattle.compose.specs.Lines.{aligned, linesOf, lineLines, allLines, lineAt}
 use Rattle.compose.specs.Composers.{lineRuns}
-use Rattle.compose.specs.Composing.{lineAt, part, composedRun, left, Ready, Opened}
+use Rattle.compose.specs.Composing.{part, composedRun, left, Ready, Opened}
 use Rattle.compose.proofs.Methods.{starts-sound, starts-runs, lines-read, linesOf-renumbered}
 use Rattle.compose.proofs.Told.{told-line}
 

@@ -8,7 +8,8 @@ use Rattle.compose.specs.declared.Composed.{Composed}
 use Rattle.compose.specs.declared.Composer.{Composer}
 use Rattle.compose.specs.declared.Pull.{Pull}
 use Rattle.compose.specs.declared.Pull.the-variants.{Line as PulledLine, Done}
-use Rattle.compose.specs.Composing.{left, lineAt, Ready, Told, Pulled}
+use Rattle.compose.specs.Lines.{lineAt}
+use Rattle.compose.specs.Composing.{left, Ready, Told, Pulled}
 
 module _ (u : Rule) (own : Alignment) (text : List ℕ) (c : Composer) (o : Pull) (p : Pulled u own text c o) where
   module _ (line : Composed) (d : Composer) (e : o ≡ PulledLine line d) where

@@ -17,8 +17,7 @@ use Rattle.wrapping.specs.Runs.{runOf}
 use Rattle.reflow.proofs.Simulation.{ReadAll}
 use Rattle.wrapping.proofs.Renumbering.{renumber}
 use Rattle.compose.specs.declared.Method.{Method}
-use Rattle.compose.specs.Lines.{Line, aligned, linesOf, lineLines, allLines, lines, composedOf}
-use Rattle.compose.specs.Composing.{lineAt}
+use Rattle.compose.specs.Lines.{Line, aligned, linesOf, lineLines, allLines, lines, composedOf, lineAt}
 use Rattle.compose.proofs.Methods.{lines-read}
 use Rattle.compose.proofs.Told.{told-line, is-told}
 use Rattle.compose.proofs.Opening.{numbered-lines}

@@ -5,14 +5,12 @@ use mathlib.Core.Bool.{true, cond}
 use lib.Dec.{eqb}
 use mathlib.Core.List.{List, [], _∷_, _++_, map}
 use lib.ListN.{length, getD, take, drop}
-use lib.Seq.{slice}
 use Rattle.text.specs.declared.Alignment.{Alignment}
 use Rattle.text.specs.Record.{isHead, alignmentOf}
 use Rattle.text.specs.Alignment.{resolved}
-use Rattle.text.specs.Line.{numbered, untilHead, linesFrom}
+use Rattle.text.specs.Line.{untilHead, linesFrom}
 use Rattle.wrapping.specs.declared.Run.{Run}
 use Rattle.wrapping.specs.declared.Rule.{Rule}
-use Rattle.wrapping.specs.Wrapping.{notOverWide}
 use Rattle.reflow.specs.Steps.{startRun}
 use Rattle.compose.specs.declared.Composed.{Composed}
 use Rattle.compose.specs.declared.Composer.{Composer}
@@ -20,15 +18,7 @@ use Rattle.compose.specs.declared.Pull.{Pull}
 use Rattle.compose.specs.declared.Pull.the-variants.{Line as PulledLine, Done}
 use Rattle.compose.specs.declared.Method.{Method}
 use Rattle.compose.specs.Composers.{lineRuns, SoundLine}
-use Rattle.compose.specs.Lines.{Line, allLines, lines, composedOf}
-
--- "Its glyphs are those from first to end that are no wider than the limit."
-unfoldable pub lineAt : Rule → List ℕ → Composed → Line
-lineAt u text c =
-    record {
-      alignment = c .alignment;
-      glyphs = notOverWide u (numbered (c .first) (slice (c .first) (c .end) text));
-    }
+use Rattle.compose.specs.Lines.{Line, allLines, lines, composedOf, lineAt}
 
 -- the records of the text line in hand, handed on as a part of the text
 abbrev pub part : List ℕ → Composer → List ℕ

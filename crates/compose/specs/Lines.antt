@@ -2,12 +2,13 @@
 -- skips and drops.
 use Prim.Native.Nat.{ℕ, _+_}
 use mathlib.Core.List.{List, [], _∷_, _++_, map}
+use lib.Seq.{slice}
 use Rattle.text.specs.declared.Alignment.{Alignment}
 use Rattle.text.specs.Record.{alignmentOf}
 use Rattle.text.specs.Alignment.{resolved}
-use Rattle.text.specs.Line.{Glyph, TextLine, linesFrom, glyphsOf, total}
+use Rattle.text.specs.Line.{Glyph, TextLine, numbered, linesFrom, glyphsOf, total}
 use Rattle.wrapping.specs.declared.Rule.{Rule}
-use Rattle.wrapping.specs.Wrapping.{wrap, overWides}
+use Rattle.wrapping.specs.Wrapping.{wrap, overWides, notOverWide}
 use Rattle.truncate.specs.Truncation.{truncate}
 use Rattle.compose.specs.declared.Method.{Method}
 use Rattle.compose.specs.declared.Method.the-variants.{Wrapped, Truncated}
@@ -57,8 +58,7 @@ allDropped u (line ∷ rest) = wrap u (glyphsOf line) .dropped ++ allDropped u r
 unfoldable pub dropped : Rule → List ℕ → List Glyph
 dropped u text = allDropped u (linesFrom 0 text)
 
--- "First and end are record numbers, end one past, both 0 where the line holds no glyph." That a line's glyphs can be read back from
--- them is the theorem `read-back`.
+-- "First and end are record numbers, end one past, both 0 where the line holds no glyph."
 abbrev pub firstOf : List Glyph → ℕ
 firstOf [] = 0
 firstOf (g ∷ gs) = g .number
@@ -76,4 +76,13 @@ composedOf line =
       end = endOf (line .glyphs);
       width = total (line .glyphs);
       alignment = line .alignment;
+    }
+
+-- "Its glyphs are those from first to end that are no wider than the limit.": the line that is told so of a text. That it is the composed
+-- one is the theorem `read-back`.
+unfoldable pub lineAt : Rule → List ℕ → Composed → Line
+lineAt u text c =
+    record {
+      alignment = c .alignment;
+      glyphs = notOverWide u (numbered (c .first) (slice (c .first) (c .end) text));
     }

@@ -20,7 +20,7 @@ use Rattle.draw_notice.specs.declared.Drawn.the-variants.{Shown, Refused
 
 -- the style numbers that a notice gives: its own, its text's, its glyphs', and those of its block and of the titles' glyphs
 unfoldable pub noticeStyles : Notice → List ℕ → List ℕ → List ℕ
-noticeStyles n text titles = n .style ∷ n .«text_style» ∷ glyphStyles text ++ (blockStyles (n .block) ++ glyphStyles titles)
+noticeStyles n text titles = (n .style ∷ n .«text_style» ∷ glyphStyles text) ++ (blockStyles (n .block) ++ glyphStyles titles)
 
 -- its causes: 1, 2, 3, 4, 5, 6, 7
 unfoldable pub noticeCauses : Ceilings → ℕ → ℕ → ℕ → List ℕ → List ℕ → List ℕ → Notice → List Cause

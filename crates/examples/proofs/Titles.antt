@@ -7,11 +7,10 @@ use lib.ListN.{replicate}
 use Rattle.text.specs.declared.Alignment.the-variants.{Left}
 use Rattle.text.specs.declared.TitlePosition.the-variants.{Top}
 use Rattle.cell.specs.Cell.{cellFrom, blankCell, withSymbol, styled}
-use Rattle.buffer.specs.Drawing.{drawn, over}
-use Rattle.buffer.specs.Parts.{inRow}
+use Rattle.buffer.specs.Drawing.{drawn, over, inside}
 use Rattle.block.specs.declared.Block.{Block}
 use Rattle.block.specs.declared.Shadow.the-variants.{Absent}
-use Rattle.title.specs.Title.{titleLineWidth, isDrawn, glyphOn, titleLine, titleIn}
+use Rattle.title.specs.Title.{titleLineWidth, isDrawn, titleGlyphOn, titleLine, titleIn}
 use Rattle.titles.specs.Titles.{isChosen, centerTitles, groupsIn, titlesOn}
 
 -- a letter of one cell in style 0, and the head of a centred title at the top
@@ -58,5 +57,5 @@ pub centred-titles :
     ≡ 98 ∷ 99 ∷ 100 ∷ 32 ∷ 101 ∷ [])
     × (shown 4 (centred ∷ letter 97 ∷ centred ∷ letter 98 ∷ letter 99 ∷ letter 100 ∷ letter 101 ∷ letter 102 ∷ letter 103 ∷ [])
     ≡ 32 ∷ 102 ∷ 103 ∷ 32 ∷ [])
-unfolding titleLineWidth isDrawn glyphOn titleLine titleIn isChosen centerTitles groupsIn titlesOn drawn over inRow styled withSymbol
+unfolding titleLineWidth isDrawn titleGlyphOn titleLine titleIn isChosen centerTitles groupsIn titlesOn drawn over inside styled withSymbol
 centred-titles = (refl, refl)

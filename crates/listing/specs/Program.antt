@@ -16,30 +16,31 @@ use Rattle.listing.specs.declared.Answer.{Answer}
 use Rattle.listing.specs.declared.Answer.the-variants as answer
 use Rattle.listinput.specs.declared.Parsed.{Parsed}
 use Rattle.listinput.specs.declared.Parsed.the-variants.{Refused, Text}
-use Rattle.listinput.specs.Input.{recordsOf, parsedOf}
+use Rattle.listinput.specs.Input.{recordsOf, mostRecords, parsedOf}
 
 -- the program's answer, where the list call's is known
 abbrev pub answerFor : Listed → Answer
 answerFor (listed-variant.Written count) = answer.Lines count
 answerFor (listed-variant.Refused why) = answer.Refused (refusalNumber why)
 
--- "the notice aligned left": the list call for a text, with a list of so many entries
-abbrev pub programVerdict : ℕ → Bool → List ℕ → ℕ → Verdict
-programVerdict limit trim text entries = listVerdict mostAccepted (ruleOf limit trim) Left text entries
+-- "the notice aligned left": the list call for a text, with a list of as many entries as records are accepted, which is never too short
+-- (theorem `long-enough`)
+abbrev pub programVerdict : ℕ → Bool → List ℕ → Verdict
+programVerdict limit trim text = listVerdict mostAccepted (ruleOf limit trim) Left text mostRecords
 
-abbrev pub answered : Parsed → List ℕ → ℕ → Answer
-answered (Refused number) text entries = answer.Refused number
-answered (Text limit trim count) text entries =
-    answerFor (listAnswer (programVerdict limit trim text entries) (length (lines (ruleOf limit trim) Wrapped Left text)))
+abbrev pub answered : Parsed → List ℕ → Answer
+answered (Refused number) text = answer.Refused number
+answered (Text limit trim count) text =
+    answerFor (listAnswer (programVerdict limit trim text) (length (lines (ruleOf limit trim) Wrapped Left text)))
 
 abbrev pub entered : Parsed → List ℕ → List ℕ → List ℕ
 entered (Refused number) text list = list
 entered (Text limit trim count) text list =
-    listAfter (programVerdict limit trim text (length list)) (map listed (lines (ruleOf limit trim) Wrapped Left text)) list
+    listAfter (programVerdict limit trim text) (map listed (lines (ruleOf limit trim) Wrapped Left text)) list
 
--- the answer to an input, where the list has so many entries
-unfoldable pub answerOf : List ℕ → ℕ → Answer
-answerOf input entries = answered (parsedOf input) (recordsOf input) entries
+-- the answer to an input
+unfoldable pub answerOf : List ℕ → Answer
+answerOf input = answered (parsedOf input) (recordsOf input)
 
 -- and the list after it: what is printed is its first entries
 unfoldable pub listOf : List ℕ → List ℕ → List ℕ

@@ -30,8 +30,8 @@ fn answer_for(listed: Listed) -> Answer
 
 // The answer to an input, the notice aligned left.
 fn answer_to(input: &[u8], text: &mut [u32], list: &mut [u64]) -> Answer
-    requires { ⌜ mostRecords ≤ length (now text) ⌝ }
-    ensures { λ r. ⌜ (r ≡ answerOf (now (input .entry)) (length (now (list .entry)))) × (now (list .exit) ≡ listOf (now (input .entry)) (now (list .entry))) ⌝ }
+    requires { ⌜ (mostRecords ≤ length (now text)) × (length (now list) ≡ mostRecords) ⌝ }
+    ensures { λ r. ⌜ (r ≡ answerOf (now (input .entry))) × (now (list .exit) ≡ listOf (now (input .entry)) (now (list .entry))) ⌝ }
 {
     match listinput::parse(input, text) {
         Parsed::Refused(number) => Answer::Refused(number),

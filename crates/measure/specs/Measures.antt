@@ -15,7 +15,8 @@ use Rattle.lines.specs.List.{ruleOf}
 use Rattle.measure.specs.declared.Wrap.{Wrap}
 use Rattle.measure.specs.declared.Wrap.the-variants.{Off, On}
 
--- "composed lines (or text lines, unwrapped)", at a width; how many there are doesn't depend on the alignment
+-- "composed lines (or text lines, unwrapped)", at a width; how many there are doesn't depend on the text's own alignment, here left
+-- (theorem `own-alignment` in `tally`)
 unfoldable pub linesAt : Wrap → ℕ → List ℕ → ℕ
 linesAt (On trim) width text = length (lines (ruleOf width trim) Wrapped Left text)
 linesAt (Off column) width text = length (linesFrom 0 text)

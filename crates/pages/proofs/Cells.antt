@@ -7,10 +7,10 @@ use mathlib.Core.List.{List, [], _∷_}
 use native.Mathlib.Omega.{arith}
 use lib.ListN.{length, getD, length-replicate, getD-replicate}
 use Rattle.cell.specs.Cell.{cellFrom, blankSymbol, blankCell, styled}
-use Rattle.layout.specs.Rect.{rightOf, bottomOf, contains}
+use Rattle.layout.specs.Rect.{contains}
 use Rattle.buffer.specs.Drawing.{Drawing, drawn, over, inOrder, styleAt}
 use Rattle.buffer.proofs.Drawn.{drawn-at}
-use Rattle.buffer.proofs.Rows.{rows-inside}
+use Rattle.buffer.proofs.Over.{inside-there}
 use Rattle.buffer.proofs.Within.{cell-inside}
 use Rattle.frame.specs.Frame.{frame, blockOf}
 use Rattle.frame.proofs.KeepsSymbols.{KeepsSymbol, order-keeps, style-keeps}
@@ -85,7 +85,6 @@ module _ (i : Inputs) (w : WrappedNotice i) where
     cell-there scroll =
         let a = inner-there i w in
         let right = right-is (screen i) count (innerArea i) a in
-        let bottom = bottom-is (screen i) count (innerArea i) a in
         let x : ℕ = innerArea i .x + column in
         let y : ℕ = innerArea i .y + row in
         let there : y * i .columns + x < count = omega (arith, right, row-end (screen i) count (innerArea i) a row down) in
@@ -97,6 +96,5 @@ module _ (i : Inputs) (w : WrappedNotice i) where
         ∙ ap (noticeOf (i .styles) (screen i) (i .text) (i .titles) (scrolledTo scroll (i .notice)) (i .area) x y)
         (getD-replicate (i .columns * i .rows) (y * i .columns + x) blankCell 0 few)
         ∙ notice-is scroll x y blankCell
-        ∙ rows-inside (innerArea i .x) (rightOf (innerArea i)) (innerArea i .y) (bottomOf (innerArea i)) _ x y _
-        (omega arith) (omega (arith, right)) (omega arith) (omega (arith, bottom))
+        ∙ inside-there (innerArea i) _ x y _ is-inside
         ∙ rw (own-row, own-column)

@@ -31,13 +31,14 @@ use Rattle.lines.specs.List.{ruleOf}
 use Rattle.tally.specs.declared.LineCounts.{LineCounts}
 use Rattle.tally.specs.Tally.{tallyOf}
 use Rattle.tally.specs.Tallying.{lineCounts}
-use Rattle.tally.proofs.TallyCounts.{own-alignment}
+use Rattle.tally.proofs.TallyCounts.{own-alignment, counts, all-whitespace}
 use Rattle.paragraph.specs.Notice.{noticeLines, innerAreaOf, insideCounts, noticeCounts}
 use Rattle.pages.specs.Pages.{Inputs, verdictAt, countsAt, innerArea, composedLines, pageCount, pagesOf, scrollOf}
 use Rattle.pages.specs.Reading.{summed, WrappedNotice, Reached, SameCounts}
 use Rattle.pages.proofs.Offset.{offset-fits, offset-none}
 use Rattle.pages.proofs.Reached.{wrapped-lines}
-use Rattle.pages.proofs.Screen.{inner-some}
+use Rattle.draw_notice.proofs.Accepting.{text-opens}
+use Rattle.pages.proofs.Screen.{no-causes, inner-some}
 
 -- ---- where a line starts
 
@@ -174,4 +175,6 @@ module _ (i : Inputs) (w : WrappedNotice i) (accepted : (scroll : ℕ) → verdi
             pages-count (λ c. c .clipped) (clippedIn width) (clipped width)
             (λ page. ap (λ (c : Rows). c .clipped) (page-counts page)) (λ line. drawn-counts width line .1)
             ∙ sym (ap (λ (c : LineCounts). c .clipped) tally);
+        all-glyphs = counts (ruleOf width (w .trim)) (i .text) (text-opens (i .text) (no-causes i w .heads-right)) (inner-some i w .0);
+        all-whitespace = all-whitespace (ruleOf width (w .trim)) (i .text);
       }

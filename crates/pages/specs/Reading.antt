@@ -4,7 +4,7 @@ use mathlib.Core.Path.{_≡_}
 use mathlib.Core.Bool.{Bool, false, cond}
 use mathlib.Core.List.{List, [], _∷_, _++_, map}
 use lib.Dec.{eqb}
-use lib.ListN.{getD}
+use lib.ListN.{length, getD}
 use Rattle.text.specs.Line.{Glyph, glyphsFrom}
 use Rattle.cell.specs.Cell.{cellFrom, blankSymbol}
 use Rattle.layout.specs.Rect.{isEmpty}
@@ -12,6 +12,7 @@ use Rattle.refuse.specs.declared.Verdict.the-variants.{Accepted}
 use Rattle.measure.specs.declared.Wrap.the-variants.{On}
 use Rattle.refuse.specs.Causes.{mostAccepted}
 use Rattle.nothing_lost.specs.Glyphs.{solids}
+use Rattle.compose.specs.Lines.{dropped}
 use Rattle.lines.specs.Causes.{textVerdict}
 use Rattle.lines.specs.List.{ruleOf}
 use Rattle.tally.specs.declared.Counts.{Counts}
@@ -81,11 +82,17 @@ pub record NothingLost (i : Inputs) : Type 0 where
 abbrev pub pagesTally : Inputs → Bool → Counts
 pagesTally i trim = tallyOf (ruleOf (innerArea i .width) trim) (i .text)
 
--- Beyond demand 3's words, and tying its pages to its counts, for glyphs of any widths: the tally of the text at the inner width is
--- answered, and what the pages' answers count adds up to it. The tally's own sum is the theorem `counts` in `tally`.
+-- Demand 3, the counts, for glyphs of any widths: "placed + clipped + zero-width + over-wide + dropped = glyphs", "and every dropped glyph
+-- is whitespace". Beyond its words, and tying its pages to its counts: the tally of the text at the inner width is answered, and what the
+-- pages' answers count adds up to it. `tally-counts` in `tally` says the first two of every text that the tally accepts, at every limit
+-- above 0.
 pub record SameCounts (i : Inputs) (trim : Bool) : Type 0 where
   pub reached : Reached i
   pub answered : textVerdict mostAccepted (innerArea i .width) (i .text) ≡ Accepted
   pub rows : summed 0 (pagesOf i) (λ page. countsAt i (scrollOf i page) .rows) ≡ pagesTally i trim .lines
   pub placed : summed 0 (pagesOf i) (λ page. countsAt i (scrollOf i page) .placed) ≡ pagesTally i trim .placed
   pub clipped : summed 0 (pagesOf i) (λ page. countsAt i (scrollOf i page) .clipped) ≡ pagesTally i trim .clipped
+  pub all-glyphs :
+      let t = pagesTally i trim in
+      t .placed + t .clipped + t .«zero_width» + t .«over_wide» + t .dropped ≡ length (glyphsFrom 0 (i .text))
+  pub all-whitespace : solids (dropped (ruleOf (innerArea i .width) trim) (i .text)) ≡ []

@@ -16,7 +16,7 @@ use Rattle.buffer.specs.Parts.{windowed}
 use Rattle.buffer.proofs.Changed.{changed-same, part-length, part-lent}
 use Rattle.buffer.proofs.Within.{within-inside, within-before}
 use Rattle.compose.specs.declared.Composed.{Composed}
-use Rattle.compose.specs.Composing.{lineAt}
+use Rattle.compose.specs.Lines.{lineAt}
 use Rattle.compose.specs.Places.{placed, clipped}
 use Rattle.render_line.specs.declared.Glyphs.{Glyphs}
 use Rattle.render_line.specs.RenderLine.{lineOffset, drawnStarts, glyphsOn, lineOn, placedIn, clippedIn}

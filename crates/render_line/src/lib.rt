@@ -10,7 +10,7 @@ ghost use lib.ListN.{length};
 ghost use Rattle.text.specs.Record.{widthOf};
 ghost use Rattle.text.specs.Line.{glyphFrom, total};
 ghost use Rattle.buffer.specs.Drawing.{changed};
-ghost use Rattle.compose.specs.Composing.{lineAt};
+ghost use Rattle.compose.specs.Lines.{lineAt};
 ghost use Rattle.render_line.specs.RenderLine.{lineOffset, glyphOn, lineOn, placedIn, clippedIn};
 ghost use Rattle.render_line.specs.Writing.{startsOf, Wrote};
 

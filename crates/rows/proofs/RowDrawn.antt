@@ -14,8 +14,8 @@ use Rattle.buffer.specs.Parts.{inRow}
 use Rattle.buffer.proofs.Changed.{part-length}
 use Rattle.buffer.proofs.Rows.{row-lent, row-fits}
 use Rattle.compose.specs.declared.Composed.{Composed}
-use Rattle.compose.specs.Lines.{Line, composedOf}
-use Rattle.compose.specs.Composing.{lineAt, Told}
+use Rattle.compose.specs.Lines.{Line, composedOf, lineAt}
+use Rattle.compose.specs.Composing.{Told}
 use Rattle.render_line.specs.RenderLine.{lineOn, placedIn, clippedIn}
 use Rattle.rows.specs.Drawing.{AreaOnScreen}
 

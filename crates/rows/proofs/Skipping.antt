@@ -12,8 +12,8 @@ use Rattle.compose.specs.declared.Composed.{Composed}
 use Rattle.compose.specs.declared.Composer.{Composer}
 use Rattle.compose.specs.declared.Pull.{Pull}
 use Rattle.compose.specs.declared.Pull.the-variants.{Line as PulledLine, Done}
-use Rattle.compose.specs.Lines.{Line}
-use Rattle.compose.specs.Composing.{left, lineAt, Ready, Started, Pulled}
+use Rattle.compose.specs.Lines.{Line, lineAt}
+use Rattle.compose.specs.Composing.{left, Ready, Started, Pulled}
 use Rattle.compose.proofs.Pulled.{pulled-left, pulled-ready, none-left}
 use Rattle.rows.specs.Drawing.{Stands}
 

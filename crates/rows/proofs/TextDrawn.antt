@@ -15,7 +15,7 @@ use lib.Seq.{getD-drop, take-nil}
 use Rattle.layout.specs.declared.Rect.{Rect}
 use Rattle.layout.specs.Rect.{rightOf, bottomOf, within}
 use Rattle.buffer.specs.declared.Screen.{Screen}
-use Rattle.buffer.specs.Drawing.{drawn}
+use Rattle.buffer.specs.Drawing.{drawn, inside}
 use Rattle.buffer.specs.Parts.{inRow, inRows}
 use Rattle.buffer.proofs.Drawn.{drawn-same}
 use Rattle.buffer.proofs.Rows.{DrawingRows, rows-start, rows-turn-at, rows-done, rows-outside}
@@ -23,8 +23,8 @@ use Rattle.compose.specs.declared.Composed.{Composed}
 use Rattle.compose.specs.declared.Composer.{Composer}
 use Rattle.compose.specs.declared.Pull.{Pull}
 use Rattle.compose.specs.declared.Pull.the-variants.{Line as PulledLine, Done}
-use Rattle.compose.specs.Lines.{Line, lines}
-use Rattle.compose.specs.Composing.{left, lineAt, Ready, Told, Pulled}
+use Rattle.compose.specs.Lines.{Line, lines, lineAt}
+use Rattle.compose.specs.Composing.{left, Ready, Told, Pulled}
 use Rattle.render_line.specs.declared.Glyphs.{Glyphs}
 use Rattle.render_line.specs.RenderLine.{drawnStarts, lineOn, placedIn, clippedIn}
 use Rattle.rows.specs.declared.Setting.{Setting}
@@ -70,6 +70,12 @@ module _ (left right y n bottom : ℕ) (f : ℕ → ℕ → ℕ → ℕ) (p : y 
       rows-outside left right y n f column row cell (inr (inr (inr (omega (arith, h)))))
       ∙ sym (ap (λ (x : ℕ). cond (within left right column && within y bottom row) x cell) (idle (row - y) (column - left) cell (omega (arith, h)))
       ∙ same-cell (within left right column && within y bottom row) cell))
+
+-- the text in its area, row by row
+text-rows : (styles text : List ℕ) (area : Rect) (setting : Setting) →
+    textOn styles (setting .style) (linesFor setting text) area (setting .scroll) ≡ inRows (area .x) (rightOf area) (area .y) (bottomOf area) (lineRow styles text area setting)
+unfolding textOn inside inRows
+text-rows styles text area setting = refl
 
 module _ (s : Screen) (styles text : List ℕ) (area : Rect) (setting : Setting) where
   -- before the first row
@@ -191,11 +197,11 @@ module _ (s : Screen) (styles text : List ℕ) (area : Rect) (setting : Setting)
         rest-empty j column cell h = rw (no-more j (omega arith))
 
         pub cells-short : cells ≡ drawn (s .columns) (textOn styles (setting .style) (linesFor setting text) area (setting .scroll)) old
-        unfolding textOn
         cells-short =
-            t .drawing .so-far
+            rw (text-rows styles text area setting)
+            (t .drawing .so-far
             ∙ drawn-same (s .columns) _ _ old (t .on-screen .on-screen .columns)
-            (λ column line cell _. rest-idle (area .x) (rightOf area) (area .y) (area .y + row) (bottomOf area) (lineRow styles text area setting) (t .drawing .from) (t .drawing .to) rest-empty column line cell)
+            (λ column line cell _. rest-idle (area .x) (rightOf area) (area .y) (area .y + row) (bottomOf area) (lineRow styles text area setting) (t .drawing .from) (t .drawing .to) rest-empty column line cell))
 
         nothing-left : take (area .height - row) (left (setting .rule) (setting .own) text c) ≡ []
         nothing-left = rw (none-left (setting .rule) (setting .own) text c o p e) (take-nil (area .height - row))
@@ -212,10 +218,10 @@ module _ (s : Screen) (styles text : List ℕ) (area : Rect) (setting : Setting)
     -- after the last row
     module _ (h : area .height ≤ row) where
       pub cells-done : cells ≡ drawn (s .columns) (textOn styles (setting .style) (linesFor setting text) area (setting .scroll)) old
-      unfolding textOn
       cells-done =
-          rows-done (s .columns) (area .x) (rightOf area) (area .y) (bottomOf area) (lineRow styles text area setting) old cells (area .y + row) (t .drawing)
-          (omega (arith, bottom-is s (length old) area (t .on-screen)))
+          rw (text-rows styles text area setting)
+          (rows-done (s .columns) (area .x) (rightOf area) (area .y) (bottomOf area) (lineRow styles text area setting) old cells (area .y + row) (t .drawing)
+          (omega (arith, bottom-is s (length old) area (t .on-screen))))
 
       nothing-below : take (area .height - row) (left (setting .rule) (setting .own) text c) ≡ []
       nothing-below = let n : area .height - row ≡ 0 = omega arith in rw n

@@ -4,9 +4,7 @@ use mathlib.Core.List.{List, [], _∷_}
 use lib.ListN.{length, getD, take, drop}
 use Rattle.text.specs.declared.Alignment.the-variants.{Left}
 use Rattle.layout.specs.declared.Rect.{Rect}
-use Rattle.layout.specs.Rect.{rightOf, bottomOf}
-use Rattle.buffer.specs.Drawing.{Drawing}
-use Rattle.buffer.specs.Parts.{inRows}
+use Rattle.buffer.specs.Drawing.{Drawing, inside}
 use Rattle.compose.specs.Lines.{Line}
 use Rattle.render_line.specs.RenderLine.{lineOn, placedIn, clippedIn}
 
@@ -14,11 +12,10 @@ use Rattle.render_line.specs.RenderLine.{lineOn, placedIn, clippedIn}
 abbrev pub noLine : Line
 noLine = record { alignment = Left; glyphs = [] }
 
--- "lines from the scroll row": row j of the area has the line scroll + j, if there is one
+-- "lines from the scroll row": a row of the area has the line that many after it, if there is one
 unfoldable pub textOn : List ℕ → ℕ → List Line → Rect → ℕ → Drawing
 textOn styles textStyle lines area scroll =
-    inRows (area .x) (rightOf area) (area .y) (bottomOf area)
-    (λ j column cell. lineOn styles textStyle (area .width) (getD lines (scroll + j) noLine) column cell)
+    inside area (λ column row. lineOn styles textStyle (area .width) (getD lines (scroll + row) noLine) column)
 
 -- the lines that are drawn
 unfoldable pub linesDrawn : List Line → Rect → ℕ → List Line

@@ -11,8 +11,8 @@ use Rattle.compose.specs.declared.Composer.{Composer}
 use Rattle.compose.specs.declared.Pull.{Pull}
 use Rattle.compose.specs.declared.Pull.the-variants.{Line as PulledLine, Done}
 use Rattle.compose.specs.declared.Method.the-variants.{Wrapped}
-use Rattle.compose.specs.Lines.{lines}
-use Rattle.compose.specs.Composing.{left, lineAt, Started, Told, Pulled}
+use Rattle.compose.specs.Lines.{lines, lineAt}
+use Rattle.compose.specs.Composing.{left, Started, Told, Pulled}
 use Rattle.compose.specs.Places.{starts}
 use Rattle.compose.proofs.Pulled.{pulled-left, pulled-told}
 use Rattle.lines.proofs.Bounds.{lines-short}

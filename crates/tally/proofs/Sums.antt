@@ -18,8 +18,7 @@ use Rattle.wrapping.specs.declared.Rule.{Rule}
 use Rattle.wrapping.specs.Wrapping.{overWide, notOverWide}
 use Rattle.wrapping.proofs.RunLaws.{cond-cases}
 use Rattle.compose.specs.declared.Composed.{Composed}
-use Rattle.compose.specs.Lines.{Line}
-use Rattle.compose.specs.Composing.{lineAt}
+use Rattle.compose.specs.Lines.{Line, lineAt}
 use Rattle.compose.specs.Places.{placed, clipped, zeroWidth}
 use Rattle.tally.specs.declared.LineCounts.{LineCounts}
 use Rattle.tally.specs.Tallying.{emptyLines, withGlyph, sum, lineCounts}

@@ -16,7 +16,7 @@ ghost use mathlib.Core.List.{[], _∷_};
 ghost use Prim.Native.Nat.{_+_, _^_, _≤_, _<_};
 ghost use lib.ListN.{length};
 ghost use Rattle.refuse.specs.Causes.{notOpening};
-ghost use Rattle.compose.specs.Composing.{lineAt};
+ghost use Rattle.compose.specs.Lines.{lineAt};
 ghost use Rattle.tally.specs.Tally.{composed, tallyOf};
 ghost use Rattle.tally.specs.Tallying.{emptyLines, withGlyph, sum, lineCounts, glyphCounts};
 

@@ -18,14 +18,6 @@ pub fn line_length(after: &[u32]) -> usize
     i
 }
 
-// The line of a head, as a part of the records after it.
-pub fn line_records(after: &[u32]) -> &[u32]
-    ensures { λ r. ⌜ now r ≡ untilHead (now (after .entry)) ⌝ }
-{
-    let end = line_length(after);
-    &after[..end]
-}
-
 // How many lines the heads of some records open.
 pub fn count_lines(records: &[u32]) -> usize
     ensures { λ r. ⌜ r ≡ length (linesFrom 0 (now (records .entry))) ⌝ }

@@ -9,31 +9,26 @@ use native.Mathlib.Omega.{arith}
 use Rattle.text.specs.declared.Alignment.{Alignment}
 use Rattle.layout.specs.declared.Rect.{Rect}
 use Rattle.layout.specs.Rect.{rightOf, contains}
-use Rattle.buffer.specs.Parts.{inRow}
-use Rattle.buffer.proofs.Over.{over-outside}
-use Rattle.buffer.proofs.Rows.{row-outside, other-row}
+use Rattle.buffer.specs.Drawing.{inside}
+use Rattle.buffer.proofs.Over.{over-outside, inside-outside}
 use Rattle.buffer.proofs.Within.{cell-outside}
 use Rattle.title.specs.Title.{titleLine, titleIn}
 
 module _ (styles : List ℕ) (style : ℕ) (area : Rect) (alignment : Alignment) (records : List ℕ) (column row cell : ℕ) where
   abbrev line : ℕ → ℕ
-  line = inRow (area .x) (rightOf area) (area .y) (titleLine styles alignment (area .width) records) column row
+  line = inside area (λ column row. titleLine styles alignment (area .width) records column) column row
 
-  -- a cell that its style and its line leave alone
-  alone : contains area column row ≡ false → line cell ≡ cell → titleIn styles style area alignment records column row cell ≡ cell
+  -- a cell outside its area
+  alone : contains area column row ≡ false → titleIn styles style area alignment records column row cell ≡ cell
   unfolding titleIn
-  alone outside e = ap line (over-outside area _ column row cell outside) ∙ e
+  alone outside = ap line (over-outside area _ column row cell outside) ∙ inside-outside area _ column row cell outside
 
   pub nothing-drawn : area .width ≡ 0 → titleIn styles style area alignment records column row cell ≡ cell
-  nothing-drawn none = dite (decLt column (area .x)) before past
-    where
-      before : column < area .x → titleIn styles style area alignment records column row cell ≡ cell
-      before p = alone (cell-outside _ _ _ _ column row (inl p)) (row-outside _ _ _ _ column cell (inl p) row)
-
-      past : (column < area .x → ⊥) → titleIn styles style area alignment records column row cell ≡ cell
-      past n =
-          let p : rightOf area ≤ column = omega (arith, n) in
-          alone (cell-outside _ _ _ _ column row (inr (inl p))) (row-outside _ _ _ _ column cell (inr p) row)
+  nothing-drawn none =
+      alone
+      (dite (decLt column (area .x))
+      (λ p. cell-outside _ _ _ _ column row (inl p))
+      (λ n. let p : rightOf area ≤ column = omega (arith, n) in cell-outside _ _ _ _ column row (inr (inl p))))
 
   pub other-rows : area .height ≡ 1 → (row ≡ area .y → ⊥) → titleIn styles style area alignment records column row cell ≡ cell
   other-rows high other =
@@ -41,4 +36,3 @@ module _ (styles : List ℕ) (style : ℕ) (area : Rect) (alignment : Alignment)
       (dite (decLt row (area .y))
       (λ p. cell-outside _ _ _ _ column row (inr (inr (inl p))))
       (λ n. cell-outside _ _ _ _ column row (inr (inr (inr (omega (arith, n, other)))))))
-      (other-row _ _ _ _ column cell row other)

@@ -13,7 +13,7 @@ use Rattle.buffer.specs.declared.Ink.the-variants.{Both}
 use Rattle.buffer.specs.Drawing.{changed, styleAt}
 use Rattle.buffer.specs.Ink.{inked}
 use Rattle.buffer.proofs.Changed.{changed-same, changed-none, changed-one}
-use Rattle.title.specs.Title.{isDrawn, glyphOn}
+use Rattle.title.specs.Title.{isDrawn, titleGlyphOn}
 
 -- a glyph of a number that starts in a column
 abbrev pub startOf : ℕ → ℕ → ℕ → Start
@@ -21,8 +21,8 @@ startOf number column word = record { start = column; glyph = glyphFrom number w
 
 -- the number of a glyph plays no part in drawing it
 pub number-unread : (styles : List ℕ) (hidden number column word i cell : ℕ)
-    → glyphOn styles hidden (startOf number column word) i cell ≡ glyphOn styles hidden (startOf 0 column word) i cell
-unfolding glyphOn isDrawn
+    → titleGlyphOn styles hidden (startOf number column word) i cell ≡ titleGlyphOn styles hidden (startOf 0 column word) i cell
+unfolding titleGlyphOn isDrawn
 number-unread styles hidden number column word i cell = refl
 
 -- the column that a glyph starts in, counted after the hidden ones and before
@@ -37,20 +37,20 @@ column-shift hidden column i h = go (eqb i (column - hidden)) refl
 
 module _ (styles : List ℕ) (hidden column word : ℕ) (row : List ℕ) where
   abbrev Drew : List ℕ → Type 0
-  Drew next = next ≡ changed (glyphOn styles hidden (startOf 0 column word)) row
+  Drew next = next ≡ changed (titleGlyphOn styles hidden (startOf 0 column word)) row
 
-  left : ((i cell : ℕ) → glyphOn styles hidden (startOf 0 column word) i cell ≡ cell) → Drew row
+  left : ((i cell : ℕ) → titleGlyphOn styles hidden (startOf 0 column word) i cell ≡ cell) → Drew row
   left h = sym (changed-same _ (λ i cell. cell) row (λ i cell _. h i cell) ∙ changed-none row)
 
   -- one that starts in hidden columns isn't drawn
   pub glyph-hidden : column < hidden → Drew row
-  unfolding glyphOn isDrawn
+  unfolding titleGlyphOn isDrawn
   glyph-hidden h = left (λ i cell. simp (lt-leb hidden column h))
 
   module _ (width : ℕ) (e : width ≡ widthOf word) where
     -- nor is one of width 0
     pub glyph-zero : width ≡ 0 → Drew row
-    unfolding glyphOn isDrawn
+    unfolding titleGlyphOn isDrawn
     glyph-zero h =
         let z : widthOf word ≤ 0 = omega arith in
         left (λ i cell. simp (le-ltb 0 (widthOf word) z, and-false))
@@ -58,7 +58,7 @@ module _ (styles : List ℕ) (hidden column word : ℕ) (row : List ℕ) where
     -- any other gets its symbol and style in its first cell
     pub glyph-drawn : (number style symbol cell : ℕ) → hidden ≤ column → (width ≡ 0 → ⊥) → number ≡ styleOf word → style ≡ styleAt styles number
         → symbol ≡ symbolOf word → cell ≡ inked (Both symbol style) (getD row (column - hidden) 0) → Drew (set row (column - hidden) cell)
-    unfolding glyphOn isDrawn inked
+    unfolding titleGlyphOn isDrawn inked
     glyph-drawn number style symbol cell h n p q r s =
         let some : 0 < widthOf word = omega (arith, n) in
         let ink : ℕ → ℕ = inked (Both (symbolOf word) (styleAt styles (styleOf word))) in

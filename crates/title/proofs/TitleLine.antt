@@ -1,8 +1,10 @@
 -- A title line on its row, and a title in its area.
 use Prim.Native.Nat.{ℕ, _+_, _-_, _*_, _≤_}
-use mathlib.Core.Path.{_≡_}
+use mathlib.Core.Path.{_≡_, _∙_}
 use mathlib.Core.List.{List, [], _∷_, _++_}
 use native.Mathlib.Omega.{arith}
+use mir.Syntax.{w16}
+use mir.Val.{Fits}
 use lib.ListN.{length, take, drop}
 use Rattle.text.specs.declared.Alignment.{Alignment}
 use Rattle.text.specs.declared.Alignment.the-variants.{Left, Center, Right}
@@ -11,12 +13,14 @@ use Rattle.layout.specs.declared.Rect.{Rect}
 use Rattle.layout.specs.Rect.{rightOf}
 use Rattle.buffer.specs.declared.Screen.{Screen}
 use Rattle.buffer.specs.declared.Ink.the-variants.{Style}
-use Rattle.buffer.specs.Drawing.{changed, drawn, over, styleAt}
+use Rattle.buffer.specs.Drawing.{changed, drawn, over, inside, styleAt}
 use Rattle.buffer.specs.Ink.{inked}
 use Rattle.buffer.specs.Parts.{inRow}
+use Rattle.buffer.proofs.Drawn.{drawn-same}
+use Rattle.buffer.proofs.Over.{row-is}
 use Rattle.buffer.proofs.Rows.{row-lent, row-fits}
 use Rattle.buffer.proofs.Order.{first-then}
-use Rattle.title.specs.Title.{titleGlyphs, titleLineWidth, lineStart, hiddenColumns, untilOverrun, glyphsOn, titleLine, titleIn}
+use Rattle.title.specs.Title.{titleGlyphs, titleLineWidth, lineStart, hiddenColumns, untilOverrun, titleGlyphsOn, titleLine, titleIn}
 use Rattle.title.specs.Fitting.{TitleArea}
 
 module _ (alignment : Alignment) (t w : ℕ) where
@@ -40,7 +44,7 @@ starts-within alignment t w start hidden n e p = omega (arith, e, starts-in alig
 -- a line on its row: its glyphs, from where it starts and after the columns that it hides
 pub line-written : (styles : List ℕ) (alignment : Alignment) (w : ℕ) (records row next : List ℕ) (t hidden start : ℕ) → w ≡ length row → t ≡ titleLineWidth records
     → hidden ≡ hiddenColumns alignment t w → start ≡ lineStart alignment t w
-    → next ≡ changed (glyphsOn styles hidden (untilOverrun (hidden + length row) (startsFrom start (titleGlyphs records)))) row
+    → next ≡ changed (titleGlyphsOn styles hidden (untilOverrun (hidden + length row) (startsFrom start (titleGlyphs records)))) row
     → next ≡ changed (titleLine styles alignment w records) row
 unfolding titleLine
 line-written styles alignment w records row next t hidden start e p q r h = rw (← p, ← q, ← r, e) h
@@ -61,12 +65,15 @@ module _ (s : Screen) (r : Rect) (styles : List ℕ) (alignment : Alignment) (re
       (a .on-screen .columns) (omega (arith, a .few-columns, a .on-screen .right)) (a .on-screen .right) (row-end s (length cells) r a) (rw e at h))
 
   -- the titles style, and then the line
-  pub title-drawn : (number style : ℕ) (next last : List ℕ) → style ≡ styleAt styles number
+  pub title-drawn : (number style : ℕ) (next last : List ℕ) → TitleArea s (length cells) r → Fits w16 (s .rows) → style ≡ styleAt styles number
       → next ≡ drawn (s .columns) (over r (inked (Style style))) cells
       → last ≡ drawn (s .columns) (inRow (r .x) (rightOf r) (r .y) (titleLine styles alignment (r .width) records)) next
       → last ≡ drawn (s .columns) (titleIn styles number r alignment records) cells
   unfolding titleIn inked
-  title-drawn number style next last e p q =
-      first-then (s .columns) _ (inRow (r .x) (rightOf r) (r .y) (titleLine styles alignment (r .width) records) ∷ []) cells next last (rw e at p) q
+  title-drawn number style next last a fits e p q =
+      first-then (s .columns) _ (inside r (λ column row. titleLine styles alignment (r .width) records column) ∷ []) cells next last (rw e at p)
+      (q
+      ∙ drawn-same (s .columns) _ _ next (a .on-screen .columns)
+      (λ column row cell _. row-is r (titleLine styles alignment (r .width) records) column row cell (a .one-row) (omega (arith, a .in-rows, fits .fits))))
 
 pub ruleset title-line = (starts-within, line-written, line-drawn, title-drawn)

@@ -11,7 +11,7 @@ use Rattle.text.specs.Record.{widthOf}
 use Rattle.text.specs.Line.{Start, numbered, startsFrom}
 use Rattle.buffer.specs.Drawing.{changed}
 use Rattle.buffer.proofs.Changed.{length-changed, changed-same, changed-none, changed-then}
-use Rattle.title.specs.Title.{titleGlyphs, untilOverrun, glyphOn, glyphsOn}
+use Rattle.title.specs.Title.{titleGlyphs, untilOverrun, titleGlyphOn, titleGlyphsOn}
 use Rattle.title.proofs.Numbered.{glyphs-from, glyphs-end}
 use Rattle.title.proofs.OneGlyph.{startOf, number-unread}
 
@@ -24,8 +24,8 @@ pub record Writing (styles : List ℕ) (hidden start : ℕ) (records old row : L
   pub reached : i ≤ length records
   pub same-length : length row ≡ length old
   pub room : column ≤ hidden + length old
-  pub remaining : changed (glyphsOn styles hidden (fitting (hidden + length old) column i records)) row
-      ≡ changed (glyphsOn styles hidden (untilOverrun (hidden + length old) (startsFrom start (titleGlyphs records)))) old
+  pub remaining : changed (titleGlyphsOn styles hidden (fitting (hidden + length old) column i records)) row
+      ≡ changed (titleGlyphsOn styles hidden (untilOverrun (hidden + length old) (startsFrom start (titleGlyphs records)))) old
 
 module _ (styles : List ℕ) (hidden start : ℕ) (records old : List ℕ) where
   -- before the first turn none is written
@@ -37,7 +37,7 @@ module _ (styles : List ℕ) (hidden start : ℕ) (records old : List ℕ) where
     end = hidden + length old
 
     abbrev Done : Type 0
-    Done = row ≡ changed (glyphsOn styles hidden (untilOverrun end (startsFrom start (titleGlyphs records)))) old
+    Done = row ≡ changed (titleGlyphsOn styles hidden (untilOverrun end (startsFrom start (titleGlyphs records)))) old
 
     none-left : fitting end column i records ≡ [] → Done
     none-left e = sym (changed-none row) ∙ (rw e at (r .remaining))
@@ -57,7 +57,7 @@ module _ (styles : List ℕ) (hidden start : ℕ) (records old : List ℕ) where
       writing-stops over = none-left (next-fitting ∙ rw (lt-ltb end (column + width) over))
 
       -- a turn writes glyph i
-      pub writing-goes : (next : List ℕ) → column + width ≤ end → next ≡ changed (glyphOn styles hidden (startOf 0 column (getD records i 0))) row
+      pub writing-goes : (next : List ℕ) → column + width ≤ end → next ≡ changed (titleGlyphOn styles hidden (startOf 0 column (getD records i 0))) row
           → Writing styles hidden start records old next (column + width) (i + 1)
       writing-goes next fits p =
           let others : List Start = fitting end (column + width) (i + 1) records in
@@ -70,7 +70,7 @@ module _ (styles : List ℕ) (hidden start : ℕ) (records old : List ℕ) where
             remaining =
                 rw p (changed-then _ _ row)
                 ∙ changed-same _ _ row
-                (λ j cell _. ap (glyphsOn styles hidden others j) (sym (number-unread styles hidden i column (getD records i 0) j cell)))
+                (λ j cell _. ap (titleGlyphsOn styles hidden others j) (sym (number-unread styles hidden i column (getD records i 0) j cell)))
                 ∙ (rw more at (r .remaining));
           }
 

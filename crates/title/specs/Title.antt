@@ -9,9 +9,7 @@ use Rattle.text.specs.declared.Alignment.the-variants.{Left, Center, Right}
 use Rattle.text.specs.Line.{Glyph, Start, numbered, total, startsFrom}
 use Rattle.cell.specs.Cell.{withSymbol, styled}
 use Rattle.layout.specs.declared.Rect.{Rect}
-use Rattle.layout.specs.Rect.{rightOf}
-use Rattle.buffer.specs.Drawing.{Drawing, over, inOrder, styleAt}
-use Rattle.buffer.specs.Parts.{inRow}
+use Rattle.buffer.specs.Drawing.{Drawing, over, inside, inOrder, styleAt}
 
 -- the glyphs of a title's records, numbered from 0: drawing doesn't look at the numbers
 abbrev pub titleGlyphs : List ℕ → List Glyph
@@ -43,22 +41,22 @@ unfoldable pub isDrawn : ℕ → Start → Bool
 isDrawn hidden s = leb hidden (s .start) && ltb 0 (s .glyph .width)
 
 -- a drawn glyph gets "its symbol and style in its first cell": what becomes of the cell in a column after the hidden ones
-unfoldable pub glyphOn : List ℕ → ℕ → Start → ℕ → ℕ → ℕ
-glyphOn styles hidden s column cell =
+unfoldable pub titleGlyphOn : List ℕ → ℕ → Start → ℕ → ℕ → ℕ
+titleGlyphOn styles hidden s column cell =
     cond (isDrawn hidden s && eqb (hidden + column) (s .start))
     (styled (styleAt styles (s .glyph .style)) (withSymbol (s .glyph .symbol) cell))
     cell
 
-abbrev pub glyphsOn : List ℕ → ℕ → List Start → ℕ → ℕ → ℕ
-glyphsOn styles hidden [] column cell = cell
-glyphsOn styles hidden (s ∷ ss) column cell = glyphsOn styles hidden ss column (glyphOn styles hidden s column cell)
+abbrev pub titleGlyphsOn : List ℕ → ℕ → List Start → ℕ → ℕ → ℕ
+titleGlyphsOn styles hidden [] column cell = cell
+titleGlyphsOn styles hidden (s ∷ ss) column cell = titleGlyphsOn styles hidden ss column (titleGlyphOn styles hidden s column cell)
 
 -- a title line in w columns: what becomes of the cell in one of them
 unfoldable pub titleLine : List ℕ → Alignment → ℕ → List ℕ → ℕ → ℕ → ℕ
 titleLine styles alignment w records =
     let t = titleLineWidth records in
     let hidden = hiddenColumns alignment t w in
-    glyphsOn styles hidden (untilOverrun (hidden + w) (startsFrom (lineStart alignment t w) (titleGlyphs records)))
+    titleGlyphsOn styles hidden (untilOverrun (hidden + w) (startsFrom (lineStart alignment t w) (titleGlyphs records)))
 
 -- a title in its area, which is one row high: "A title's area gets the titles style, then each drawn glyph its symbol and style in its
 -- first cell."
@@ -66,5 +64,5 @@ unfoldable pub titleIn : List ℕ → ℕ → Rect → Alignment → List ℕ �
 titleIn styles style area alignment records =
     inOrder
     (over area (styled (styleAt styles style))
-    ∷ inRow (area .x) (rightOf area) (area .y) (titleLine styles alignment (area .width) records)
+    ∷ inside area (λ column row. titleLine styles alignment (area .width) records column)
     ∷ [])

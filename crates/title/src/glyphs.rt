@@ -8,12 +8,12 @@ ghost use lib.ListN.{length};
 ghost use Rattle.text.specs.Record.{widthOf};
 ghost use Rattle.text.specs.Line.{glyphFrom, startsFrom};
 ghost use Rattle.buffer.specs.Drawing.{changed};
-ghost use Rattle.title.specs.Title.{titleGlyphs, lineStart, hiddenColumns, untilOverrun, glyphOn, glyphsOn, titleLine};
+ghost use Rattle.title.specs.Title.{titleGlyphs, lineStart, hiddenColumns, untilOverrun, titleGlyphOn, titleGlyphsOn, titleLine};
 
 // Writes a glyph that starts in a column of its line, of which so many are hidden, unless it starts in those or has width 0.
 fn write_glyph(row: &mut [u64], styles: &[u64], hidden: usize, column: usize, word: u32)
     requires { ⌜ column + widthOf word ≤ hidden + length (now row) ⌝ }
-    ensures { λ _. ⌜ now (row .exit) ≡ changed (glyphOn (now (styles .entry)) hidden (record { start = column; glyph = glyphFrom 0 word })) (now (row .entry)) ⌝ }
+    ensures { λ _. ⌜ now (row .exit) ≡ changed (titleGlyphOn (now (styles .entry)) hidden (record { start = column; glyph = glyphFrom 0 word })) (now (row .entry)) ⌝ }
 {
     if column < hidden {
         return;
@@ -30,7 +30,7 @@ fn write_glyph(row: &mut [u64], styles: &[u64], hidden: usize, column: usize, wo
 // Writes glyphs, the first of which starts in a column of their line, up to the first that overruns the row.
 fn write_glyphs(row: &mut [u64], styles: &[u64], hidden: usize, start: usize, glyphs: &[u32])
     requires { ⌜ (start ≤ hidden + length (now row)) × (hidden + length (now row) < 2 ^ 32) ⌝ }
-    ensures { λ _. ⌜ now (row .exit) ≡ changed (glyphsOn (now (styles .entry)) hidden (untilOverrun (hidden + length (now (row .entry))) (startsFrom start (titleGlyphs (now (glyphs .entry)))))) (now (row .entry)) ⌝ }
+    ensures { λ _. ⌜ now (row .exit) ≡ changed (titleGlyphsOn (now (styles .entry)) hidden (untilOverrun (hidden + length (now (row .entry))) (startsFrom start (titleGlyphs (now (glyphs .entry)))))) (now (row .entry)) ⌝ }
 {
     let end = hidden + row.len();
     let mut column = start;
