@@ -12,7 +12,7 @@ use Rattle.render_line.specs.RenderLine.{lineOn, placedIn, clippedIn}
 abbrev pub noLine : Line
 noLine = record { alignment = Left; glyphs = [] }
 
--- "lines from the scroll row": a row of the area has the line that many after it, if there is one
+-- "lines from the scroll row": a row of the area, counted from 0, has the line scroll + row, if there is one
 unfoldable pub textOn : List ℕ → ℕ → List Line → Rect → ℕ → Drawing
 textOn styles textStyle lines area scroll =
     inside area (λ column row. lineOn styles textStyle (area .width) (getD lines (scroll + row) noLine) column)
