@@ -205,8 +205,8 @@ notice_measure_answer notice_line_count(const uint32_t *text, size_t text_len, c
                                         size_t titles_len, notice_block block, notice_text settings,
                                         uint16_t width);
 
-/* The width of the widest text line, with the columns that borders and padding take: in so many no line
-   is cut off. Wrapped, a line that ends in glyphs of width 0 may still be broken before them.
+/* The width of the widest text line, with the columns that borders and padding take. Wrapped at its own
+   width, a line may still be broken before glyphs of width 0.
    Refused with 3, 4, 5, 7; 255 for the block. */
 notice_measure_answer notice_line_width(const uint32_t *text, size_t text_len, const uint32_t *titles,
                                         size_t titles_len, notice_block block);

@@ -17,7 +17,7 @@ use Rattle.wrapping.specs.Runs.{endFrom, runOf, glyphsIn, Spans}
 use Rattle.wrapping.proofs.Renumbering.{renumber, total-map, numbered-from}
 use Rattle.compose.specs.declared.Composed.{Composed}
 use Rattle.compose.specs.Lines.{aligned, endOf, composedOf, lineAt}
-use Rattle.compose.specs.Composing.{part, composedRun, Told}
+use Rattle.compose.specs.Composing.{composedRun, Told}
 
 -- one law for each way through `composed_line`
 module _ (from : ℕ) (alignment : Alignment) (run : Run) where

@@ -30,7 +30,7 @@ use Rattle.widths.specs.Widths.{widenedBlock}
 use Rattle.sheet.specs.declared.Fitting.{Fitting}
 use Rattle.sheet.specs.declared.Fitting.the-variants.{Fits, Refused}
 
--- the notice, its first line another
+-- the notice, drawn from another line on
 abbrev pub noticeAt : Opening → ℕ → Notice
 noticeAt o first = scrolledTo first (noticeFrom (o .block) (o .text))
 
@@ -93,7 +93,7 @@ nothingSet =
       «shadow_style» = 0;
     }
 
--- how many lines an area of its width has, as `line_count` answers
+-- how many lines there are at an area's width, as `line_count` answers
 abbrev pub fitted : Rect → Measured → Fitting
 fitted inside (Value lines) = Fits (record { width = inside .width; height = inside .height; lines = lines })
 fitted inside (NoValue why) = Refused (refusalNumber why)

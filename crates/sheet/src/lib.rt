@@ -31,7 +31,7 @@ pub enum Fitting {
     Refused(u32),
 }
 
-// The notice, its first line another.
+// The notice, drawn from another line on.
 fn notice_at(opening: Opening, first: u16) -> Notice
     ensures { λ r. ⌜ r ≡ noticeAt opening first ⌝ }
 {
@@ -116,7 +116,7 @@ fn met(area: FlatArea, columns: u16, rows: u16) -> Rect
     area.area().intersection(screen.area())
 }
 
-// How many lines an area of its width has.
+// How many lines there are at an area's width.
 fn lines_in(wrap: Wrap, inside: Rect, text: &[u32]) -> Fitting
     ensures { λ r. ⌜ r ≡ linesIn wrap (now (text .entry)) inside ⌝ }
 {

@@ -6,7 +6,7 @@ use native.Mathlib.Numerals.{add-one}
 use native.Mathlib.Omega.{arith}
 use lib.ListN.{length, getD, set, take, drop, length-set, take-append-drop, drop-of-length-le}
 use lib.Seq.{take-all, take-suc-set, drop-set-lt, drop-cons, append-snoc}
-use Rattle.widths.specs.Widths.{widened, withWidth, changedBy}
+use Rattle.widths.specs.Widths.{changedBy}
 
 -- where the other has no entry left, nothing changes
 unchanged : (f : ℕ → ℕ → ℕ) (xs : List ℕ) → changedBy f xs [] ≡ xs
