@@ -5,13 +5,17 @@ use mathlib.Core.Bool.{Bool, true, false, cond}
 use native.Mathlib.Nat.{div-div-eq-div-mul, lt-of-le-of-lt}
 use native.Mathlib.Omega.{arith}
 use lib.Bits.{bitAnd, bitOr, and-le-l, or-lt}
-use Rattle.cell.specs.Style.{Style, styleFrom}
-use Rattle.cell.specs.Cell.{Cell, cellFrom, packed, withSymbol, applied, styled}
+use Rattle.style.specs.Style.{Style, styleFrom}
+use Rattle.cell.specs.Cell.{Cell, cellFrom, packed, withSymbol, withUntouched, appearanceOf, applied, styled}
 
 -- the bits below the symbol are those of the other fields
 pub below-symbol : (c : ℕ) → c % 2 ^ 43 ≡ c / 2 ^ 35 % 2 ^ 8 * 2 ^ 35 + c / 2 ^ 27 % 2 ^ 8 * 2 ^ 27 + c / 2 ^ 18 % 2 ^ 9 * 2 ^ 18 + c % 2 ^ 18
 below-symbol c =
     omega (arith, div-div-eq-div-mul c (2 ^ 18) (2 ^ 9), div-div-eq-div-mul c (2 ^ 27) (2 ^ 8), div-div-eq-div-mul c (2 ^ 35) (2 ^ 8))
+
+-- and of these, the bits above the untouched ones
+pub between : (c : ℕ) → c % 2 ^ 43 / 2 ^ 18 * 2 ^ 18 ≡ c / 2 ^ 35 % 2 ^ 8 * 2 ^ 35 + c / 2 ^ 27 % 2 ^ 8 * 2 ^ 27 + c / 2 ^ 18 % 2 ^ 9 * 2 ^ 18 + 0
+between c = omega (arith, below-symbol c)
 
 -- each field below the symbol fits its bits
 pub record Fits (c : Cell) : Type 0 where
@@ -100,6 +104,44 @@ symbol-fields symbol cell =
 
 pub symbol-set : (symbol cell : ℕ) → cellFrom (withSymbol symbol cell) .symbol ≡ symbol
 symbol-set symbol cell = ap (λ (c : Cell). c .symbol) (symbol-fields symbol cell)
+
+-- a cell whose untouched bits are set has them, and its other fields are those it had
+pub untouched-fields : (untouched cell : ℕ) → untouched < 2 ^ 18 → cellFrom (withUntouched untouched cell) ≡
+    record {
+      symbol = cellFrom cell .symbol;
+      foreground = cellFrom cell .foreground;
+      background = cellFrom cell .background;
+      modifiers = cellFrom cell .modifiers;
+      untouched = untouched;
+    }
+unfolding withUntouched
+untouched-fields untouched cell h =
+    unpacked _ (
+    record {
+      foreground-fits = omega arith;
+      background-fits = omega arith;
+      modifiers-fit = omega arith;
+      untouched-fits = h;
+    })
+
+-- a cell's appearance has its colours and modifiers
+pub appearance-fields : (cell : ℕ) → cellFrom (appearanceOf cell) ≡
+    record {
+      symbol = 0;
+      foreground = cellFrom cell .foreground;
+      background = cellFrom cell .background;
+      modifiers = cellFrom cell .modifiers;
+      untouched = 0;
+    }
+unfolding appearanceOf
+appearance-fields cell =
+    unpacked _ (
+    record {
+      foreground-fits = omega arith;
+      background-fits = omega arith;
+      modifiers-fit = omega arith;
+      untouched-fits = omega arith;
+    })
 
 -- so symbol and style may come in either order
 pub either-order : (symbol style cell : ℕ) → styled style (withSymbol symbol cell) ≡ withSymbol symbol (styled style cell)

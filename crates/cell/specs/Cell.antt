@@ -2,7 +2,7 @@
 use Prim.Native.Nat.{ℕ, _+_, _-_, _*_, _/_, _%_, _^_}
 use mathlib.Core.Bool.{cond}
 use lib.Bits.{bitAnd, bitOr}
-use Rattle.cell.specs.Style.{Style, styleFrom}
+use Rattle.style.specs.Style.{Style, styleFrom}
 
 -- symbol 21 | foreground 8 | background 8 | modifiers 9 | 18 bits never touched
 pub record Cell : Type 0 where
@@ -38,6 +38,18 @@ unfoldable pub withSymbol : ℕ → ℕ → ℕ
 withSymbol symbol cell =
     let c = cellFrom cell in
     packed (record { symbol = symbol; foreground = c .foreground; background = c .background; modifiers = c .modifiers; untouched = c .untouched })
+
+-- a cell that gets other bits in place of the 18 "never touched" by drawing
+unfoldable pub withUntouched : ℕ → ℕ → ℕ
+withUntouched untouched cell =
+    let c = cellFrom cell in
+    packed (record { symbol = c .symbol; foreground = c .foreground; background = c .background; modifiers = c .modifiers; untouched = untouched })
+
+-- a cell's colours and modifiers alone
+unfoldable pub appearanceOf : ℕ → ℕ
+appearanceOf cell =
+    let c = cellFrom cell in
+    packed (record { symbol = 0; foreground = c .foreground; background = c .background; modifiers = c .modifiers; untouched = 0 })
 
 -- "Applying it sets the given colours, then sets the add bits, then clears the remove bits."
 abbrev pub coloursSet : Style → Cell → Cell

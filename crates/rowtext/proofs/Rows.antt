@@ -10,11 +10,11 @@ use lib.ListN.{length, getD, drop, drop-of-length-le}
 use lib.Seq.{drop-cons}
 use Rattle.append.specs.Written.{Written}
 use Rattle.append.proofs.Writing.{written-none, written-then}
-use Rattle.cell.specs.Cell.{cellFrom}
+use Rattle.cell.specs.Cell.{cellFrom, appearanceOf}
 use Rattle.sgr.specs.Sgr.{sgr}
 use Rattle.utf8.specs.Utf8.{utf8}
 use Rattle.rowtext.specs.declared.Pen.{Pen}
-use Rattle.rowtext.specs.Row.{styleIn, styleText, cellText, stepText, styleAfter, coveredAfter, cellsText, endText, rowText}
+use Rattle.rowtext.specs.Row.{styleText, cellText, stepText, styleAfter, coveredAfter, cellsText, endText, rowText}
 
 module _ (old new : List ℕ) (at to before style : ℕ) (ansi : Bool) where
   pub change-plain : ansi ≡ false → Written old at old at (styleText ansi before style)
@@ -34,7 +34,7 @@ pub ruleset changes = (change-plain, change-none, change-put)
 
 module _ (old middle new : List ℕ) (at next to : ℕ) (ansi : Bool) where
   pub cell-put :
-      (before cell style symbol : ℕ) → style ≡ styleIn cell → symbol ≡ cellFrom cell .symbol → Written old at middle next (styleText ansi before style) → Written middle next new to (utf8 symbol) → Written old at new to (cellText ansi before cell)
+      (before cell style symbol : ℕ) → style ≡ appearanceOf cell → symbol ≡ cellFrom cell .symbol → Written old at middle next (styleText ansi before style) → Written middle next new to (utf8 symbol) → Written old at new to (cellText ansi before cell)
   unfolding cellText
   cell-put before cell style symbol e f w v =
       rw (e, f) at (written-then old at middle new next to (styleText ansi before style) (utf8 symbol) w v)
@@ -73,7 +73,7 @@ module _ (old new : List ℕ) (at to before covered cell : ℕ) (ansi : Bool) wh
     unfolding stepText
     open-text w = rw (le-ltb 0 covered h) w
 
-    pub open-style : (style : ℕ) → style ≡ styleIn cell → style ≡ styleAfter before covered cell
+    pub open-style : (style : ℕ) → style ≡ appearanceOf cell → style ≡ styleAfter before covered cell
     unfolding styleAfter
     open-style style e = rw (le-ltb 0 covered h) e
 

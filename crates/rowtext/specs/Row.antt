@@ -1,22 +1,18 @@
 -- A row of cells as text. The bits of a cell that drawing never touches hold here the width, in columns, of what stands in it.
-use Prim.Native.Nat.{ℕ, _-_, _/_, _%_, _^_}
+use Prim.Native.Nat.{ℕ, _-_}
 use mathlib.Core.Bool.{Bool, cond}
 use mathlib.Core.List.{List, [], _∷_, _++_}
 use lib.Dec.{eqb, ltb}
-use Rattle.cell.specs.Cell.{cellFrom}
+use Rattle.cell.specs.Cell.{cellFrom, appearanceOf}
 use Rattle.utf8.specs.Utf8.{utf8}
 use Rattle.sgr.specs.Sgr.{sgr}
 
--- a cell's foreground, background and modifiers, as one number
-abbrev pub styleIn : ℕ → ℕ
-styleIn cell = cell / 2 ^ 18 % 2 ^ 25
-
--- a style's sequence, where sequences are asked for and the style before is another
+-- a style is the appearance of a cell; its sequence, where sequences are asked for and the style before is another
 unfoldable pub styleText : Bool → ℕ → ℕ → List ℕ
 styleText ansi before style = cond ansi (cond (eqb before style) [] (sgr style)) []
 
 unfoldable pub cellText : Bool → ℕ → ℕ → List ℕ
-cellText ansi before cell = styleText ansi before (styleIn cell) ++ utf8 (cellFrom cell .symbol)
+cellText ansi before cell = styleText ansi before (appearanceOf cell) ++ utf8 (cellFrom cell .symbol)
 
 -- what a cell adds to the text where so many cells from it on are covered by a wide symbol before
 unfoldable pub stepText : Bool → ℕ → ℕ → ℕ → List ℕ
@@ -24,7 +20,7 @@ stepText ansi before covered cell = cond (ltb 0 covered) [] (cellText ansi befor
 
 -- the style after it: a covered cell changes none
 unfoldable pub styleAfter : ℕ → ℕ → ℕ → ℕ
-styleAfter before covered cell = cond (ltb 0 covered) before (styleIn cell)
+styleAfter before covered cell = cond (ltb 0 covered) before (appearanceOf cell)
 
 -- how many cells are covered after it: one fewer, or as many as its own width is above 1
 unfoldable pub coveredAfter : ℕ → ℕ → ℕ

@@ -7,20 +7,13 @@ ghost use mathlib.Core.Path.{_≡_};
 ghost use Prim.Native.Nat.{_+_, _-_, _*_, _≤_};
 ghost use lib.ListN.{length};
 ghost use Rattle.append.specs.Written.{Written};
-ghost use Rattle.rowtext.specs.Row.{styleIn, styleText, cellText, stepText, styleAfter, coveredAfter, cellsText, endText, rowText};
+ghost use Rattle.rowtext.specs.Row.{styleText, cellText, stepText, styleAfter, coveredAfter, cellsText, endText, rowText};
 
 // Where the next byte goes, the style of the cell before, and how many cells are covered.
 pub struct Pen {
     pub at: usize,
     pub style: u64,
     pub covered: u64,
-}
-
-// A cell's foreground, background and modifiers, as one number.
-fn style_in(cell: u64) -> u64
-    ensures { λ r. ⌜ r ≡ styleIn cell ⌝ }
-{
-    cell / 262144 % 33554432
 }
 
 // Puts a style's sequence where sequences are asked for and the style before is another.
@@ -44,7 +37,7 @@ fn put_cell(buffer: &mut [u8], at: usize, ansi: bool, before: u64, cell: u64) ->
     ensures { λ r. ⌜ Written (now (buffer .entry)) at (now (buffer .exit)) r (cellText ansi before cell) ⌝ }
     ensures { λ r. ⌜ r ≤ at + 44 ⌝ }
 {
-    let next = put_change(buffer, at, ansi, before, style_in(cell));
+    let next = put_change(buffer, at, ansi, before, cell::appearance(cell));
     put_symbol(buffer, next, cell::symbol(cell))
 }
 
@@ -76,7 +69,7 @@ fn step(buffer: &mut [u8], pen: Pen, ansi: bool, cell: u64) -> Pen
     let at = put_cell(buffer, pen.at, ansi, pen.style, cell);
     Pen {
         at,
-        style: style_in(cell),
+        style: cell::appearance(cell),
         covered: less_one(cell::untouched(cell)),
     }
 }

@@ -1,11 +1,12 @@
 -- One law for each way through the parts of a sequence.
-use Prim.Native.Nat.{ℕ, suc, _+_, _-_, _*_, _/_, _%_, _<_, _≤_, _^_}
+use Prim.Native.Nat.{ℕ, suc, _+_, _-_, _*_, _/_, _%_, _<_, _≤_}
 use mathlib.Core.Path.{_≡_, refl, sym, ap, _∙_}
 use mathlib.Core.List.{List, [], _∷_, _++_, append-assoc, append-nil}
 use native.Mathlib.Omega.{arith}
 use borrow.Author.Tests.{lt-ltb, le-ltb, eq-eqb, ne-eqb}
 use lib.ListN.{length}
 use Rattle.append.specs.Written.{Written}
+use Rattle.cell.specs.Cell.{cellFrom}
 use Rattle.append.proofs.Writing.{written-none, written-then}
 use Rattle.sgr.specs.Sgr.{digit, decimal, code, codes, colour, sgr}
 
@@ -102,14 +103,23 @@ module _ (old : List ℕ) (at modifiers : ℕ) where
 
 pub ruleset coding = (coding-starts, coding-length, coding-room, coding-goes, coding-ends, coding-near)
 
-pub style-written :
-    (old one two new : List ℕ) (at next further to style : ℕ) →
-    Written old at one next (27 ∷ 91 ∷ 48 ∷ []) →
-    Written one next two further (codes (style % 2 ^ 9) 1 9) →
-    Written two further new to (colour 51 (style / 2 ^ 17 % 2 ^ 8) ++ (colour 52 (style / 2 ^ 9 % 2 ^ 8) ++ (109 ∷ []))) →
-    Written old at new to (sgr style)
-unfolding sgr
-style-written old one two new at next further to style a b c =
-    written-then old at one new next to (27 ∷ 91 ∷ 48 ∷ [])
-    (codes (style % 2 ^ 9) 1 9 ++ (colour 51 (style / 2 ^ 17 % 2 ^ 8) ++ (colour 52 (style / 2 ^ 9 % 2 ^ 8) ++ (109 ∷ [])))) a
-    (written-then one next two new further to (codes (style % 2 ^ 9) 1 9) (colour 51 (style / 2 ^ 17 % 2 ^ 8) ++ (colour 52 (style / 2 ^ 9 % 2 ^ 8) ++ (109 ∷ []))) b c)
+module _ (old one two new : List ℕ) (at next further to cell : ℕ) where
+  pub colours-written :
+      (foreground background : ℕ) → foreground ≡ cellFrom cell .foreground → background ≡ cellFrom cell .background →
+      Written old at one next (colour 51 foreground) → Written one next two further (colour 52 background) → Written two further new to (109 ∷ []) →
+      Written old at new to (colour 51 (cellFrom cell .foreground) ++ (colour 52 (cellFrom cell .background) ++ (109 ∷ [])))
+  colours-written f b e g u v w =
+      rw (← e, ← g)
+      (written-then old at one new next to (colour 51 f) (colour 52 b ++ (109 ∷ [])) u (written-then one next two new further to (colour 52 b) (109 ∷ []) v w))
+
+  pub style-written :
+      (modifiers : ℕ) → modifiers ≡ cellFrom cell .modifiers →
+      Written old at one next (27 ∷ 91 ∷ 48 ∷ []) →
+      Written one next two further (codes modifiers 1 9) →
+      Written two further new to (colour 51 (cellFrom cell .foreground) ++ (colour 52 (cellFrom cell .background) ++ (109 ∷ []))) →
+      Written old at new to (sgr cell)
+  unfolding sgr
+  style-written m e a b c =
+      let rest = colour 51 (cellFrom cell .foreground) ++ (colour 52 (cellFrom cell .background) ++ (109 ∷ [])) in
+      rw (← e)
+      (written-then old at one new next to (27 ∷ 91 ∷ 48 ∷ []) (codes m 1 9 ++ rest) a (written-then one next two new further to (codes m 1 9) rest b c))

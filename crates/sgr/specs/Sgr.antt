@@ -1,8 +1,9 @@
 -- A cell's colours and modifiers as a terminal's sequence: Select Graphic Rendition of ECMA-48, `ESC [ 0 ; .. m`, which starts anew.
-use Prim.Native.Nat.{ℕ, zero, suc, _+_, _/_, _%_, _^_}
+use Prim.Native.Nat.{ℕ, zero, suc, _+_, _/_, _%_}
 use mathlib.Core.Bool.{cond}
 use mathlib.Core.List.{List, [], _∷_, _++_}
 use lib.Dec.{eqb, ltb}
+use Rattle.cell.specs.Cell.{cellFrom}
 
 -- a number below 1,000 in decimal
 abbrev pub digit : ℕ → ℕ
@@ -27,12 +28,12 @@ codes bits k (suc n) = code (bits % 2) k ++ codes (bits / 2) (k + 1) n
 unfoldable pub colour : ℕ → ℕ → List ℕ
 colour kind n = cond (eqb n 0) [] (59 ∷ kind ∷ 56 ∷ 59 ∷ 53 ∷ 59 ∷ decimal n)
 
--- of a style as a cell has it: foreground 8 | background 8 | modifiers 9, these bold, dim, italic, underlined, slow blink, rapid
--- blink, reversed, hidden and crossed out from the lowest bit on, which are the codes 1 to 9
+-- of a cell: its colours and its modifiers, these bold, dim, italic, underlined, slow blink, rapid blink, reversed, hidden and crossed
+-- out from the lowest bit on, which are the codes 1 to 9
 unfoldable pub sgr : ℕ → List ℕ
-sgr style =
+sgr cell =
     (27 ∷ 91 ∷ 48 ∷ [])
-    ++ (codes (style % 2 ^ 9) 1 9
-    ++ (colour 51 (style / 2 ^ 17 % 2 ^ 8)
-    ++ (colour 52 (style / 2 ^ 9 % 2 ^ 8)
+    ++ (codes (cellFrom cell .modifiers) 1 9
+    ++ (colour 51 (cellFrom cell .foreground)
+    ++ (colour 52 (cellFrom cell .background)
     ++ (109 ∷ []))))

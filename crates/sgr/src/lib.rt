@@ -4,9 +4,10 @@ use append::put_2;
 use append::put_all;
 ghost use mathlib.Core.Path.{_≡_};
 ghost use mathlib.Core.List.{[], _∷_, _++_};
-ghost use Prim.Native.Nat.{_+_, _/_, _%_, _<_, _≤_, _^_};
+ghost use Prim.Native.Nat.{_+_, _<_, _≤_};
 ghost use lib.ListN.{length};
 ghost use Rattle.append.specs.Written.{Written};
+ghost use Rattle.cell.specs.Cell.{cellFrom};
 ghost use Rattle.sgr.specs.Sgr.{digit, decimal, code, codes, colour, sgr};
 
 fn last_digit(number: u64) -> u8
@@ -75,23 +76,25 @@ fn put_colour(buffer: &mut [u8], at: usize, kind: u8, number: u64) -> usize
 }
 
 // Puts both colours and the sequence's end.
-fn put_colours(buffer: &mut [u8], at: usize, style: u64) -> usize
+fn put_colours(buffer: &mut [u8], at: usize, cell: u64) -> usize
     requires { ⌜ at + 19 ≤ length (now buffer) ⌝ }
-    ensures { λ r. ⌜ Written (now (buffer .entry)) at (now (buffer .exit)) r (colour 51 (style / 2 ^ 17 % 2 ^ 8) ++ (colour 52 (style / 2 ^ 9 % 2 ^ 8) ++ (109 ∷ []))) ⌝ }
+    ensures { λ r.
+        let colours = colour 51 (cellFrom cell .foreground) ++ (colour 52 (cellFrom cell .background) ++ (109 ∷ [])) in
+        ⌜ Written (now (buffer .entry)) at (now (buffer .exit)) r colours ⌝ }
     ensures { λ r. ⌜ r ≤ at + 19 ⌝ }
 {
-    let next = put_colour(buffer, at, 51, style / 131072 % 256);
-    let end = put_colour(buffer, next, 52, style / 512 % 256);
+    let next = put_colour(buffer, at, 51, cell::foreground(cell));
+    let end = put_colour(buffer, next, 52, cell::background(cell));
     put(buffer, end, 109)
 }
 
-// Puts the sequence of a style: at most 40 bytes.
-pub fn put_style(buffer: &mut [u8], at: usize, style: u64) -> usize
+// Puts the sequence of a cell: at most 40 bytes.
+pub fn put_style(buffer: &mut [u8], at: usize, cell: u64) -> usize
     requires { ⌜ at + 40 ≤ length (now buffer) ⌝ }
-    ensures { λ r. ⌜ Written (now (buffer .entry)) at (now (buffer .exit)) r (sgr style) ⌝ }
+    ensures { λ r. ⌜ Written (now (buffer .entry)) at (now (buffer .exit)) r (sgr cell) ⌝ }
     ensures { λ r. ⌜ r ≤ at + 40 ⌝ }
 {
     let start = put_all(buffer, at, &[27, 91, 48]);
-    let next = put_codes(buffer, start, style % 512);
-    put_colours(buffer, next, style)
+    let next = put_codes(buffer, start, cell::modifiers(cell));
+    put_colours(buffer, next, cell)
 }

@@ -5,10 +5,11 @@ use mathlib.Core.Bool.{Bool, true, false, cond}
 use mathlib.Core.List.{List, [], _∷_}
 use native.Mathlib.Numerals.{add-one}
 use native.Mathlib.Omega.{arith}
+use borrow.Author.Tests.{not-false}
 use lib.ListN.{length, getD, take, drop, length-drop}
 use lib.Seq.{drop-cons, drop-length, length-take-le, drop-drop, getD-drop, take-all}
 use Rattle.text.specs.Record.{isHead}
-use Rattle.text.specs.Line.{untilHead, linesFrom}
+use Rattle.text.specs.Line.{untilHead, linesFrom, Opens}
 
 -- records passed without a head: what is left says where the line ends
 pub record Measuring (after : List ℕ) (i : ℕ) : Type 0 where
@@ -69,9 +70,18 @@ module _ (rs : List ℕ) (n : ℕ) (e : n ≡ length (untilHead rs)) where
   part-is = rw e (until-take rs)
 
 -- a head stands there, or the records end
-pub record Opens (rs : List ℕ) (at : ℕ) : Type 0 where
+pub record AtHead (rs : List ℕ) (at : ℕ) : Type 0 where
   pub within : at ≤ length rs
   pub head : at < length rs → isHead (getD rs at 0) ≡ true
+
+-- records that open with a head do so at their first, and have no glyph before it
+pub opens-start : (rs : List ℕ) → Opens rs → AtHead rs 0
+opens-start [] e = record { within = omega arith; head = λ (h : 0 < 0). absurd (omega arith) }
+opens-start (r ∷ rs) e = record { within = omega arith; head = λ (h : 0 < suc (length rs)). not-false (isHead r) e }
+
+pub opens-none : (rs : List ℕ) → Opens rs → untilHead rs ≡ []
+opens-none [] e = refl
+opens-none (r ∷ rs) e = rw (not-false (isHead r) e)
 
 -- what stands after a line is a head, or nothing
 until-head : (rs : List ℕ) → length (untilHead rs) < length rs → isHead (getD rs (length (untilHead rs)) 0) ≡ true
@@ -97,8 +107,8 @@ pub end-within : (rs : List ℕ) (at : ℕ) → at < length rs → at + 1 + leng
 end-within rs at h = omega (arith, until-short (drop (at + 1) rs), length-drop (at + 1) rs)
 
 -- the line whose head stands at `at`, of n glyphs, and what comes after it
-module _ (rs : List ℕ) (at n : ℕ) (h : at < length rs) (o : Opens rs at) (e : n ≡ length (untilHead (drop (at + 1) rs))) where
-  pub next-opens : Opens rs (at + 1 + n)
+module _ (rs : List ℕ) (at n : ℕ) (h : at < length rs) (o : AtHead rs at) (e : n ≡ length (untilHead (drop (at + 1) rs))) where
+  pub next-opens : AtHead rs (at + 1 + n)
   next-opens = record {
     within = omega (arith, end-within rs at h);
     head = λ (q : at + 1 + n < length rs).

@@ -1,7 +1,9 @@
 -- Document 01, 'Packed fields': "A head opens a line." So in a text, and so in the titles, where each line is a title.
-use Prim.Native.Nat.{ℕ, suc, _+_}
-use mathlib.Core.Bool.{Bool, cond}
+use Prim.Native.Nat.{ℕ, suc, _+_, _<_, _^_}
+use mathlib.Core.Path.{_≡_}
+use mathlib.Core.Bool.{Bool, false, cond, not}
 use mathlib.Core.List.{List, [], _∷_}
+use lib.ListN.{length}
 use Rattle.text.specs.Record.{isHead, symbolOf, widthOf, whitespaceOf, styleOf}
 
 -- a glyph: the number of its record, which counts all records, heads too, and its fields
@@ -63,3 +65,17 @@ glyphsOf line = numbered (line .first) (line .records)
 abbrev pub glyphsFrom : ℕ → List ℕ → List Glyph
 glyphsFrom number [] = []
 glyphsFrom number (r ∷ rs) = cond (isHead r) (glyphsFrom (suc number) rs) (glyphFrom number r ∷ glyphsFrom (suc number) rs)
+
+-- 'Why a call is refused', of 4 and 5: records "not empty and not opening with a head"
+abbrev pub notOpening : List ℕ → Bool
+notOpening [] = false
+notOpening (r ∷ rs) = not (isHead r)
+
+-- What the code that goes through records asks of them, and what the checks of a call establish: that they are empty or open with a
+-- head,
+abbrev pub Opens : List ℕ → Type 0
+Opens records = notOpening records ≡ false
+
+-- and that they are so few that no sum of their widths or numbers passes 32 bits
+abbrev pub FewRecords : List ℕ → Type 0
+FewRecords records = length records < 2 ^ 28

@@ -1,27 +1,58 @@
 // Glyph, 32 bits: 0 | symbol 21 | width 3 | whitespace 1 | style 6.
 ghost use mathlib.Core.Path.{_≡_};
-ghost use Rattle.text.specs.Record.{symbolOf, widthOf, whitespaceOf, styleOf};
+ghost use mathlib.Core.Bool.{cond};
+ghost use Prim.Native.Nat.{_<_, _^_};
+ghost use Rattle.text.specs.Record.{symbolOf, widthOf, whitespaceOf, styleOf, glyphRecord};
+
+// How many values a field takes.
+pub const SYMBOLS: u32 = 1 << 21;
+
+const WIDTHS: u32 = 1 << 3;
+
+pub const STYLES: u32 = 1 << 6;
+
+// Where a field stands: what a 1 in it comes to.
+const SYMBOL_PLACE: u32 = 1 << 10;
+
+const WIDTH_PLACE: u32 = 1 << 7;
+
+const WHITESPACE_PLACE: u32 = 1 << 6;
 
 pub fn symbol(glyph: u32) -> u32
     ensures { λ r. ⌜ r ≡ symbolOf glyph ⌝ }
 {
-    glyph / 1024 % 2097152
+    glyph / SYMBOL_PLACE % SYMBOLS
 }
 
 pub fn width(glyph: u32) -> u32
     ensures { λ r. ⌜ r ≡ widthOf glyph ⌝ }
 {
-    glyph / 128 % 8
+    glyph / WIDTH_PLACE % WIDTHS
 }
 
 pub fn is_whitespace(glyph: u32) -> bool
     ensures { λ r. ⌜ r ≡ whitespaceOf glyph ⌝ }
 {
-    glyph / 64 % 2 == 1
+    glyph / WHITESPACE_PLACE % 2 == 1
 }
 
 pub fn style(glyph: u32) -> u32
     ensures { λ r. ⌜ r ≡ styleOf glyph ⌝ }
 {
-    glyph % 64
+    glyph % STYLES
+}
+
+// A field of one bit.
+fn bit(on: bool) -> u32
+    ensures { λ r. ⌜ (r ≡ cond on 1 0) × (r < 2) ⌝ }
+{
+    if on { 1 } else { 0 }
+}
+
+// The glyph of these fields.
+pub fn pack(symbol: u32, width: u32, whitespace: bool, style: u32) -> u32
+    requires { ⌜ (symbol < 2 ^ 21) × (width < 2 ^ 3) × (style < 2 ^ 6) ⌝ }
+    ensures { λ r. ⌜ r ≡ glyphRecord symbol width whitespace style ⌝ }
+{
+    symbol * SYMBOL_PLACE + width * WIDTH_PLACE + bit(whitespace) * WHITESPACE_PLACE + style
 }

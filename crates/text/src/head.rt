@@ -2,32 +2,53 @@
 use crate::Alignment;
 use crate::TitlePosition;
 ghost use mathlib.Core.Path.{_≡_};
-ghost use Rattle.text.specs.Record.{isHead, alignmentOf, positionOf, zerosOf};
+ghost use Prim.Native.Nat.{_<_, _^_};
+ghost use Rattle.text.specs.Record.{isHead, alignmentOf, positionOf, zerosOf, headRecord};
 ghost use Rattle.text.specs.Alignment.{resolved, resolvedPosition};
+
+// How many values a field takes.
+const ALIGNMENTS: u32 = 1 << 2;
+
+const POSITIONS: u32 = 1 << 2;
+
+// Where a field stands: what a 1 in it comes to. The zeros stand below the position.
+const HEAD_PLACE: u32 = 1 << 31;
+
+const ALIGNMENT_PLACE: u32 = 1 << 29;
+
+pub const POSITION_PLACE: u32 = 1 << 27;
 
 // Whether a record is a head; one that isn't is a glyph.
 pub fn is_head(word: u32) -> bool
     ensures { λ r. ⌜ r ≡ isHead word ⌝ }
 {
-    word / 2147483648 == 1
+    word / HEAD_PLACE == 1
 }
 
 pub fn alignment(head: u32) -> u32
     ensures { λ r. ⌜ r ≡ alignmentOf head ⌝ }
 {
-    head / 536870912 % 4
+    head / ALIGNMENT_PLACE % ALIGNMENTS
 }
 
 pub fn position(head: u32) -> u32
     ensures { λ r. ⌜ r ≡ positionOf head ⌝ }
 {
-    head / 134217728 % 4
+    head / POSITION_PLACE % POSITIONS
 }
 
 pub fn zeros(head: u32) -> u32
     ensures { λ r. ⌜ r ≡ zerosOf head ⌝ }
 {
-    head % 134217728
+    head % POSITION_PLACE
+}
+
+// The head of these fields, its zeros 0.
+pub fn pack(alignment: u32, position: u32) -> u32
+    requires { ⌜ (alignment < 2 ^ 2) × (position < 2 ^ 2) ⌝ }
+    ensures { λ r. ⌜ r ≡ headRecord alignment position ⌝ }
+{
+    HEAD_PLACE + alignment * ALIGNMENT_PLACE + position * POSITION_PLACE
 }
 
 // The alignment that a head gives, or the notice's or block's own.

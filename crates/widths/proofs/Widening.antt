@@ -1,9 +1,9 @@
 -- Widths for symbols, one law for each way through the code.
-use Prim.Native.Nat.{ℕ, _+_, _*_, _/_, _%_}
-use mathlib.Core.Path.{_≡_, refl}
+use Prim.Native.Nat.{ℕ, _%_, _^_}
+use mathlib.Core.Path.{_≡_, refl, _∙_}
 use mathlib.Core.Bool.{Bool, true, false}
-use Rattle.text.specs.Record.{isHead, widthOf}
-use Rattle.cell.specs.Cell.{cellFrom}
+use Rattle.text.specs.Record.{isHead, widthOf, whitespaceOf, styleOf, glyphRecord}
+use Rattle.cell.specs.Cell.{cellFrom, withUntouched}
 use Rattle.widths.specs.Widths.{widened, withWidth}
 
 module _ (r : ℕ) (b : Bool) (e : b ≡ isHead r) where
@@ -11,12 +11,13 @@ module _ (r : ℕ) (b : Bool) (e : b ≡ isHead r) where
   unfolding widened
   widened-head t = rw (← e, t) refl
 
-  pub widened-glyph : (w : ℕ) → b ≡ false → w ≡ widthOf r → w * 1024 + r % 1024 ≡ widened r
+  pub widened-glyph :
+      (w s v : ℕ) (space : Bool) → b ≡ false → w ≡ widthOf r → space ≡ whitespaceOf r → s ≡ styleOf r → v ≡ glyphRecord w w space s → v ≡ widened r
   unfolding widened
-  widened-glyph w f g = rw (← e, f, g) refl
+  widened-glyph w s v space f g h k p = p ∙ rw (← e, f, g, h, k) refl
 
-pub marked-width : (cell wide symbol : ℕ) → symbol ≡ cellFrom wide .symbol → cell / 262144 * 262144 + symbol % 8 ≡ withWidth cell wide
+pub marked-width : (cell wide symbol v : ℕ) → symbol ≡ cellFrom wide .symbol → v ≡ withUntouched (symbol % 2 ^ 3) cell → v ≡ withWidth cell wide
 unfolding withWidth
-marked-width cell wide symbol e = rw e refl
+marked-width cell wide symbol v e p = p ∙ rw e refl
 
 pub ruleset widening = (widened-head, widened-glyph, marked-width)

@@ -1,14 +1,14 @@
 -- The same notice with widths for symbols: drawn as the notice is, each of its cells tells the width of what stands there.
-use Prim.Native.Nat.{ℕ, _+_, _*_, _/_, _%_, _^_}
+use Prim.Native.Nat.{ℕ, _%_, _^_}
 use mathlib.Core.Bool.{cond}
 use mathlib.Core.List.{List, [], _∷_}
-use Rattle.text.specs.Record.{isHead, widthOf}
-use Rattle.cell.specs.Cell.{cellFrom}
+use Rattle.text.specs.Record.{isHead, widthOf, whitespaceOf, styleOf, glyphRecord}
+use Rattle.cell.specs.Cell.{cellFrom, withUntouched}
 use Rattle.flat.specs.declared.FlatBlock.{FlatBlock}
 
 -- a glyph whose symbol is its width; a head stays
 unfoldable pub widened : ℕ → ℕ
-widened r = cond (isHead r) r (widthOf r * 2 ^ 10 + r % 2 ^ 10)
+widened r = cond (isHead r) r (glyphRecord (widthOf r) (widthOf r) (whitespaceOf r) (styleOf r))
 
 -- a block whose symbols are all 1, the width of each
 abbrev pub widenedBlock : FlatBlock → FlatBlock
@@ -44,7 +44,7 @@ widenedBlock b =
 
 -- a cell with the width told by another in the bits that drawing never touches
 unfoldable pub withWidth : ℕ → ℕ → ℕ
-withWidth cell wide = cell / 2 ^ 18 * 2 ^ 18 + cellFrom wide .symbol % 2 ^ 3
+withWidth cell wide = withUntouched (cellFrom wide .symbol % 2 ^ 3) cell
 
 -- a list in which each entry is changed by the entry of another in its place, where that has one
 abbrev pub changedBy : (ℕ → ℕ → ℕ) → List ℕ → List ℕ → List ℕ

@@ -12,7 +12,8 @@ fn widened_record(word: u32) -> u32
     if head::is_head(word) {
         return word;
     }
-    glyph::width(word) * 1024 + word % 1024
+    let width = glyph::width(word);
+    glyph::pack(width, width, glyph::is_whitespace(word), glyph::style(word))
 }
 
 // Puts the records of a notice so changed at the start of others, as many as there is room for.
@@ -46,7 +47,7 @@ pub fn widened_block(mut block: FlatBlock) -> FlatBlock
 fn with_width(cell: u64, wide: u64) -> u64
     ensures { λ r. ⌜ r ≡ withWidth cell wide ⌝ }
 {
-    cell / 262144 * 262144 + cell::symbol(wide) % 8
+    cell::set_untouched(cell::symbol(wide) % 8, cell)
 }
 
 // Puts the widths that other cells tell into cells.

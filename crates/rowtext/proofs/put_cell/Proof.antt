@@ -4,8 +4,8 @@ use borrow.Author.Needs.{needs}
 use Rattle.rowtext.proofs.put_cell.Statement.{statement}
 use Rattle.rowtext.proofs.put_cell.Tie as tie
 
-style-in-requires : tie.Need-style-in-requires
-style-in-requires c κs = search needs
+appearance-requires : tie.Need-appearance-requires
+appearance-requires c κs = search needs
 
 put-change-requires : tie.Need-put-change-requires
 put-change-requires c κs = search needs
@@ -26,7 +26,7 @@ pub put-cell-spec : {M : Type 1} → statement M
 put-cell-spec =
     tie.close
     (tie.spec
-    style-in-requires
+    appearance-requires
     put-change-requires
     symbol-requires
     put-symbol-requires

@@ -13,8 +13,8 @@ returns c = (search steps, (search needs, (search steps, search steps)))
 put-cell-requires : tie.Need-put-cell-requires
 put-cell-requires c κs = search needs
 
-style-in-requires : tie.Need-style-in-requires
-style-in-requires c κs = search needs
+appearance-requires : tie.Need-appearance-requires
+appearance-requires c κs = search needs
 
 untouched-requires : tie.Need-untouched-requires
 untouched-requires c κs = search needs
@@ -35,7 +35,7 @@ step-spec =
     sub-t7
     returns
     put-cell-requires
-    style-in-requires
+    appearance-requires
     untouched-requires
     less-one-requires
     same-length

@@ -1,27 +1,15 @@
 -- `widths::widened_record` meets its contract.
-use Rattle.widths.proofs.Widening.{widening}
+use Rattle.widths.proofs.Widening.{widened-head, widened-glyph}
 use borrow.Author.Needs.{needs}
 use Rattle.widths.proofs.widened_record.Statement.{statement}
 use Rattle.widths.proofs.widened_record.Tie as tie
 
-is-head-requires : tie.Need-is-head-requires
-is-head-requires c κs = search needs
-
 returns : tie.Need-returns
-returns c = search (widening, needs)
-
-width-requires : tie.Need-width-requires
-width-requires c κs = search needs
-
-mul-result : tie.Need-mul-result
-mul-result c = search needs
-
-add-result : tie.Need-add-result
-add-result c = search needs
+returns c = search widened-head
 
 returns-2 : tie.Need-returns-2
-returns-2 c = search (widening, needs)
+returns-2 c = search widened-glyph
 
 pub widened-record-spec : {M : Type 1} → statement M
 widened-record-spec =
-    tie.close (tie.spec is-head-requires returns width-requires mul-result add-result returns-2)
+    tie.close (tie.spec (search needs) returns (search needs) (search needs) (search needs) (search needs) returns-2)

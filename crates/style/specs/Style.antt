@@ -1,6 +1,6 @@
 -- Document 01, 'Packed fields': the fields of a style, most significant bit first.
-use Prim.Native.Nat.{ℕ, _/_, _%_, _^_}
-use mathlib.Core.Bool.{Bool}
+use Prim.Native.Nat.{ℕ, _+_, _*_, _/_, _%_, _^_}
+use mathlib.Core.Bool.{Bool, cond}
 use lib.Dec.{eqb}
 
 -- foreground given 1 | foreground 8 | background given 1 | background 8 | add 9 | remove 9 | 28 zeros
@@ -24,3 +24,13 @@ styleFrom word =
       remove = word / 2 ^ 28 % 2 ^ 9;
       zeros = word % 2 ^ 28;
     }
+
+abbrev pub stylePacked : Style → ℕ
+stylePacked s =
+    cond (s .foregroundGiven) 1 0 * 2 ^ 63
+    + s .foreground * 2 ^ 55
+    + cond (s .backgroundGiven) 1 0 * 2 ^ 54
+    + s .background * 2 ^ 46
+    + s .add * 2 ^ 37
+    + s .remove * 2 ^ 28
+    + s .zeros
