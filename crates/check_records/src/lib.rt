@@ -1,11 +1,15 @@
-// The checks of a text's and of titles' records: causes 3, 4 and 5, and cause 6 of glyphs.
+// The checks of a text's and of titles' records: causes 3, 4 and 5, and cause 6 of glyphs; 3, 4 and 8 of a call that composes lines.
+use check_settings::limits;
 use refuse::Ceilings;
+use refuse::Refusal;
+use refuse::Verdict;
 use text::glyph;
 use text::head;
 use text::line;
 ghost use mathlib.Core.Path.{_≡_};
-ghost use mathlib.Core.Bool.{false};
-ghost use Rattle.refuse.specs.Causes.{textTooLong, notOpening, textHeadWrong, textHeadsWrong, titlesWrong, styleNumbersWrong, glyphStyles};
+ghost use Rattle.text.specs.Line.{notOpening, Opens};
+ghost use Rattle.refuse.specs.Refusal.{firstCause};
+ghost use Rattle.refuse.specs.Causes.{textTooLong, textHeadWrong, textHeadsWrong, textCauses, lineCauses, titlesWrong, styleNumbersWrong, glyphStyles};
 ghost use Rattle.refuse.specs.Scan.{titleWrong, scanWrong, glyphNoStyle};
 
 // 3: a text of too many records.
@@ -52,6 +56,32 @@ pub fn text_heads_wrong(text: &[u32]) -> bool
     false
 }
 
+// 3 and 4: of a call that has a text.
+pub fn text_verdict(most: Ceilings, text: &[u32]) -> Verdict
+    ensures { λ r. ⌜ r ≡ firstCause (textCauses most (now (text .entry))) ⌝ }
+{
+    if text_too_long(most, text) {
+        return Verdict::Refused(Refusal::TextLength);
+    }
+    if text_heads_wrong(text) {
+        return Verdict::Refused(Refusal::TextHeads);
+    }
+    Verdict::Accepted
+}
+
+// 3, 4 and 8: of a call that composes a text's lines at a limit.
+pub fn line_verdict(most: Ceilings, text: &[u32], limit: u16) -> Verdict
+    ensures { λ r. ⌜ r ≡ firstCause (lineCauses most (now (text .entry)) limit) ⌝ }
+{
+    if let Verdict::Refused(why) = text_verdict(most, text) {
+        return Verdict::Refused(why);
+    }
+    if limits::limit_wrong(most, limit) {
+        return Verdict::Refused(Refusal::Limit);
+    }
+    Verdict::Accepted
+}
+
 // Whether a title has too many glyphs, position 3, or zeros that aren't 0.
 fn title_wrong(most: Ceilings, head: u32, glyphs: usize) -> bool
     ensures { λ r. ⌜ r ≡ titleWrong most head glyphs ⌝ }
@@ -64,7 +94,7 @@ fn title_wrong(most: Ceilings, head: u32, glyphs: usize) -> bool
 
 // Whether there are too many titles, or one is wrong.
 fn any_title_wrong(most: Ceilings, titles: &[u32]) -> bool
-    requires { ⌜ notOpening (now titles) ≡ false ⌝ }
+    requires { ⌜ Opens (now titles) ⌝ }
     ensures { λ r. ⌜ r ≡ scanWrong most (now (titles .entry)) ⌝ }
 {
     let most_titles = most.titles;

@@ -1,7 +1,11 @@
-// Cause 1.
+// Cause 1, and 1 and 2 of a call that has a screen and styles.
+use crate::styles;
 use refuse::Ceilings;
+use refuse::Refusal;
+use refuse::Verdict;
 ghost use mathlib.Core.Path.{_≡_};
-ghost use Rattle.refuse.specs.Causes.{oneTo, screenWrong};
+ghost use Rattle.refuse.specs.Refusal.{firstCause};
+ghost use Rattle.refuse.specs.Causes.{oneTo, screenWrong, screenCauses};
 
 // Whether a number is 1 to `most`.
 fn is_one_to(most: u32, n: u32) -> bool
@@ -21,4 +25,23 @@ pub fn screen_wrong(most: Ceilings, columns: u32, rows: u32, cells: usize) -> bo
         return true;
     }
     cells != (columns as usize) * (rows as usize)
+}
+
+// 1 and 2.
+pub fn screen_verdict(
+    most: Ceilings,
+    columns: u32,
+    rows: u32,
+    cells: usize,
+    styles: &[u64],
+) -> Verdict
+    ensures { λ r. ⌜ r ≡ firstCause (screenCauses most columns rows cells (now (styles .entry))) ⌝ }
+{
+    if screen_wrong(most, columns, rows, cells) {
+        return Verdict::Refused(Refusal::Screen);
+    }
+    if styles::styles_wrong(most, styles) {
+        return Verdict::Refused(Refusal::Styles);
+    }
+    Verdict::Accepted
 }

@@ -1,13 +1,15 @@
 // Causes 2, 6 and 7.
 use refuse::Ceilings;
+use text::glyph::SYMBOLS;
 ghost use mathlib.Core.Path.{_≡_};
-ghost use Rattle.refuse.specs.Causes.{zerosSet, some, stylesWrong, noStyle, styleNumbersWrong, tooLarge, symbolsWrong};
+ghost use Rattle.text.specs.Lists.{some};
+ghost use Rattle.refuse.specs.Causes.{zerosSet, stylesWrong, noStyle, styleNumbersWrong, tooLarge, symbolsWrong};
 
 // Whether a style's zeros aren't 0.
 fn has_zeros_set(style: u64) -> bool
     ensures { λ r. ⌜ r ≡ zerosSet style ⌝ }
 {
-    cell::style::zeros(style) != 0
+    style::zeros(style) != 0
 }
 
 // Whether one of the styles has zeros that aren't 0.
@@ -59,7 +61,7 @@ pub fn style_numbers_wrong(count: usize, numbers: &[u8]) -> bool
 fn is_too_large(symbol: u32) -> bool
     ensures { λ r. ⌜ r ≡ tooLarge symbol ⌝ }
 {
-    2097152 <= symbol
+    SYMBOLS <= symbol
 }
 
 // 7: a symbol of 2,097,152 or more.

@@ -6,7 +6,8 @@ use mathlib.Core.List.{List}
 use lib.Dec.{ltb}
 use lib.ListN.{length}
 use Rattle.text.specs.Line.{TextLine, linesFrom}
-use Rattle.refuse.specs.Causes.{mostAccepted, some, screenWrong, zerosSet, stylesWrong, textTooLong, tooManyGlyphs, titlesWrong, tooLarge, limitWrong}
+use Rattle.text.specs.Lists.{some}
+use Rattle.refuse.specs.Causes.{mostAccepted, screenWrong, zerosSet, stylesWrong, textTooLong, tooManyGlyphs, titlesWrong, tooLarge, limitWrong}
 
 screen-largest : screenWrong mostAccepted 512 256 131072 ≡ false
 unfolding screenWrong

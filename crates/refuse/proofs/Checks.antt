@@ -10,7 +10,8 @@ use lib.Dec.{eqb, leb, ltb}
 use lib.ListN.{length, getD}
 use Rattle.text.specs.Record.{isHead, styleOf, positionOf, zerosOf}
 use Rattle.refuse.specs.declared.Ceilings.{Ceilings}
-use Rattle.refuse.specs.Causes.{oneTo, screenWrong, notOpening, textHeadWrong, noStyle}
+use Rattle.text.specs.Line.{notOpening}
+use Rattle.refuse.specs.Causes.{oneTo, screenWrong, textHeadWrong, noStyle}
 use Rattle.refuse.specs.Scan.{titleWrong, glyphNoStyle}
 
 -- cause 1

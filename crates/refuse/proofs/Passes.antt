@@ -11,7 +11,9 @@ use lib.ListN.{length, getD, drop}
 use lib.Seq.{drop-cons, drop-length}
 use Rattle.text.specs.Record.{isHead, styleOf}
 use Rattle.refuse.specs.declared.Ceilings.{Ceilings}
-use Rattle.refuse.specs.Causes.{some, zerosSet, stylesWrong, notOpening, textHeadWrong, textHeadsWrong, noStyle, styleNumbersWrong, glyphStyles}
+use Rattle.text.specs.Lists.{some}
+use Rattle.text.specs.Line.{notOpening}
+use Rattle.refuse.specs.Causes.{zerosSet, stylesWrong, textHeadWrong, textHeadsWrong, noStyle, styleNumbersWrong, glyphStyles}
 use Rattle.refuse.specs.Scan.{glyphNoStyle}
 
 -- the numbers left say what all say

@@ -1,30 +1,26 @@
 -- Cause 5: the pass over titles, head by head, and that its one test for each title comes to the table's five.
-use Prim.Native.Nat.{ℕ, suc, _+_, _<_, _≤_}
+use Prim.Native.Nat.{ℕ, _+_, _<_, _≤_}
 use mathlib.Core.Path.{_≡_, refl, sym, ap, _∙_}
 use mathlib.Core.Bool.{Bool, true, false, _||_, or-true}
 use mathlib.Core.List.{List, [], _∷_}
 use native.Mathlib.Omega.{arith}
-use borrow.Author.Tests.{lt-ltb, le-ltb, not-false}
+use borrow.Author.Tests.{lt-ltb, le-ltb}
 use lib.Dec.{ltb}
 use lib.ListN.{length, getD, drop}
 use lib.Seq.{drop-length}
-use Rattle.text.specs.Record.{isHead}
-use Rattle.text.specs.Line.{TextLine, untilHead, linesFrom}
-use Rattle.text.proofs.TextLines.{Opens, rest, rest-is, next-opens, line-first}
+use Rattle.text.specs.Line.{TextLine, untilHead, linesFrom, notOpening}
+use Rattle.text.proofs.TextLines.{AtHead, opens-start, rest, rest-is, next-opens, line-first}
 use Rattle.refuse.specs.declared.Ceilings.{Ceilings}
-use Rattle.refuse.specs.Causes.{some, notOpening, tooManyGlyphs, positionThree, headZerosSet, titlesWrong}
+use Rattle.text.specs.Lists.{some}
+use Rattle.refuse.specs.Causes.{tooManyGlyphs, positionThree, headZerosSet, titlesWrong}
 use Rattle.refuse.specs.Scan.{titleWrong, lineWrong, scanWrong}
 
 -- titles passed, none of them wrong: those left say what all say
 pub record Scanning (most : Ceilings) (rs : List ℕ) (count at : ℕ) : Type 0 where
-  pub opens : Opens rs at
+  pub opens : AtHead rs at
   pub few : count ≤ most .titles
   pub counted : count + length (linesFrom at (drop at rs)) ≡ length (linesFrom 0 rs)
   pub same : some (lineWrong most) (linesFrom at (drop at rs)) ≡ some (lineWrong most) (linesFrom 0 rs)
-
-pub opens-start : (rs : List ℕ) → notOpening rs ≡ false → Opens rs 0
-opens-start [] e = record { within = omega arith; head = λ (h : 0 < 0). absurd (omega arith) }
-opens-start (r ∷ rs) e = record { within = omega arith; head = λ (h : 0 < suc (length rs)). not-false (isHead r) e }
 
 module _ (most : Ceilings) (rs : List ℕ) where
   pub scan-starts : notOpening rs ≡ false → Scanning most rs 0 0

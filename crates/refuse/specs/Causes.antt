@@ -1,22 +1,20 @@
 -- Document 01, 'Why a call is refused': a definition for each row of the table, over the inputs it looks at.
 use Prim.Native.Nat.{ℕ, _*_}
-use mathlib.Core.Bool.{Bool, true, false, cond, not, _&&_, _||_}
-use mathlib.Core.List.{List, [], _∷_}
+use mathlib.Core.Bool.{Bool, cond, not, _&&_, _||_}
+use mathlib.Core.List.{List, [], _∷_, _++_}
 use lib.Dec.{eqb, leb, ltb}
 use lib.ListN.{length}
 use Rattle.text.specs.Record.{isHead, styleOf, positionOf, zerosOf}
-use Rattle.text.specs.Line.{TextLine, linesFrom}
-use Rattle.cell.specs.Style.{Style, styleFrom}
+use Rattle.text.specs.Line.{TextLine, linesFrom, notOpening}
+use Rattle.text.specs.Lists.{some}
+use Rattle.style.specs.Style.{Style, styleFrom}
 use Rattle.refuse.specs.declared.Ceilings.{Ceilings}
+use Rattle.refuse.specs.declared.Refusal.the-variants.{Screen, Styles as StylesCause, TextLength, TextHeads, Limit}
+use Rattle.refuse.specs.Refusal.{Cause, _if_}
 
 -- "Accepted: 512 columns, 256 rows, 64 styles, 16,384 records, 16 titles of 256 glyphs, limit 4,096."
 abbrev pub mostAccepted : Ceilings
 mostAccepted = record { columns = 512; rows = 256; styles = 64; records = 16384; titles = 16; «title_glyphs» = 256; limit = 4096 }
-
--- a test holds of something in a list
-abbrev pub some : {A : Type 0} → (A → Bool) → List A → Bool
-some test [] = false
-some test (x ∷ xs) = test x || some test xs
 
 -- a number is 1 to the most given
 abbrev pub oneTo : ℕ → ℕ → Bool
@@ -37,11 +35,6 @@ stylesWrong most styles = ltb (most .styles) (length styles) || some zerosSet st
 -- 3: "text over 16,384 records"
 abbrev pub textTooLong : Ceilings → List ℕ → Bool
 textTooLong most text = ltb (most .records) (length text)
-
--- of 4 and 5: records "not empty and not opening with a head"
-abbrev pub notOpening : List ℕ → Bool
-notOpening [] = false
-notOpening (r ∷ rs) = not (isHead r)
 
 -- 4: "text not empty and not opening with a head, or a head's zeros or position not 0"
 abbrev pub textHeadWrong : ℕ → Bool
@@ -95,3 +88,16 @@ limitWrong most limit = ltb (most .limit) limit
 -- 9: "list shorter than the lines to write"
 abbrev pub listTooShort : ℕ → ℕ → Bool
 listTooShort entries lines = ltb entries lines
+
+-- Causes that several calls have one after another, of a call that has a screen and styles: 1, 2
+unfoldable pub screenCauses : Ceilings → ℕ → ℕ → ℕ → List ℕ → List Cause
+screenCauses most columns rows cells styles =
+    Screen if screenWrong most columns rows cells ∷ StylesCause if stylesWrong most styles ∷ []
+
+-- and of one that has a text: 3, 4
+unfoldable pub textCauses : Ceilings → List ℕ → List Cause
+textCauses most text = TextLength if textTooLong most text ∷ TextHeads if textHeadsWrong text ∷ []
+
+-- and of one that composes the lines of a text at a limit: 3, 4, 8
+unfoldable pub lineCauses : Ceilings → List ℕ → ℕ → List Cause
+lineCauses most text limit = textCauses most text ++ (Limit if limitWrong most limit ∷ [])

@@ -1,7 +1,8 @@
 -- Document 01, 'Why a call is refused': "Lowest number first, of those a call has inputs for."
-use Prim.Native.Nat.{ℕ}
+use Prim.Native.Nat.{ℕ, suc}
 use mathlib.Core.Bool.{Bool, cond}
 use mathlib.Core.List.{List, [], _∷_}
+use lib.Dec.{eqb}
 use Rattle.refuse.specs.declared.Refusal.{Refusal}
 use Rattle.refuse.specs.declared.Refusal.the-variants.{Screen, Styles, TextLength, TextHeads, Titles, StyleNumber, Symbol, Limit, ListLength}
 use Rattle.refuse.specs.declared.Verdict.{Verdict}
@@ -24,6 +25,18 @@ abbrev pub verdictNumber : Verdict → ℕ
 verdictNumber Accepted = 0
 verdictNumber (Refused why) = refusalNumber why
 
+-- the order in which causes are asked, all calls' in one: the table's. A cause that joins it later has its place here, whatever its number.
+abbrev pub causeOrder : List Refusal
+causeOrder = Screen ∷ Styles ∷ TextLength ∷ TextHeads ∷ Titles ∷ StyleNumber ∷ Symbol ∷ Limit ∷ ListLength ∷ []
+
+-- the place of a cause in an order, the first of which is given; 0 where it isn't there
+abbrev pub placeFrom : ℕ → List Refusal → Refusal → ℕ
+placeFrom place [] why = 0
+placeFrom place (first ∷ later) why = cond (eqb (refusalNumber first) (refusalNumber why)) place (placeFrom (suc place) later why)
+
+abbrev pub refusalPlace : Refusal → ℕ
+refusalPlace why = placeFrom 1 causeOrder why
+
 -- a cause, and whether a call's inputs have it
 pub record Cause : Type 0 where
   pub why : Refusal
@@ -33,13 +46,19 @@ infixl 80 _if_
 abbrev pub _if_ : Refusal → Bool → Cause
 why if b = record { why = why; holds = b }
 
--- A call lists its causes in the table's order, each once. The first that holds is then the lowest, whatever else holds: theorem
--- `lowest`, to which each call shows that its list is in that order.
+-- A call lists its causes once, in that order, as it shows. The first that holds is then the one at the lowest place, whatever else
+-- holds: theorem `in-order`.
 abbrev pub firstCause : List Cause → Verdict
 firstCause [] = Accepted
 firstCause (cause ∷ causes) = cond (cause .holds) (Refused (cause .why)) (firstCause causes)
 
--- the table's last column, 'Left': what is left as it was where a call is refused, and is new where it isn't
+-- the table's column 'Returned': a call's answer is the one it has where it is accepted, or why it is refused
+abbrev pub answering : {A B : Type 0} → (A → B) → (Refusal → B) → Verdict → A → B
+answering accepted refused Accepted answer = accepted answer
+answering accepted refused (Refused why) answer = refused why
+
+-- the table's last column, 'Left': what is new where a call is accepted, and as it was where it is refused. So are its counts, with
+-- "counts 0" for what was.
 abbrev pub unlessRefused : {A : Type 0} → Verdict → A → A → A
 unlessRefused Accepted new old = new
 unlessRefused (Refused why) new old = old

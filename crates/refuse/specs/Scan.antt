@@ -7,7 +7,8 @@ use lib.ListN.{length}
 use Rattle.text.specs.Record.{isHead, styleOf, positionOf, zerosOf}
 use Rattle.text.specs.Line.{TextLine, linesFrom}
 use Rattle.refuse.specs.declared.Ceilings.{Ceilings}
-use Rattle.refuse.specs.Causes.{some, noStyle}
+use Rattle.text.specs.Lists.{some}
+use Rattle.refuse.specs.Causes.{noStyle}
 
 -- a title with this head and this number of glyphs is wrong in one of the ways that cause 5 names
 unfoldable pub titleWrong : Ceilings → ℕ → ℕ → Bool
