@@ -3,7 +3,7 @@
 -- exactly-once: so every glyph of a text line is emitted, dropped or over-wide, and only once.
 use Prim.Native.Nat.{ℕ, suc, _+_, _-_, _≤_, _<_}
 use mathlib.Core.Path.{_≡_, refl, sym, ap, _∙_}
-use mathlib.Core.Bool.{Bool, true, false, cond, not, _||_}
+use mathlib.Core.Bool.{Bool, true, false, cond}
 use mathlib.Core.List.{List, [], _∷_, _++_, append-nil}
 use native.Mathlib.Omega.{arith}
 use borrow.Author.Tests.{eqb-true, eqb-false, ne-eqb}
@@ -11,12 +11,14 @@ use lib.Dec.{eqb}
 use lib.ListN.{length}
 use Rattle.text.specs.Line.{Glyph, numbered, total}
 use Rattle.wrapping.specs.declared.Rule.{Rule}
-use Rattle.wrapping.specs.Wrapping.{Pending, Step, empty, start, overWide, takesSpaces, gathered, joined, unjoined, emptied, appended, filled, joining, step, wrapFrom, wrap, overWides}
+use Rattle.wrapping.specs.Wrapping.{Pending, Step, start, overWide, takesSpaces, gathered, joined, unjoined, emptied, appended, step, wrapFrom, wrap, overWides}
 use Rattle.text.specs.Lists.{countOf}
 use Rattle.text.proofs.Lists.{count-append}
 use Rattle.nothing_lost.specs.Glyphs.{glyphsOfAll}
-use Rattle.nothing_lost.proofs.Lists.{cases, glyphs-append}
-use Rattle.nothing_lost.proofs.Steps.{appended-ways, filled-ways, step-ways, finish-gathers, wraps}
+use Rattle.text.proofs.Bools.{cases}
+use Rattle.nothing_lost.proofs.Lists.{glyphs-append}
+use Rattle.nothing_lost.proofs.Steps.{last-gathers, one-more, wraps}
+use Rattle.wrapping.proofs.Ways.{filled, appended-ways, filled-ways, step-ways}
 use Rattle.wrapping.proofs.Splits.{fitting-split}
 
 module _ (test : Glyph → Bool) where
@@ -49,12 +51,12 @@ module _ (test : Glyph → Bool) where
       let parts = ap (countOf test) (sym (fitting-split (u .limit - total (s .row)) (s .spaces))) in
       filled-ways u s g (λ (t : Step). after t ≡ held s + countOf test (g ∷ []))
       (λ _ _. simp (count-append, append-nil) (omega (arith, simp count-append at parts)))
-      (λ _. simp append-nil (omega (arith, simp count-append at parts, appended-count (emptied u s) g)))
+      (λ _ _. simp append-nil (omega (arith, simp count-append at parts, appended-count (emptied u s) g)))
       (λ _. omega (arith, appended-count s g))
 
   step-count : (u : Rule) (s : Pending) (g : Glyph) →
       after (step u s g) + countOf test (overWides u (g ∷ [])) ≡ held s + countOf test (g ∷ [])
-  unfolding after held joining joined
+  unfolding after held joined
   step-count u s g =
       step-ways u s g (λ (t : Step). after t + countOf test (overWides u (g ∷ [])) ≡ held s + countOf test (g ∷ []))
       (λ o. rw o (omega arith))
@@ -70,14 +72,13 @@ module _ (test : Glyph → Bool) where
       go true = omega arith
       go false = omega arith
 
-  from-count : (u : Rule) (emitted : Bool) (s : Pending) (gs : List Glyph) →
-      countOf test (glyphsOfAll (wrapFrom u emitted s gs .lines)) + countOf test (wrapFrom u emitted s gs .dropped) + countOf test (overWides u gs)
+  from-count : (u : Rule) (s : Pending) (gs : List Glyph) →
+      countOf test (glyphsOfAll (wrapFrom u s gs .lines)) + countOf test (wrapFrom u s gs .dropped) + countOf test (overWides u gs)
       ≡ held s + countOf test gs
   unfolding after
-  from-count u emitted s [] = simp finish-gathers (omega (arith, gathered-count u s))
-  from-count u emitted s (g ∷ gs) =
-      let later = from-count u (emitted || not (empty (step u s g .lines))) (step u s g .pending) gs in
-      simp (glyphs-append, count-append) (omega (arith, step-count u s g, over-first u g gs, later))
+  from-count u s [] = simp last-gathers (omega (arith, gathered-count u s))
+  from-count u s (g ∷ gs) =
+      simp (glyphs-append, count-append) (omega (arith, step-count u s g, over-first u g gs, from-count u (step u s g .pending) gs))
 
 -- of each number a text line has one glyph
 abbrev pub numberIs : ℕ → Glyph → Bool
@@ -103,7 +104,7 @@ module _ (u : Rule) (gs : List Glyph) (h : 0 < u .limit) where
   pub accounted : (test : Glyph → Bool) →
       countOf test (glyphsOfAll (wrap u gs .lines)) + countOf test (wrap u gs .dropped) + countOf test (overWides u gs) ≡ countOf test gs
   unfolding held
-  accounted test = rw (wraps u gs h) (omega (arith, from-count test u false start gs))
+  accounted test = rw (wraps u gs h, one-more) (omega (arith, from-count test u start gs))
 
   pub accounted-lengths : length (glyphsOfAll (wrap u gs .lines)) + length (wrap u gs .dropped) + length (overWides u gs) ≡ length gs
   accounted-lengths = simp all-counted at (accounted (λ _. true))

@@ -9,13 +9,11 @@ use native.Mathlib.Omega.{arith}
 use borrow.Author.Tests.{ltb-true, ltb-false, leb-false, lt-ltb}
 use lib.Dec.{eqb, leb, ltb}
 use Rattle.text.specs.Line.{Glyph, glyphFrom, numbered, total}
-use Rattle.text.proofs.Bools.{neither}
+use Rattle.text.proofs.Bools.{neither, cond-cases, cases}
 use Rattle.wrapping.specs.declared.Rule.{Rule}
-use Rattle.wrapping.specs.Wrapping.{Pending, Step, Wrapped, empty, start, overWide, mustJoin, takesSpaces, gathered, joined, full, fitting, afterFitting, emptied, appended, filled, joining, step, lastLines, finish, wrapFrom, wrap}
+use Rattle.wrapping.specs.Wrapping.{Pending, Step, Wrapped, empty, start, overWide, mustJoin, takesSpaces, gathered, joined, full, fitting, afterFitting, emptied, appended, step, lastLines, atLeastOne, wrapFrom, wrap}
 use Rattle.nothing_lost.specs.Glyphs.{Widths, NoWider, none, one}
-use Rattle.nothing_lost.proofs.Lists.{cases}
-use Rattle.wrapping.proofs.RunLaws.{cond-cases}
-use Rattle.nothing_lost.proofs.Steps.{appended-ways, filled-ways, step-ways}
+use Rattle.wrapping.proofs.Ways.{filled, appended-ways, filled-ways, step-ways}
 use Rattle.wrapping.proofs.Splits.{fitting-split}
 use Rattle.wrapping.proofs.ListRuns.{total-append}
 
@@ -141,11 +139,11 @@ module _ (u : Rule) (least most tight wide : ℕ)
         (λ _ _.
         let b : Ahead (emptied u s) 0 = record { word = omega (arith, a .word); spaces = λ e. omega (arith, a' .spaces e) } in
         record { lines = one r none; fine = record { sized = z'; ahead = b; below = λ e. absurd (true≢false e) } })
-        (λ _. record { lines = one r none; fine = appended-fine (emptied u s) z' a' (λ e. absurd (true≢false e)) })
+        (λ _ _. record { lines = one r none; fine = appended-fine (emptied u s) z' a' (λ e. absurd (true≢false e)) })
         (λ e. record { lines = none; fine = appended-fine s z a (k e) })
 
     step-narrow : (s : Pending) → Fine s → Narrow (step u s g)
-    unfolding overWide joining joined
+    unfolding overWide joined
     step-narrow s f =
         step-ways u s g (λ (t : Step). Narrow t)
         (λ _. record { lines = none; fine = f })
@@ -168,34 +166,36 @@ module _ (u : Rule) (least most tight wide : ℕ)
         (λ b _. cases (λ _. total (s .row) + total (s .spaces) + total (s .word) + g .width ≤ tight) (ltb 0 (g .width))
         (λ h. omega (arith, not-full u s g b .1 (ltb-true 0 (g .width) h))) (λ h. omega (arith, ltb-false 0 (g .width) h)))))
 
-  finish-narrow : (emitted : Bool) (s : Pending) → Fine s → NoWider wide (finish u emitted s)
-  unfolding finish lastLines
-  finish-narrow emitted s f =
-      cond-cases (λ (lines : List (List Glyph)). NoWider wide lines) (emitted || not (empty (lastLines u s))) _ _
-      (λ _.
+  last-narrow : (s : Pending) → Fine s → NoWider wide (lastLines u s)
+  unfolding lastLines
+  last-narrow s f =
       no-wider-append
       (cond-cases (λ (lines : List (List Glyph)). NoWider wide lines) (empty (s .row) && empty (s .word) && not (empty (s .spaces)) && u .trim) _ _
       (λ _. one (omega arith) none) (λ _. none))
-      (cond-cases (λ (lines : List (List Glyph)). NoWider wide lines) (empty (gathered u s)) _ _ (λ _. none) (λ _. one (gathered-fits s f) none)))
-      (λ _. one (omega arith) none)
+      (cond-cases (λ (lines : List (List Glyph)). NoWider wide lines) (empty (gathered u s)) _ _ (λ _. none) (λ _. one (gathered-fits s f) none))
 
-  from-narrow : (emitted : Bool) (s : Pending) (gs : List Glyph) → Widths least most gs → Fine s → NoWider wide (wrapFrom u emitted s gs .lines)
-  from-narrow emitted s [] z f = finish-narrow emitted s f
-  from-narrow emitted s (g ∷ gs) (one l m z) f =
+  from-narrow : (s : Pending) (gs : List Glyph) → Widths least most gs → Fine s → NoWider wide (wrapFrom u s gs .lines)
+  from-narrow s [] z f = last-narrow s f
+  from-narrow s (g ∷ gs) (one l m z) f =
       let n = step-narrow g l m s f in
-      no-wider-append (n .lines) (from-narrow (emitted || not (empty (step u s g .lines))) (step u s g .pending) gs z (n .fine))
+      no-wider-append (n .lines) (from-narrow (step u s g .pending) gs z (n .fine))
+
+  one-narrow : (lines : List (List Glyph)) → NoWider wide lines → NoWider wide (atLeastOne lines)
+  one-narrow [] z = one {line = []} (omega arith) none
+  one-narrow (line ∷ lines) z = z
 
   lines-narrow : (gs : List Glyph) → Widths least most gs → NoWider wide (wrap u gs .lines)
   unfolding wrap
   lines-narrow gs z =
       cond-cases (λ (w : Wrapped). NoWider wide (w .lines)) (eqb (u .limit) 0) _ _ (λ _. none)
       (λ _.
-      from-narrow false start gs z
+      one-narrow (wrapFrom u start gs .lines)
+      (from-narrow start gs z
       (record {
         sized = record { row = none; spaces = none; word = none };
         ahead = record { word = omega arith; spaces = λ _. omega arith };
         below = λ e. absurd (true≢false e);
-      }))
+      })))
 
 pub one-cell : (u : Rule) (gs : List Glyph) → Widths 1 1 gs → NoWider (u .limit) (wrap u gs .lines)
 one-cell u = lines-narrow u 1 1 (u .limit) (u .limit) refl refl (omega arith) (omega arith)

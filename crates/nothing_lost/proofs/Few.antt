@@ -1,5 +1,5 @@
 -- lines-few: a text line gives no more lines than it has glyphs, or one line.
-use Prim.Native.Nat.{suc, _+_, _≤_, _<_, max}
+use Prim.Native.Nat.{ℕ, suc, _+_, _≤_, _<_, max}
 use mathlib.Core.Path.{_≡_, refl, sym, _∙_}
 use mathlib.Core.Bool.{Bool, true, false, cond, not, _&&_, _||_, and-false, false≢true}
 use mathlib.Core.List.{List, [], _∷_, _++_}
@@ -9,18 +9,17 @@ use lib.Dec.{eqb}
 use lib.ListN.{length, length-append}
 use Rattle.text.specs.Line.{Glyph, total}
 use Rattle.wrapping.specs.declared.Rule.{Rule}
-use Rattle.wrapping.specs.Wrapping.{Pending, Step, Wrapped, empty, start, takesSpaces, gathered, joined, full, filled, joining, step, lastLines, finish, wrapFrom, wrap}
-use Rattle.wrapping.proofs.RunLaws.{cond-cases}
-use Rattle.nothing_lost.proofs.Steps.{filled-ways, step-ways}
+use Rattle.wrapping.specs.Wrapping.{Pending, Step, Wrapped, empty, start, takesSpaces, gathered, joined, full, step, lastLines, atLeastOne, wrapFrom, wrap}
+use Rattle.text.proofs.Bools.{cond-cases}
+use Rattle.wrapping.proofs.Ways.{filled, filled-ways, step-ways}
 
 -- a glyph emits at most one line
 filled-few : (u : Rule) (s : Pending) (g : Glyph) → length (filled u s g .lines) ≤ 1
 filled-few u s g =
     filled-ways u s g (λ (t : Step). length (t .lines) ≤ 1)
-    (λ _ _. omega arith) (λ _. omega arith) (λ _. omega arith)
+    (λ _ _. omega arith) (λ _ _. omega arith) (λ _. omega arith)
 
 step-few : (u : Rule) (s : Pending) (g : Glyph) → length (step u s g .lines) ≤ 1
-unfolding joining
 step-few u s g =
     step-ways u s g (λ (t : Step). length (t .lines) ≤ 1)
     (λ _. omega arith) (λ _ _. filled-few u (joined u s) g) (λ _ _. filled-few u s g)
@@ -44,21 +43,19 @@ last-few u s = go (s .row) (s .spaces) (s .word) (u .trim)
     go [] (g ∷ spaces) [] true = omega arith
     go [] (g ∷ spaces) [] false = omega arith
 
-finish-few : (u : Rule) (emitted : Bool) (s : Pending) → length (finish u emitted s) ≤ 1
-unfolding finish
-finish-few u emitted s =
-    cond-cases (λ (lines : List (List Glyph)). length lines ≤ 1) (emitted || not (empty (lastLines u s))) _ _
-    (λ _. last-few u s) (λ _. omega arith)
-
-from-few : (u : Rule) (emitted : Bool) (s : Pending) (gs : List Glyph) → length (wrapFrom u emitted s gs .lines) ≤ suc (length gs)
-from-few u emitted s [] = finish-few u emitted s
-from-few u emitted s (g ∷ gs) =
+from-few : (u : Rule) (s : Pending) (gs : List Glyph) → length (wrapFrom u s gs .lines) ≤ suc (length gs)
+from-few u s [] = last-few u s
+from-few u s (g ∷ gs) =
     omega (
       arith,
-      length-append (step u s g .lines) (wrapFrom u (emitted || not (empty (step u s g .lines))) (step u s g .pending) gs .lines),
+      length-append (step u s g .lines) (wrapFrom u (step u s g .pending) gs .lines),
       step-few u s g,
-      from-few u (emitted || not (empty (step u s g .lines))) (step u s g .pending) gs,
+      from-few u (step u s g .pending) gs,
     )
+
+one-few : (n : ℕ) (lines : List (List Glyph)) → length lines ≤ max 1 n → length (atLeastOne lines) ≤ max 1 n
+one-few n [] h = omega arith
+one-few n (line ∷ lines) h = h
 
 -- but the first glyph emits none: what is pending then has no width, and so is narrower than the limit
 unfilled : (u : Rule) (s : Pending) (g : Glyph) → 0 < u .limit → total (s .row) + total (s .spaces) + total (s .word) ≡ 0 →
@@ -67,10 +64,10 @@ unfolding full
 unfilled u s g h e =
     let f : full u s g ≡ false = simp (lt-leb (u .limit) (total (s .row)) (omega arith), e, lt-leb (u .limit) 0 h, and-false) in
     filled-ways u s g (λ (t : Step). t .lines ≡ [])
-    (λ b _. absurd (false≢true (sym f ∙ b))) (λ b. absurd (false≢true (sym f ∙ b))) (λ _. refl)
+    (λ b _. absurd (false≢true (sym f ∙ b))) (λ b _. absurd (false≢true (sym f ∙ b))) (λ _. refl)
 
 first-none : (u : Rule) (g : Glyph) → 0 < u .limit → step u start g .lines ≡ []
-unfolding joining joined gathered takesSpaces
+unfolding joined gathered takesSpaces
 first-none u g h =
     step-ways u start g (λ (t : Step). t .lines ≡ [])
     (λ _. refl)
@@ -85,8 +82,8 @@ pub lines-few : (u : Rule) (gs : List Glyph) → length (wrap u gs .lines) ≤ m
 unfolding wrap
 lines-few u gs =
     cond-cases (λ (w : Wrapped). length (w .lines) ≤ max 1 (length gs)) (eqb (u .limit) 0) _ _
-    (λ _. omega arith) (λ e. go gs (eqb-false (u .limit) 0 e))
+    (λ _. omega arith) (λ e. one-few (length gs) (wrapFrom u start gs .lines) (go gs (eqb-false (u .limit) 0 e)))
   where
-    go : (gs : List Glyph) → (u .limit ≡ 0 → ⊥) → length (wrapFrom u false start gs .lines) ≤ max 1 (length gs)
-    go [] h = omega (arith, finish-few u false start)
-    go (g ∷ gs) h = rw (first-none u g (omega arith)) (omega (arith, from-few u false (step u start g .pending) gs))
+    go : (gs : List Glyph) → (u .limit ≡ 0 → ⊥) → length (wrapFrom u start gs .lines) ≤ max 1 (length gs)
+    go [] h = omega (arith, last-few u start)
+    go (g ∷ gs) h = rw (first-none u g (omega arith)) (omega (arith, from-few u (step u start g .pending) gs))

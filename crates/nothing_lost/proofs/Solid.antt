@@ -2,17 +2,18 @@
 -- dropped-whitespace: every glyph that wrapping drops is whitespace.
 use Prim.Native.Nat.{ℕ, _-_, _<_}
 use mathlib.Core.Path.{_≡_, refl, sym, ap, _∙_}
-use mathlib.Core.Bool.{Bool, true, false, cond, not, _||_}
+use mathlib.Core.Bool.{Bool, true, false, cond}
 use mathlib.Core.List.{List, [], _∷_, _++_, append-assoc, append-nil}
 use native.Mathlib.Omega.{arith}
 use lib.Dec.{eqb}
 use Rattle.text.specs.Line.{Glyph, total}
 use Rattle.wrapping.specs.declared.Rule.{Rule}
-use Rattle.wrapping.specs.Wrapping.{Pending, Step, Wrapped, empty, start, overWide, takesSpaces, gathered, joined, unjoined, fitting, afterFitting, emptied, appended, filled, joining, step, wrapFrom, wrap, notOverWide}
+use Rattle.wrapping.specs.Wrapping.{Pending, Step, Wrapped, start, overWide, takesSpaces, gathered, joined, unjoined, fitting, afterFitting, emptied, appended, silent, step, wrapFrom, wrap, notOverWide}
 use Rattle.nothing_lost.specs.Glyphs.{solids, glyphsOfAll}
 use Rattle.nothing_lost.proofs.Lists.{glyphs-append}
-use Rattle.wrapping.proofs.RunLaws.{cond-cases}
-use Rattle.nothing_lost.proofs.Steps.{appended-ways, silent, filled-ways, step-ways, finish-gathers, wraps}
+use Rattle.text.proofs.Bools.{cond-cases}
+use Rattle.nothing_lost.proofs.Steps.{last-gathers, one-more, wraps}
+use Rattle.wrapping.proofs.Ways.{filled, appended-ways, drops-whitespace, filled-ways, step-ways}
 use Rattle.wrapping.proofs.Splits.{fitting-split}
 
 pub solids-append : (a b : List Glyph) → solids (a ++ b) ≡ solids a ++ solids b
@@ -70,8 +71,10 @@ module _ (u : Rule) (g : Glyph) where
       let parts = fitting-solids (u .limit - total (s .row)) (s .spaces) blank in
       let k = appended-keeps (emptied u s) (parts .1) in
       filled-ways u s g (λ (t : Step). Keeps (held s) (solids (g ∷ [])) t)
-      (λ _ e. record { same = simp (e, append-nil); blank = parts .1; gone = simp (solids-append, parts .0, e) })
-      (λ _.
+      (λ _ d.
+      let e = drops-whitespace (emptied u s) g d in
+      record { same = simp (e, append-nil); blank = parts .1; gone = simp (solids-append, parts .0, e) })
+      (λ _ _.
       record {
         same = simp (append-nil, append-assoc) (ap (λ (gs : List Glyph). solids (s .row) ++ gs) (k .same));
         blank = k .blank;
@@ -80,7 +83,7 @@ module _ (u : Rule) (g : Glyph) where
       (λ _. appended-keeps s blank)
 
   step-keeps : (s : Pending) → solids (s .spaces) ≡ [] → Keeps (held s) (solids (notOverWide u (g ∷ []))) (step u s g)
-  unfolding held joining joined
+  unfolding held joined
   step-keeps s blank =
       let k = filled-keeps (joined u s) refl in
       step-ways u s g (λ (t : Step). Keeps (held s) (solids (notOverWide u (g ∷ []))) t)
@@ -106,13 +109,13 @@ record Kept (before new : List Glyph) (w : Wrapped) : Type 0 where
   pub same : solids (glyphsOfAll (w .lines)) ≡ before ++ new
   pub gone : solids (w .dropped) ≡ []
 
-from-keeps : (u : Rule) (emitted : Bool) (s : Pending) (gs : List Glyph) → solids (s .spaces) ≡ [] →
-    Kept (held s) (solids (notOverWide u gs)) (wrapFrom u emitted s gs)
-from-keeps u emitted s [] blank =
-    record { same = simp (finish-gathers, gathered-solids u s blank, append-nil); gone = unjoined-solids u s blank }
-from-keeps u emitted s (g ∷ gs) blank =
+from-keeps : (u : Rule) (s : Pending) (gs : List Glyph) → solids (s .spaces) ≡ [] →
+    Kept (held s) (solids (notOverWide u gs)) (wrapFrom u s gs)
+from-keeps u s [] blank =
+    record { same = simp (last-gathers, gathered-solids u s blank, append-nil); gone = unjoined-solids u s blank }
+from-keeps u s (g ∷ gs) blank =
     let k = step-keeps u g s blank in
-    let l = from-keeps u (emitted || not (empty (step u s g .lines))) (step u s g .pending) gs (k .blank) in
+    let l = from-keeps u (step u s g .pending) gs (k .blank) in
     record {
       same = simp (glyphs-append, solids-append, l .same, ← append-assoc, k .same, skip-first u g gs);
       gone = simp (solids-append, k .gone) (l .gone);
@@ -121,10 +124,10 @@ from-keeps u emitted s (g ∷ gs) blank =
 pub no-solid-lost : (u : Rule) (gs : List Glyph) → 0 < u .limit →
     solids (glyphsOfAll (wrap u gs .lines)) ≡ solids (notOverWide u gs)
 unfolding held
-no-solid-lost u gs h = rw (wraps u gs h) (from-keeps u false start gs refl .same)
+no-solid-lost u gs h = rw (wraps u gs h, one-more) (from-keeps u start gs refl .same)
 
 pub dropped-whitespace : (u : Rule) (gs : List Glyph) → solids (wrap u gs .dropped) ≡ []
 unfolding wrap
 dropped-whitespace u gs =
     cond-cases (λ (w : Wrapped). solids (w .dropped) ≡ []) (eqb (u .limit) 0) _ _
-    (λ _. refl) (λ _. from-keeps u false start gs refl .gone)
+    (λ _. refl) (λ _. from-keeps u start gs refl .gone)

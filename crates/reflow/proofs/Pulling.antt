@@ -18,9 +18,12 @@ use Rattle.reflow.specs.declared.Next.{Next}
 use Rattle.reflow.specs.declared.Next.the-variants.{Line, Done}
 use Rattle.wrapping.specs.Wrapping.{Step, emptied, step}
 use Rattle.wrapping.specs.Runs.{emptyRun, runOf, glyphsIn, Spans}
-use Rattle.reflow.specs.Steps.{gatherRun, joinRun, joins, joinedRun, emptiedRun, stepRun, closedRun, finishRun}
+use Rattle.pending.specs.declared.Last.{Last}
+use Rattle.pending.specs.declared.Last.the-variants.{Emit}
+use Rattle.pending.specs.Tests.{gatherRun, joins, lastRun}
+use Rattle.reflow.specs.Steps.{pendingOf, joinRun, joinedRun, emptiedRun, stepRun, closedRun, nextFrom, finishRun}
 use Rattle.reflow.specs.Pulls.{Sound, lineOf, emittedOf, nextOf, runsFrom, runs, pulled, SoundNext, Pulled}
-use Rattle.wrapping.proofs.RunLaws.{cond-cases}
+use Rattle.text.proofs.Bools.{cond-cases}
 use Rattle.wrapping.proofs.ListRuns.{empty-read}
 use Rattle.reflow.proofs.States.{shows-sum, shows-spaces, joined-sound, emptied-shows, gathered-is, gathered-read}
 use Rattle.reflow.proofs.Simulation.{ReadAll, step-matches}
@@ -66,7 +69,7 @@ module _ (u : Rule) (records : List ℕ) (s : Wrapper) (h : Sound u records s) w
 pub joined-at : (u : Rule) (s r : Wrapper) (w : ℕ) (space : Bool) → r ≡ joinedRun u s w space → r .at ≡ s .at
 unfolding joinedRun joinRun
 joined-at u s r w space e =
-    ap (λ (x : Wrapper). x .at) e ∙ cond-cases (λ (x : Wrapper). x .at ≡ s .at) (joins u s w space) (joinRun (u .trim) s) s (λ _. refl) (λ _. refl)
+    ap (λ (x : Wrapper). x .at) e ∙ cond-cases (λ (x : Wrapper). x .at ≡ s .at) (joins u (pendingOf s) w space) (joinRun (u .trim) s) s (λ _. refl) (λ _. refl)
 
 -- after an emit there is room for the glyph
 module _ (u : Rule) (records : List ℕ) (s r : Wrapper) (h : Sound u records s) (k : length records < 2 ^ 28) (e : r ≡ emptiedRun u records s) where
@@ -143,25 +146,25 @@ module _ (u : Rule) (records : List ℕ) (s : Wrapper) where
 
     -- the line's end gives one line, or none
     pub pulling-ends : (r : Next) → length records ≤ w .at → r ≡ finishRun u w → Pulled u records s r
-    unfolding finishRun pulled
+    unfolding finishRun lastRun pulled
     pulling-ends r k e =
         let q =
-        cond-cases Last (eqb (gatherRun (u .trim) w .end) 0) _ _
-        (λ _. cond-cases Last (eqb (w .spaces .end) 0) _ _ (λ _. cond-cases Last (w .emitted) _ _ (λ _. (refl, tt)) (λ _. none)) (λ _. none))
-        (λ _. last (gatherRun (u .trim) w) (rw (gathered-is u records w (p .sound .pending) (p .sound .shows)) (gathered-read u records w (p .sound .pending) (p .sound .shows) .spans))) in
+        cond-cases Ends (eqb (gatherRun (u .trim) (pendingOf w) .end) 0) _ _
+        (λ _. cond-cases Ends (eqb (w .spaces .end) 0) _ _ (λ _. cond-cases Ends (w .emitted) _ _ (λ _. (refl, tt)) (λ _. none)) (λ _. none))
+        (λ _. last (gatherRun (u .trim) (pendingOf w)) (rw (gathered-is u records w (p .sound .pending) (p .sound .shows)) (gathered-read u records w (p .sound .pending) (p .sound .shows) .spans))) in
         rw e
         (record {
           lines = p .lines ∙ live-runs u records w (p .live) ∙ ap (runsFrom u records w) (drop-of-length-le records k) ∙ q .0;
           sound = q .1;
         })
       where
-        Last : Next → Type 0
-        Last n = (lineOf n ≡ pulled u records n) × SoundNext u records n
+        Ends : Last → Type 0
+        Ends l = let n = nextFrom (closedRun w) l in (lineOf n ≡ pulled u records n) × SoundNext u records n
 
-        last : (line : Run) → Spans u records line → Last (Line line (closedRun w))
+        last : (line : Run) → Spans u records line → Ends (Emit line)
         last line l = (rw (closed-runs u records w), (sound-closed u records w (p .sound), l))
 
-        none : Last (Line emptyRun (closedRun w))
+        none : Ends (Emit emptyRun)
         none = last emptyRun (empty-read u records .spans)
 
 pub ruleset pulling = (pulling-starts, pulling-shut, pulling-goes, pulling-less, pulling-emits, pulling-ends)

@@ -6,18 +6,18 @@ use mathlib.Core.List.{List, [], _∷_, map}
 use lib.Dec.{eqb}
 use lib.ListN.{length, getD}
 use Rattle.text.specs.Line.{Glyph, glyphFrom}
-use Rattle.text.proofs.Bools.{neither}
+use Rattle.text.proofs.Bools.{neither, cond-cases}
 use Rattle.wrapping.specs.declared.Run.{Run}
 use Rattle.wrapping.specs.declared.Rule.{Rule}
 use Rattle.reflow.specs.declared.Wrapper.{Wrapper}
 use Rattle.reflow.specs.declared.Stepped.{Stepped}
 use Rattle.reflow.specs.declared.Stepped.the-variants.{Emitted, Went}
-use Rattle.wrapping.specs.Wrapping.{Pending, empty, Step, overWide, mustJoin, joined, full, emptied, drops, appended, emitting, filled, joining, step}
+use Rattle.wrapping.specs.Wrapping.{Pending, empty, Step, silent, overWide, mustJoin, joined, full, emptied, drops, appended, step}
 use Rattle.wrapping.specs.Runs.{runOf}
 use Rattle.reflow.specs.Steps.{joinRun, joinedRun, emptiedRun, passedRun, appendedRun, restRun, filledRun, stepRun}
 use Rattle.reflow.specs.Pulls.{Shows, emittedOf, nextOf}
-use Rattle.wrapping.proofs.RunLaws.{cond-cases}
 use Rattle.wrapping.proofs.ListRuns.{Read}
+use Rattle.wrapping.proofs.Ways.{filled, emits, joining, filled-ways, step-ways}
 use Rattle.reflow.proofs.States.{row-read, spaces-empty, joins-is, full-is, join-shows, emptied-shows, wide-shows, dropped-shows, appended-shows}
 
 empty-is : (l : List Glyph) → empty l ≡ true → l ≡ []
@@ -71,31 +71,36 @@ module _ (u : Rule) (records : List ℕ) (s : Wrapper) (t : Pending) (h : Shows 
 
 module _ (u : Rule) (records : List ℕ) (s : Wrapper) (t : Pending) (h : Shows u records s t) (g : Glyph) (in-text : s .at < length records)
     (e : g ≡ glyphFrom (s .at) (getD records (s .at) 0)) (o : overWide u g ≡ false) (f : g .whitespace ≡ true → t .word ≡ []) where
-  emit-matches : Matches u records s (Emitted (restRun (emptiedRun u records s) (g .width) (g .whitespace)) (s .row)) (emitting u t g)
-  unfolding emptiedRun emptied emitting
-  emit-matches =
+  -- row is emitted, and the glyph dropped or appended
+  emit-matches : (b : Bool) → drops (emptied u t) g ≡ b → (more : List Glyph) → Matches u records s
+      (Emitted (restRun (emptiedRun u records s) (g .width) (g .whitespace)) (s .row)) (emits u t more (cond b (emptied u t) (appended (emptied u t) g)) b)
+  unfolding emptiedRun emptied
+  emit-matches b d more =
       let r = rest-follows (emptiedRun u records s) (g .width) (g .whitespace) in
       record {
         lines = ap {B = List Run} (λ (x : Run). x ∷ []) (h .is-row);
         read = (row-read u records s t h, tt);
-        shows = rest-shows u records (emptiedRun u records s) (emptied u t) (emptied-shows u records s t h) g in-text e o f refl;
+        shows = rw d at (rest-shows u records (emptiedRun u records s) (emptied u t) (emptied-shows u records s t h) g in-text e o f refl);
         follows = record { at = r .at; live = r .live; emitted = r .emitted ∙ sym (or-true (s .emitted)) };
       }
 
   filled-matches : Matches u records s (filledRun u records s (g .width) (g .whitespace)) (filled u t g)
-  unfolding filledRun filled
-  filled-matches = rw (full-is u records s t h g) (both (full u t g))
-    where
-      both : (b : Bool) → Matches u records s
-          (cond b (Emitted (restRun (emptiedRun u records s) (g .width) (g .whitespace)) (s .row)) (Went (appendedRun s (g .width) (g .whitespace))))
-          (cond b (emitting u t g) (record { lines = []; dropped = []; pending = appended t g }))
-      both true = emit-matches
-      both false = record { lines = refl; read = tt; shows = appended-shows u records s t h g in-text e o f; follows = appended-follows s (g .width) (g .whitespace) }
+  unfolding filledRun
+  filled-matches =
+      rw (full-is u records s t h g)
+      (filled-ways u t g
+      (λ (r : Step).
+      Matches u records s
+      (cond (full u t g) (Emitted (restRun (emptiedRun u records s) (g .width) (g .whitespace)) (s .row)) (Went (appendedRun s (g .width) (g .whitespace))))
+      r)
+      (λ a d. rw a (emit-matches true d (g ∷ [])))
+      (λ a d. rw a (emit-matches false d []))
+      (λ a. rw a (record { lines = refl; read = tt; shows = appended-shows u records s t h g in-text e o f; follows = appended-follows s (g .width) (g .whitespace) })))
 
 module _ (u : Rule) (records : List ℕ) (s : Wrapper) (t : Pending) (h : Shows u records s t) (k : s .at < length records) where
   module _ (g : Glyph) (e : g ≡ glyphFrom (s .at) (getD records (s .at) 0)) where
     joining-matches : overWide u g ≡ false → Matches u records s (filledRun u records (joinRun (u .trim) s) (g .width) (g .whitespace)) (joining u t g)
-    unfolding joinRun joined joining
+    unfolding joinRun joined
     joining-matches o =
         let m = filled-matches u records (joinRun (u .trim) s) (joined u t) (join-shows u records s t h) g k e o (λ _. refl) in
         record {
@@ -105,22 +110,23 @@ module _ (u : Rule) (records : List ℕ) (s : Wrapper) (t : Pending) (h : Shows 
           follows = record { at = m .follows .at; live = m .follows .live; emitted = m .follows .emitted };
         }
 
-    joined-matches : overWide u g ≡ false → (b : Bool) → mustJoin u t g ≡ b
-        → Matches u records s (filledRun u records (cond b (joinRun (u .trim) s) s) (g .width) (g .whitespace)) (cond b (joining u t g) (filled u t g))
-    unfolding mustJoin
-    joined-matches o true j = joining-matches o
-    joined-matches o false j =
-        filled-matches u records s t h g k e o (λ w. h .wordless (neither (t .solid) _ (rw w at j) .0))
+    skip-matches : overWide u g ≡ true → Matches u records s (Went (passedRun s)) (silent t)
+    skip-matches o = record { lines = refl; read = tt; shows = wide-shows u records s t h g k e o; follows = passed-follows s }
 
-    by-width : (b : Bool) → overWide u g ≡ b →
-        Matches u records s (cond b (Went (passedRun s)) (filledRun u records (joinedRun u s (g .width) (g .whitespace)) (g .width) (g .whitespace)))
-        (cond b (record { lines = []; dropped = []; pending = t }) (cond (mustJoin u t g) (joining u t g) (filled u t g)))
-    unfolding joinedRun
-    by-width true o = record { lines = refl; read = tt; shows = wide-shows u records s t h g k e o; follows = passed-follows s }
-    by-width false o = rw (joins-is u records s t h g) (joined-matches o (mustJoin u t g) refl)
+    kept-matches : overWide u g ≡ false → mustJoin u t g ≡ false → Matches u records s (filledRun u records s (g .width) (g .whitespace)) (filled u t g)
+    unfolding mustJoin
+    kept-matches o j = filled-matches u records s t h g k e o (λ w. h .wordless (neither (t .solid) _ (rw w at j) .0))
 
   pub step-matches : Matches u records s (stepRun u records s (getD records (s .at) 0)) (step u t (glyphFrom (s .at) (getD records (s .at) 0)))
-  unfolding stepRun step overWide
+  unfolding stepRun joinedRun overWide
   step-matches =
       let g : Glyph = glyphFrom (s .at) (getD records (s .at) 0) in
-      by-width g refl (overWide u g) refl
+      rw (joins-is u records s t h g)
+      (step-ways u t g
+      (λ (r : Step).
+      Matches u records s
+      (cond (overWide u g) (Went (passedRun s)) (filledRun u records (cond (mustJoin u t g) (joinRun (u .trim) s) s) (g .width) (g .whitespace)))
+      r)
+      (λ o. rw o (skip-matches g refl o))
+      (λ o j. rw (o, j) (joining-matches g refl o))
+      (λ o j. rw (o, j) (kept-matches g refl o j)))

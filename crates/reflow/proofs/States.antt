@@ -14,9 +14,10 @@ use Rattle.wrapping.specs.declared.Rule.{Rule}
 use Rattle.reflow.specs.declared.Wrapper.{Wrapper}
 use Rattle.wrapping.specs.Wrapping.{Pending, empty, overWide, mustJoin, takesSpaces, gathered, joined, unjoined, full, fitting, emptied, appended, notOverWide}
 use Rattle.wrapping.specs.Runs.{runOf, appendRun, pushRun, dropRun, Spans}
-use Rattle.reflow.specs.Steps.{gatherRun, joinRun, overflowing, joins, joinedRun, fullRun, emptiedRun, passedRun, appendedRun}
+use Rattle.pending.specs.Tests.{gatherRun, overflowing, joins, fullRun}
+use Rattle.reflow.specs.Steps.{pendingOf, joinRun, joinedRun, emptiedRun, passedRun, appendedRun}
 use Rattle.reflow.specs.Pulls.{Shows, Sound}
-use Rattle.wrapping.proofs.RunLaws.{cond-cases}
+use Rattle.text.proofs.Bools.{cond-cases}
 use Rattle.wrapping.proofs.ListRuns.{total-append, run-empty, run-width, run-append, run-push, total-bound, Read, glyphs-run}
 use Rattle.wrapping.proofs.Splits.{numbered-append, narrow-append, gathered-split, fitting-split}
 
@@ -41,15 +42,15 @@ module _ (u : Rule) (records : List ℕ) (s : Wrapper) (t : Pending) (h : Shows 
   pub spaces-empty : eqb (s .spaces .end) 0 ≡ empty (t .spaces)
   spaces-empty = rw (h .is-spaces) (run-empty (t .spaces))
 
-  pub joins-is : (g : Glyph) → joins u s (g .width) (g .whitespace) ≡ mustJoin u t g
+  pub joins-is : (g : Glyph) → joins u (pendingOf s) (g .width) (g .whitespace) ≡ mustJoin u t g
   unfolding joins overflowing mustJoin
   joins-is g = simp (h .is-row, h .is-spaces, h .is-word, h .is-solid, run-empty, run-width)
 
-  pub full-is : (g : Glyph) → fullRun u s (g .width) ≡ full u t g
+  pub full-is : (g : Glyph) → fullRun u (pendingOf s) (g .width) ≡ full u t g
   unfolding fullRun full
   full-is g = simp (h .is-row, h .is-spaces, h .is-word, run-width)
 
-  pub gathered-is : gatherRun (u .trim) s ≡ runOf (gathered u t)
+  pub gathered-is : gatherRun (u .trim) (pendingOf s) ≡ runOf (gathered u t)
   unfolding gatherRun gathered takesSpaces
   gathered-is = rw (h .is-row, h .is-spaces, h .is-word) (both (u .trim) (t .row) (t .spaces) (t .word))
     where
@@ -84,7 +85,7 @@ module _ (u : Rule) (records : List ℕ) (s : Wrapper) (t : Pending) (h : Shows 
   pub joined-sound : (w : ℕ) (space : Bool) → Sound u records (joinedRun u s w space)
   unfolding joinedRun
   joined-sound w space =
-      cond-cases (Sound u records) (joins u s w space) (joinRun (u .trim) s) s
+      cond-cases (Sound u records) (joins u (pendingOf s) w space) (joinRun (u .trim) s) s
       (λ _. record { pending = joined u t; shows = join-shows })
       (λ _. record { pending = t; shows = h })
 

@@ -2,9 +2,8 @@
 use Prim.Native.Nat.{ℕ, _+_, _-_, _≤_, _<_}
 use mathlib.Core.Path.{_≡_, refl}
 use mathlib.Core.List.{List}
-use mathlib.Core.Bool.{Bool, true, false, _&&_}
-use borrow.Author.Tests.{eq-eqb, ne-eqb, le-leb, lt-leb, lt-ltb, le-ltb}
-use lib.Dec.{leb, ltb}
+use mathlib.Core.Bool.{Bool, true, false}
+use borrow.Author.Tests.{eq-eqb, ne-eqb, lt-ltb, le-ltb}
 use Rattle.text.specs.Record.{widthOf, whitespaceOf}
 use Rattle.wrapping.specs.declared.Run.{Run}
 use Rattle.wrapping.specs.declared.Rule.{Rule}
@@ -12,78 +11,30 @@ use Rattle.reflow.specs.declared.Wrapper.{Wrapper}
 use Rattle.reflow.specs.declared.Stepped.{Stepped}
 use Rattle.reflow.specs.declared.Stepped.the-variants.{Emitted, Went}
 use Rattle.reflow.specs.declared.Next.the-variants.{Line, Done}
-use Rattle.wrapping.specs.Runs.{emptyRun, appendRun, pushRun, dropRun}
-use Rattle.reflow.specs.Steps.{gatherRun, joinRun, overflowing, joins, joinedRun, fullRun, emptiedRun, passedRun, appendedRun, restRun, filledRun, stepRun, closedRun, finishRun}
+use Rattle.wrapping.specs.Runs.{emptyRun, pushRun, dropRun}
+use Rattle.pending.specs.declared.Pending.{Pending}
+use Rattle.pending.specs.declared.Last.{Last}
+use Rattle.pending.specs.declared.Last.the-variants.{Emit, Nothing}
+use Rattle.pending.specs.Tests.{gatherRun, joins, fullRun, lastRun}
+use Rattle.reflow.specs.Steps.{pendingOf, joinRun, joinedRun, emptiedRun, passedRun, appendedRun, restRun, filledRun, stepRun, closedRun, finishRun}
 
 -- ---- step 2
 
-module _ (trim : Bool) (s : Wrapper) where
-  pub gather-word : s .row .end ≡ 0 → trim ≡ true → s .word ≡ gatherRun trim s
-  unfolding gatherRun
-  gather-word h p = simp (eq-eqb (s .row .end) 0 h, p)
+pub join-is : (trim : Bool) (s : Wrapper) (p : Pending) (row none : Run) → p ≡ pendingOf s → row ≡ gatherRun trim p → none ≡ emptyRun
+    → record { row = row; spaces = none; word = none; solid = s .solid; emitted = s .emitted; live = s .live; at = s .at } ≡ joinRun trim s
+unfolding joinRun
+join-is trim s p row none d r e = rw (r, d, e)
 
-  pub gather-spaces : (r : Run) → s .row .end ≡ 0 → trim ≡ false → r ≡ appendRun (s .spaces) (s .word) → r ≡ gatherRun trim s
-  unfolding gatherRun
-  gather-spaces r h p e = simp (eq-eqb (s .row .end) 0 h, p) e
+module _ (u : Rule) (s : Wrapper) (w : ℕ) (space e : Bool) (p : Pending) (d : p ≡ pendingOf s) (j : e ≡ joins u p w space) where
+  pub joined-yes : (r : Wrapper) → e ≡ true → r ≡ joinRun (u .trim) s → r ≡ joinedRun u s w space
+  unfolding joinedRun
+  joined-yes r q h = simp (← d, ← j, q) h
 
-  pub gather-row : (r q : Run) → (s .row .end ≡ 0 → ⊥) → q ≡ appendRun (s .row) (s .spaces) → r ≡ appendRun q (s .word) → r ≡ gatherRun trim s
-  unfolding gatherRun
-  gather-row r q h e f = simp (ne-eqb (s .row .end) 0 h) (cc)
-
-  pub join-is : (row none : Run) → row ≡ gatherRun trim s → none ≡ emptyRun
-      → record { row = row; spaces = none; word = none; solid = s .solid; emitted = s .emitted; live = s .live; at = s .at } ≡ joinRun trim s
-  unfolding joinRun
-  join-is row none p e = cc
-
-module _ (u : Rule) (s : Wrapper) (w : ℕ) where
-  pub over-word : u .trim ≡ true → u .limit < s .word .width + w → ltb (u .limit) (s .word .width + w) ≡ overflowing u s w
-  unfolding overflowing
-  over-word t h = simp (t, lt-ltb _ _ h)
-
-  pub over-spaces : u .trim ≡ true → s .word .width + w ≤ u .limit → ltb (u .limit) (s .spaces .width + w) ≡ overflowing u s w
-  unfolding overflowing
-  over-spaces t h = simp (t, le-ltb _ _ h)
-
-  pub over-both : u .trim ≡ false → ltb (u .limit) (s .word .width + s .spaces .width + w) ≡ overflowing u s w
-  unfolding overflowing
-  over-both t = simp t
-
-  module _ (space e : Bool) (p : e ≡ (space && s .solid)) where
-    pub joins-word : e ≡ true → true ≡ joins u s w space
-    unfolding joins
-    joins-word q = simp (← p, q)
-
-    pub joins-over : (r : Bool) → e ≡ false → s .row .end ≡ 0 → r ≡ overflowing u s w → r ≡ joins u s w space
-    unfolding joins
-    joins-over r q h o = simp (← p, q, eq-eqb (s .row .end) 0 h) o
-
-    pub joins-not : e ≡ false → (s .row .end ≡ 0 → ⊥) → false ≡ joins u s w space
-    unfolding joins
-    joins-not q h = simp (← p, q, ne-eqb (s .row .end) 0 h)
-
-  module _ (space e : Bool) (p : e ≡ joins u s w space) where
-    pub joined-yes : (r : Wrapper) → e ≡ true → r ≡ joinRun (u .trim) s → r ≡ joinedRun u s w space
-    unfolding joinedRun
-    joined-yes r q h = simp (← p, q) h
-
-    pub joined-no : e ≡ false → s ≡ joinedRun u s w space
-    unfolding joinedRun
-    joined-no q = simp (← p, q)
+  pub joined-no : e ≡ false → s ≡ joinedRun u s w space
+  unfolding joinedRun
+  joined-no q = simp (← d, ← j, q)
 
 -- ---- step 3
-
-module _ (u : Rule) (s : Wrapper) (w : ℕ) where
-  pub full-row : u .limit ≤ s .row .width → leb (u .limit) (s .row .width) ≡ fullRun u s w
-  unfolding fullRun
-  full-row h = simp (le-leb _ _ h)
-
-  pub full-all : s .row .width < u .limit → 0 < w → leb (u .limit) (s .row .width + s .spaces .width + s .word .width) ≡ fullRun u s w
-  unfolding fullRun
-  full-all h p = simp (lt-leb _ _ h, lt-ltb _ _ p)
-
-  pub full-not : s .row .width < u .limit → w ≤ 0 → ltb 0 w ≡ fullRun u s w
-  unfolding fullRun
-  full-not h p = simp (lt-leb _ _ h, le-ltb _ _ p)
 
 pub emptied-is : (u : Rule) (records : List ℕ) (s : Wrapper) (room : ℕ) (none left : Run) → room ≡ u .limit - s .row .width → left ≡ dropRun u records (s .spaces) room → none ≡ emptyRun
     → record { row = none; spaces = left; word = s .word; solid = s .solid; emitted = true; live = s .live; at = s .at } ≡ emptiedRun u records s
@@ -123,14 +74,14 @@ module _ (s : Wrapper) (w : ℕ) (space : Bool) where
 -- ---- a whole step
 
 module _ (u : Rule) (records : List ℕ) (s r : Wrapper) (w : ℕ) where
-  module _ (space full : Bool) (p : full ≡ fullRun u s w) where
+  module _ (space full : Bool) (p : Pending) (d : p ≡ pendingOf s) (f : full ≡ fullRun u p w) where
     pub filled-emits : (left : Wrapper) → full ≡ true → left ≡ emptiedRun u records s → r ≡ restRun left w space → Emitted r (s .row) ≡ filledRun u records s w space
     unfolding filledRun
-    filled-emits left q m n = simp (← p, q, n, m)
+    filled-emits left q m n = simp (← d, ← f, q, n, m)
 
     pub filled-goes : full ≡ false → r ≡ appendedRun s w space → Went r ≡ filledRun u records s w space
     unfolding filledRun
-    filled-goes q n = simp (← p, q, n)
+    filled-goes q n = simp (← d, ← f, q, n)
 
   pub step-wide : (x : ℕ) → u .limit < w → w ≡ widthOf x → r ≡ passedRun s → Went r ≡ stepRun u records s x
   unfolding stepRun
@@ -147,19 +98,11 @@ pub closed-is : (s : Wrapper) → record { row = s .row; spaces = s .spaces; wor
 unfolding closedRun
 closed-is s = refl
 
-module _ (u : Rule) (s next : Wrapper) (last none : Run) (p : last ≡ gatherRun (u .trim) s) (q : none ≡ emptyRun) (r : next ≡ closedRun s) where
-  pub finish-done : last .end ≡ 0 → s .spaces .end ≡ 0 → s .emitted ≡ true → Done ≡ finishRun u s
+module _ (u : Rule) (s : Wrapper) (p : Pending) (last : Last) (d : p ≡ pendingOf s) (l : last ≡ lastRun (u .trim) (s .emitted) p) where
+  pub finish-done : last ≡ Nothing → Done ≡ finishRun u s
   unfolding finishRun
-  finish-done a b c = simp (← p, eq-eqb (last .end) 0 a, eq-eqb (s .spaces .end) 0 b, c)
+  finish-done q = simp (← d, ← l, q)
 
-  pub finish-first : last .end ≡ 0 → s .spaces .end ≡ 0 → s .emitted ≡ false → Line none next ≡ finishRun u s
+  pub finish-line : (line : Run) (next : Wrapper) → last ≡ Emit line → next ≡ closedRun s → Line line next ≡ finishRun u s
   unfolding finishRun
-  finish-first a b c = simp (← p, eq-eqb (last .end) 0 a, eq-eqb (s .spaces .end) 0 b, c, q, r)
-
-  pub finish-spaces : last .end ≡ 0 → (s .spaces .end ≡ 0 → ⊥) → Line none next ≡ finishRun u s
-  unfolding finishRun
-  finish-spaces a b = simp (← p, eq-eqb (last .end) 0 a, ne-eqb (s .spaces .end) 0 b, q, r)
-
-  pub finish-row : (last .end ≡ 0 → ⊥) → Line last next ≡ finishRun u s
-  unfolding finishRun
-  finish-row a = simp (← p, ne-eqb (last .end) 0 a, r)
+  finish-line line next q n = simp (← d, ← l, q, n)

@@ -12,31 +12,42 @@ use Rattle.text.specs.Line.{Glyph, glyphFrom, numbered}
 use Rattle.wrapping.specs.declared.Run.{Run}
 use Rattle.wrapping.specs.declared.Rule.{Rule}
 use Rattle.reflow.specs.declared.Wrapper.{Wrapper}
-use Rattle.reflow.specs.declared.Next.the-variants.{Line, Done}
-use Rattle.wrapping.specs.Wrapping.{Pending, start, empty, gathered, step, finish, Wrapped, wrapFrom, wrap}
+use Rattle.pending.specs.declared.Last.the-variants.{Emit, Nothing}
+use Rattle.pending.specs.Tests.{gatherRun, lastRun}
+use Rattle.wrapping.specs.Wrapping.{Pending, start, empty, gathered, step, lastLines, atLeastOne, Wrapped, wrapFrom, wrap}
 use Rattle.wrapping.specs.Runs.{emptyRun, runOf}
-use Rattle.reflow.specs.Steps.{startRun, gatherRun, closedRun, finishRun, stepRun}
+use Rattle.reflow.specs.Steps.{startRun, pendingOf, closedRun, nextFrom, finishRun, stepRun}
 use Rattle.reflow.specs.Pulls.{Shows, Sound, lineOf, nextOf, runsFrom, runs}
-use Rattle.wrapping.proofs.RunLaws.{cond-cases}
+use Rattle.text.proofs.Bools.{cond-cases}
 use Rattle.wrapping.proofs.ListRuns.{run-empty, empty-read}
 use Rattle.wrapping.proofs.LastLines.{last-is}
 use Rattle.reflow.proofs.States.{spaces-empty, gathered-is, gathered-read}
 use Rattle.reflow.proofs.Simulation.{ReadAll, step-matches}
 
+-- The wrapper keeps in mind that a line was emitted, and where none was its end emits an empty one; the rules add it to the whole.
+-- From a state on, its lines are the rules' and, if none was emitted before, at least one.
+abbrev owed : Bool → List (List Glyph) → List (List Glyph)
+owed true lines = lines
+owed false lines = atLeastOne lines
+
+owed-later : (emitted : Bool) (now later : List (List Glyph)) → owed emitted (now ++ later) ≡ now ++ owed (emitted || not (empty now)) later
+owed-later true now later = refl
+owed-later false [] later = refl
+owed-later false (l ∷ now) later = refl
+
 -- ---- the line's end
 
 module _ (u : Rule) (records : List ℕ) (s : Wrapper) (t : Pending) (h : Shows u records s t) where
-  finish-is : lineOf (finishRun u s) ≡ map runOf (finish u (s .emitted) t)
-  unfolding finishRun finish
+  finish-is : lineOf (finishRun u s) ≡ map runOf (owed (s .emitted) (lastLines u t))
+  unfolding finishRun lastRun
   finish-is =
       let l : List Glyph = gathered u t in
-      let g : gatherRun (u .trim) s ≡ runOf l = gathered-is u records s t h in
+      let g : gatherRun (u .trim) (pendingOf s) ≡ runOf l = gathered-is u records s t h in
       rw (g, run-empty l, spaces-empty u records s t h, last-is u t) (cases (empty l) (empty (t .spaces)) (s .emitted) l)
     where
       cases : (a b c : Bool) (l : List Glyph) →
-          let ls = cond a (cond b [] ([] ∷ [])) (l ∷ []) in
-          lineOf (cond a (cond b (cond c Done (Line emptyRun (closedRun s))) (Line emptyRun (closedRun s))) (Line (runOf l) (closedRun s)))
-          ≡ map runOf (cond (c || not (empty ls)) ls ([] ∷ []))
+          lineOf (nextFrom (closedRun s) (cond a (cond b (cond c Nothing (Emit emptyRun)) (Emit emptyRun)) (Emit (runOf l))))
+          ≡ map runOf (owed c (cond a (cond b [] ([] ∷ [])) (l ∷ [])))
       cases true true true l = refl
       cases true true false l = refl
       cases true false true l = refl
@@ -44,25 +55,12 @@ module _ (u : Rule) (records : List ℕ) (s : Wrapper) (t : Pending) (h : Shows 
       cases false b true l = refl
       cases false b false l = refl
 
-  finish-read : ReadAll u records (finish u (s .emitted) t)
-  unfolding finish
-  finish-read =
+  last-read : ReadAll u records (lastLines u t)
+  last-read =
       rw (last-is u t)
-      (cond-cases (ReadAll u records) (s .emitted || not (empty ls)) ls ([] ∷ [])
-      (λ _.
-      cond-cases (ReadAll u records) (empty l) (cond (empty (t .spaces)) [] ([] ∷ [])) (l ∷ [])
-      (λ _. cond-cases (ReadAll u records) (empty (t .spaces)) [] ([] ∷ []) (λ _. tt) (λ _. none))
+      (cond-cases (ReadAll u records) (empty (gathered u t)) (cond (empty (t .spaces)) [] ([] ∷ [])) (gathered u t ∷ [])
+      (λ _. cond-cases (ReadAll u records) (empty (t .spaces)) [] ([] ∷ []) (λ _. tt) (λ _. (empty-read u records, tt)))
       (λ _. (gathered-read u records s t h, tt)))
-      (λ _. none))
-    where
-      l : List Glyph
-      l = gathered u t
-
-      ls : List (List Glyph)
-      ls = cond (empty l) (cond (empty (t .spaces)) [] ([] ∷ [])) (l ∷ [])
-
-      none : ReadAll u records ([] ∷ [])
-      none = (empty-read u records, tt)
 
 -- ---- all lines
 
@@ -76,10 +74,10 @@ read-append : (u : Rule) (records : List ℕ) (a b : List (List Glyph)) → Read
 read-append u records [] b p q = q
 read-append u records (l ∷ a) b p q = (p .0, read-append u records a b (p .1) q)
 
-pub runs-are : (u : Rule) (records xs : List ℕ) (s : Wrapper) (t : Pending) → Shows u records s t → xs ≡ drop (s .at) records →
-    let ls = wrapFrom u (s .emitted) t (numbered (s .at) xs) .lines in
-    (runsFrom u records s xs ≡ map runOf ls) × ReadAll u records ls
-runs-are u records [] s t h e = (finish-is u records s t h, finish-read u records s t h)
+runs-are : (u : Rule) (records xs : List ℕ) (s : Wrapper) (t : Pending) → Shows u records s t → xs ≡ drop (s .at) records →
+    let ls = wrapFrom u t (numbered (s .at) xs) .lines in
+    (runsFrom u records s xs ≡ map runOf (owed (s .emitted) ls)) × ReadAll u records ls
+runs-are u records [] s t h e = (finish-is u records s t h, last-read u records s t h)
 runs-are u records (x ∷ xs) s t h e =
     let d = drop-head (s .at) records x xs e in
     let m = step-matches u records s t h (d .0) in
@@ -87,7 +85,7 @@ runs-are u records (x ∷ xs) s t h e =
     let r = step u t (glyphFrom (s .at) (getD records (s .at) 0)) in
     let i = runs-are u records xs n (r .pending) (m .shows) (rw (m .follows .at) (d .2)) in
     let i' = rw (m .follows .at, m .follows .emitted, add-one) at i in
-    rw (d .1) (rw (map-append runOf, m .lines, i' .0), read-append u records (r .lines) _ (m .read) (i' .1))
+    rw (d .1) (rw (owed-later (s .emitted) (r .lines), map-append runOf, m .lines, i' .0), read-append u records (r .lines) _ (m .read) (i' .1))
 
 -- ---- from the start
 
@@ -115,8 +113,13 @@ start-runs u records = both (eqb (u .limit) 0) _ _ (runs-are u records records (
     both true rs w e = refl
     both false rs w e = e
 
+one-read : (u : Rule) (records : List ℕ) (ls : List (List Glyph)) → ReadAll u records ls → ReadAll u records (atLeastOne ls)
+one-read u records [] r = (empty-read u records, tt)
+one-read u records (l ∷ ls) r = r
+
 pub wrap-read : (u : Rule) (records : List ℕ) → ReadAll u records (wrap u (numbered 0 records) .lines)
 unfolding wrap
 wrap-read u records =
     cond-cases (λ (w : Wrapped). ReadAll u records (w .lines)) (eqb (u .limit) 0) _ _
-    (λ _. tt) (λ _. runs-are u records records (startRun u) start (start-shows u records) refl .1)
+    (λ _. tt)
+    (λ _. one-read u records (wrapFrom u start (numbered 0 records) .lines) (runs-are u records records (startRun u) start (start-shows u records) refl .1))

@@ -3,15 +3,18 @@ use crate::Next;
 use crate::Stepped;
 use crate::Wrapper;
 use num::less;
+use pending::Last;
+use pending::Pending;
 use text::glyph;
 use wrapping::Rule;
 use wrapping::Run;
 ghost use mathlib.Core.Path.{_≡_};
-ghost use mathlib.Core.Bool.{_&&_};
 ghost use Prim.Native.Nat.{_+_, _-_, _^_, _≤_, _<_};
 ghost use lib.ListN.{length, getD};
+ghost use Rattle.text.specs.Line.{FewRecords};
 ghost use Rattle.wrapping.specs.Runs.{runOf, glyphsIn};
-ghost use Rattle.reflow.specs.Steps.{startRun, gatherRun, joinRun, overflowing, joins, joinedRun, fullRun, emptiedRun, passedRun, appendedRun, restRun, filledRun, stepRun, closedRun, finishRun};
+ghost use Rattle.reflow.specs.Steps.{startRun, pendingOf, joinRun, joinedRun, emptiedRun, passedRun, appendedRun};
+ghost use Rattle.reflow.specs.Steps.{restRun, filledRun, stepRun, closedRun, finishRun};
 ghost use Rattle.reflow.specs.Pulls.{Sound, Pulled};
 
 impl Wrapper {
@@ -31,29 +34,27 @@ impl Wrapper {
         }
     }
 
-    // Row, then spaces if row isn't empty or trim is off, then word.
-    fn gathered(self, trim: bool) -> Run
-        requires { ⌜ self .row .width + self .spaces .width + self .word .width < 2 ^ 32 ⌝ }
-        ensures { λ r. ⌜ r ≡ gatherRun trim self ⌝ }
+    // What is pending, without the state's own account of the text line.
+    fn pending(self) -> Pending
+        ensures { λ r. ⌜ r ≡ pendingOf self ⌝ }
     {
         let row = self.row;
         let spaces = self.spaces;
         let word = self.word;
-        if row.end == 0 {
-            if trim {
-                return word;
-            }
-            return spaces.append(word);
+        let solid = self.solid;
+        Pending {
+            row,
+            spaces,
+            word,
+            solid,
         }
-        let long = row.append(spaces);
-        long.append(word)
     }
 
     fn join(self, trim: bool) -> Wrapper
         requires { ⌜ self .row .width + self .spaces .width + self .word .width < 2 ^ 32 ⌝ }
         ensures { λ r. ⌜ r ≡ joinRun trim self ⌝ }
     {
-        let row = self.gathered(trim);
+        let row = self.pending().gathered(trim);
         let none = Run::empty();
         Wrapper {
             row,
@@ -66,59 +67,15 @@ impl Wrapper {
         }
     }
 
-    // A word ends where whitespace follows a solid glyph.
-    fn ends_word(self, space: bool) -> bool
-        ensures { λ r. ⌜ r ≡ (space && self .solid) ⌝ }
-    {
-        if space {
-            return self.solid;
-        }
-        false
-    }
-
-    // What waits, with a glyph of width w, would overflow an empty row.
-    fn overflows(self, rule: Rule, w: usize) -> bool
-        requires { ⌜ self .row .width + self .spaces .width + self .word .width + w < 2 ^ 32 ⌝ }
-        ensures { λ r. ⌜ r ≡ overflowing rule self w ⌝ }
-    {
-        if rule.trim {
-            return rule.limit < self.word.width + w || rule.limit < self.spaces.width + w;
-        }
-        rule.limit < self.word.width + self.spaces.width + w
-    }
-
-    // Step 2's test.
-    fn must_join(self, rule: Rule, w: usize, space: bool) -> bool
-        requires { ⌜ self .row .width + self .spaces .width + self .word .width + w < 2 ^ 32 ⌝ }
-        ensures { λ r. ⌜ r ≡ joins rule self w space ⌝ }
-    {
-        if self.ends_word(space) {
-            return true;
-        }
-        if self.row.end == 0 {
-            return self.overflows(rule, w);
-        }
-        false
-    }
-
     // Step 2.
     fn joined(self, rule: Rule, w: usize, space: bool) -> Wrapper
         requires { ⌜ self .row .width + self .spaces .width + self .word .width + w < 2 ^ 32 ⌝ }
         ensures { λ r. ⌜ r ≡ joinedRun rule self w space ⌝ }
     {
-        if self.must_join(rule, w, space) {
+        if self.pending().must_join(rule, w, space) {
             return self.join(rule.trim);
         }
         self
-    }
-
-    // Step 3's test.
-    fn is_full(self, rule: Rule, w: usize) -> bool
-        requires { ⌜ self .row .width + self .spaces .width + self .word .width + w < 2 ^ 32 ⌝ }
-        ensures { λ r. ⌜ r ≡ fullRun rule self w ⌝ }
-    {
-        rule.limit <= self.row.width
-            || (0 < w && rule.limit <= self.row.width + self.spaces.width + self.word.width)
     }
 
     // Step 3: the row has been emitted, and spaces are dropped while they fit where it ended.
@@ -192,11 +149,11 @@ impl Wrapper {
     // Steps 3 and 4, for a glyph that isn't over-wide, after the join.
     fn filled(self, rule: Rule, records: &[u32], w: usize, space: bool) -> Stepped
         requires { ⌜ Sound rule (now records) self ⌝ }
-        requires { ⌜ (length (now records) < 2 ^ 28) × (self .at < length (now records)) × (w < 8) ⌝ }
+        requires { ⌜ FewRecords (now records) × (self .at < length (now records)) × (w < 8) ⌝ }
         ensures { λ r. ⌜ r ≡ filledRun rule (now (records .entry)) self w space ⌝ }
     {
         let row = self.row;
-        if self.is_full(rule, w) {
+        if self.pending().is_full(rule, w) {
             let left = self.emptied(rule, records);
             return Stepped::Emitted(left.rest(w, space), row);
         }
@@ -206,7 +163,7 @@ impl Wrapper {
     // What the glyph at the state's place does.
     fn step(self, rule: Rule, records: &[u32]) -> Stepped
         requires { ⌜ Sound rule (now records) self ⌝ }
-        requires { ⌜ (length (now records) < 2 ^ 28) × (self .at < length (now records)) ⌝ }
+        requires { ⌜ FewRecords (now records) × (self .at < length (now records)) ⌝ }
         ensures { λ r. ⌜ r ≡ stepRun rule (now (records .entry)) self (getD (now (records .entry)) (self .at) 0) ⌝ }
     {
         let at = self.at;
@@ -233,26 +190,16 @@ impl Wrapper {
         requires { ⌜ self .row .width + self .spaces .width + self .word .width < 2 ^ 32 ⌝ }
         ensures { λ r. ⌜ r ≡ finishRun rule self ⌝ }
     {
-        let last = self.gathered(rule.trim);
-        let none = Run::empty();
-        let next = self.closed();
-        let spaces = self.spaces;
-        if last.end == 0 {
-            if spaces.end == 0 {
-                if self.emitted {
-                    return Next::Done;
-                }
-                return Next::Line(none, next);
-            }
-            return Next::Line(none, next);
+        match self.pending().last_line(rule.trim, self.emitted) {
+            Last::Emit(line) => Next::Line(line, self.closed()),
+            Last::Nothing => Next::Done,
         }
-        Next::Line(last, next)
     }
 
     // The next line of the text line whose records are handed on, or none.
     pub fn next_line(self, rule: Rule, records: &[u32]) -> Next
         requires { ⌜ Sound rule (now records) self ⌝ }
-        requires { ⌜ length (now records) < 2 ^ 28 ⌝ }
+        requires { ⌜ FewRecords (now records) ⌝ }
         ensures { λ r. ⌜ Pulled rule (now (records .entry)) self r ⌝ }
     {
         if self.live {

@@ -14,7 +14,7 @@ use Rattle.text.specs.Line.{Glyph, numbered, total}
 use Rattle.wrapping.specs.declared.Rule.{Rule}
 use Rattle.wrapping.specs.Wrapping.{overWide, notOverWide}
 use Rattle.truncate.specs.Truncation.{offsetOf, ends, swallows, shownFrom, truncate}
-use Rattle.wrapping.proofs.RunLaws.{cond-cases}
+use Rattle.text.proofs.Bools.{cond-cases}
 use Rattle.wrapping.proofs.ListRuns.{Read, glyphs-run}
 use Rattle.reflow.proofs.Simulation.{ReadAll}
 use Rattle.wrapping.proofs.Renumbering.{cond-map, renumber}

@@ -5,9 +5,8 @@ use text::glyph;
 use wrapping::Rule;
 use wrapping::Run;
 ghost use mathlib.Core.Path.{_≡_};
-ghost use Prim.Native.Nat.{_^_, _<_};
-ghost use lib.ListN.{length};
-ghost use Rattle.text.specs.Line.{numbered};
+ghost use Prim.Native.Nat.{_<_};
+ghost use Rattle.text.specs.Line.{numbered, FewRecords};
 ghost use Rattle.wrapping.specs.Runs.{runOf};
 ghost use Rattle.truncate.specs.Truncation.{offsetOf, shownFrom};
 
@@ -24,7 +23,7 @@ fn offset(column: u32, alignment: Alignment) -> u32
 
 // The glyphs of a text line that are shown, where the offset swallows those before them.
 fn shown(rule: Rule, offset: usize, records: &[u32]) -> Run
-    requires { ⌜ length (now records) < 2 ^ 28 ⌝ }
+    requires { ⌜ FewRecords (now records) ⌝ }
     ensures { λ r. ⌜ r ≡ runOf (shownFrom rule offset 0 (numbered 0 (now (records .entry)))) ⌝ }
 {
     let mut offset = offset;
@@ -52,7 +51,7 @@ fn shown(rule: Rule, offset: usize, records: &[u32]) -> Run
 
 // The line of the text line whose records are handed on, where the text is scrolled to the right by `column`.
 pub fn line(rule: Rule, column: u32, alignment: Alignment, records: &[u32]) -> Run
-    requires { ⌜ length (now records) < 2 ^ 28 ⌝ }
+    requires { ⌜ FewRecords (now records) ⌝ }
     ensures { λ r. ⌜ r ≡ runOf (shownFrom rule (offsetOf column alignment) 0 (numbered 0 (now (records .entry)))) ⌝ }
 {
     let taken = offset(column, alignment) as usize;

@@ -13,7 +13,8 @@ use Rattle.wrapping.specs.declared.Run.{Run}
 use Rattle.wrapping.specs.declared.Rule.{Rule}
 use Rattle.wrapping.specs.Wrapping.{empty, overWide, notOverWide}
 use Rattle.wrapping.specs.Runs.{emptyRun, endFrom, runOf, glyphsIn, appendRun, pushRun, Spans}
-use Rattle.wrapping.proofs.RunLaws.{cond-cases, append-first, append-second, append-both, push-first, push-more}
+use Rattle.text.proofs.Bools.{cond-cases}
+use Rattle.wrapping.proofs.RunLaws.{append-first, append-second, append-both, push-first, push-more}
 
 -- ---- the run of a list
 

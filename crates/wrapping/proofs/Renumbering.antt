@@ -1,13 +1,14 @@
 -- Wrapping looks at no more of a glyph than its width and whether it is whitespace, so glyphs may be renumbered before or after.
-use Prim.Native.Nat.{ℕ, suc, _+_, _-_}
+use Prim.Native.Nat.{ℕ, zero, suc, _+_, _-_}
 use mathlib.Core.Path.{_≡_, refl, ap, _∙_}
-use mathlib.Core.Bool.{Bool, true, false, cond, not, _||_}
+use mathlib.Core.Bool.{Bool, true, false, cond}
 use mathlib.Core.List.{List, [], _∷_, map, map-append}
 use native.Mathlib.Omega.{arith}
 use lib.Dec.{eqb, leb, ltb}
+use lib.ListN.{length, drop}
 use Rattle.text.specs.Line.{Glyph, numbered, total}
 use Rattle.wrapping.specs.declared.Rule.{Rule}
-use Rattle.wrapping.specs.Wrapping.{Pending, start, empty, Step, overWide, mustJoin, takesSpaces, gathered, joined, unjoined, full, fitting, afterFitting, emptied, drops, appended, emitting, filled, joining, step, lastLines, finish, Wrapped, wrapFrom, wrap}
+use Rattle.wrapping.specs.Wrapping.{Pending, start, empty, Step, overWide, mustJoin, takesSpaces, gathered, joined, unjoined, full, fitting, afterFitting, emptied, drops, appended, _then_, joinStep, emitStep, appendStep, step, lastLines, atLeastOne, Wrapped, wrapFrom, wrap}
 use Rattle.wrapping.proofs.LastLines.{last-is}
 
 pub cond-map : {A B : Type 0} (h : A → B) (b c : Bool) {x y : B} {x' y' : A} → b ≡ c → x ≡ h x' → y ≡ h y' → cond b x y ≡ h (cond c x' y')
@@ -24,7 +25,7 @@ module _ (f : Glyph → Glyph) (same-width : (g : Glyph) → f g .width ≡ g .w
   onPending t = record { row = map f (t .row); spaces = map f (t .spaces); word = map f (t .word); solid = t .solid }
 
   abbrev onStep : Step → Step
-  onStep r = record { lines = map (map f) (r .lines); dropped = map f (r .dropped); pending = onPending (r .pending) }
+  onStep r = record { lines = map (map f) (r .lines); dropped = map f (r .dropped); pending = onPending (r .pending); done = r .done }
 
   abbrev pub onWrapped : Wrapped → Wrapped
   onWrapped w = record { lines = map (map f) (w .lines); dropped = map f (w .dropped) }
@@ -39,11 +40,17 @@ module _ (f : Glyph → Glyph) (same-width : (g : Glyph) → f g .width ≡ g .w
       let n : room - f g .width ≡ room - g .width = rw (same-width g) in
       cond-map (map f) _ _ (ap (λ (w : ℕ). leb w room) (same-width g)) (rw (n, fitting-map (room - g .width) l)) refl
 
+  length-map : (l : List Glyph) → length (map f l) ≡ length l
+  length-map [] = refl
+  length-map (g ∷ l) = rw (length-map l)
+
+  drop-map : (n : ℕ) (l : List Glyph) → drop n (map f l) ≡ map f (drop n l)
+  drop-map zero l = refl
+  drop-map (suc n) [] = refl
+  drop-map (suc n) (g ∷ l) = drop-map n l
+
   after-map : (room : ℕ) (l : List Glyph) → afterFitting room (map f l) ≡ map f (afterFitting room l)
-  after-map room [] = refl
-  after-map room (g ∷ l) =
-      let n : room - f g .width ≡ room - g .width = rw (same-width g) in
-      cond-map (map f) _ _ (ap (λ (w : ℕ). leb w room) (same-width g)) (rw n (after-map (room - g .width) l)) refl
+  after-map room l = rw (fitting-map room l, length-map (fitting room l)) (drop-map (length (fitting room l)) l)
 
   module _ (u : Rule) (t : Pending) where
     takes-map : takesSpaces u (onPending t) ≡ takesSpaces u t
@@ -74,12 +81,6 @@ module _ (f : Glyph → Glyph) (same-width : (g : Glyph) → f g .width ≡ g .w
         rw (last-is u (onPending t), last-is u t)
         (cond-map (map (map f)) _ _ e (cond-map (map (map f)) _ _ (empty-map f (t .spaces)) refl refl) (rw gathered-map))
 
-    finish-map : (emitted : Bool) → finish u emitted (onPending t) ≡ map (map f) (finish u emitted t)
-    unfolding finish
-    finish-map emitted =
-        let e : empty (lastLines u (onPending t)) ≡ empty (lastLines u t) = ap empty last-map ∙ empty-map (map f) (lastLines u t) in
-        cond-map (map (map f)) _ _ (ap (λ (b : Bool). emitted || not b) e) last-map refl
-
     module _ (g : Glyph) where
       must-map : mustJoin u (onPending t) (f g) ≡ mustJoin u t g
       unfolding mustJoin
@@ -97,36 +98,50 @@ module _ (f : Glyph → Glyph) (same-width : (g : Glyph) → f g .width ≡ g .w
       unfolding appended
       appended-map = cond-map onPending _ _ (same-space g) (simp (map-append f)) (simp (map-append f))
 
-  module _ (u : Rule) (t : Pending) (g : Glyph) where
-    emitting-map : emitting u (onPending t) (f g) ≡ onStep (emitting u t g)
-    unfolding emitting
-    emitting-map =
-        let d = drops-map u (emptied u t) g in
-        let a : cond (drops (onPending (emptied u t)) (f g)) (f g ∷ []) [] ≡ map f (cond (drops (emptied u t) g) (g ∷ []) []) = cond-map (map f) _ _ d refl refl in
-        let b : cond (drops (onPending (emptied u t)) (f g)) (onPending (emptied u t)) (appended (onPending (emptied u t)) (f g))
-        ≡ onPending (cond (drops (emptied u t) g) (emptied u t) (appended (emptied u t) g))
-        = cond-map onPending _ _ d refl (appended-map u (emptied u t) g) in
-        rw (emptied-map u t, total-map (t .row), fitting-map, map-append f) (cc)
+  -- a step that gives the changed glyphs where it is given them
+  abbrev Changes : (Pending → Step) → (Pending → Step) → Type 0
+  Changes one one' = (t : Pending) → one' (onPending t) ≡ onStep (one t)
 
-    filled-map : filled u (onPending t) (f g) ≡ onStep (filled u t g)
-    unfolding filled
-    filled-map = cond-map onStep _ _ (full-map u t g) emitting-map (rw (appended-map u t g))
+  then-map : (one one' other other' : Pending → Step) → Changes one one' → Changes other other' → Changes (one then other) (one' then other')
+  unfolding _then_
+  then-map one one' other other' p q t =
+      let now = one t in
+      let e : other' (one' (onPending t) .pending) ≡ onStep (other (now .pending)) = rw (p t) (q (now .pending)) in
+      cond-map onStep _ (now .done) (ap (λ (r : Step). r .done) (p t)) (p t) (rw (e, p t, map-append (map f), map-append f))
+
+  module _ (u : Rule) (g : Glyph) where
+    join-map : Changes (joinStep u g) (joinStep u (f g))
+    unfolding joinStep
+    join-map t = cond-map onStep _ _ (must-map u t g) (rw (joined-map u t, unjoined-map u t)) refl
+
+    emit-map : Changes (emitStep u g) (emitStep u (f g))
+    unfolding emitStep
+    emit-map t =
+        let d : drops (emptied u (onPending t)) (f g) ≡ drops (emptied u t) g = rw (emptied-map u t) (drops-map u (emptied u t) g) in
+        let a : cond (drops (emptied u (onPending t)) (f g)) (f g ∷ []) [] ≡ map f (cond (drops (emptied u t) g) (g ∷ []) []) = cond-map (map f) _ _ d refl refl in
+        cond-map onStep _ _ (full-map u t g) (rw (a, d, emptied-map u t, total-map (t .row), fitting-map, map-append f)) refl
+
+    append-map : Changes (appendStep g) (appendStep (f g))
+    unfolding appendStep
+    append-map t = rw (appended-map u t g)
 
   step-map : (u : Rule) (t : Pending) (g : Glyph) → step u (onPending t) (f g) ≡ onStep (step u t g)
-  unfolding step overWide joining
+  unfolding step overWide
   step-map u t g =
       cond-map onStep _ _ (ap (ltb (u .limit)) (same-width g)) refl
-      (cond-map onStep _ _ (must-map u t g) (rw (joined-map u t, filled-map u (joined u t) g, unjoined-map u t, map-append f)) (filled-map u t g))
+      (then-map _ _ _ _ (join-map u g) (then-map _ _ _ _ (emit-map u g) (append-map u g)) t)
 
-  wrap-from : (u : Rule) (emitted : Bool) (t : Pending) (gs : List Glyph) → wrapFrom u emitted (onPending t) (map f gs) ≡ onWrapped (wrapFrom u emitted t gs)
-  wrap-from u emitted t [] = rw (finish-map u t emitted, unjoined-map u t)
-  wrap-from u emitted t (g ∷ gs) =
-      let now = step u t g in
-      rw (step-map u t g, empty-map (map f) (now .lines), wrap-from u (emitted || not (empty (now .lines))) (now .pending) gs, map-append (map f), map-append f)
+  wrap-from : (u : Rule) (t : Pending) (gs : List Glyph) → wrapFrom u (onPending t) (map f gs) ≡ onWrapped (wrapFrom u t gs)
+  wrap-from u t [] = rw (last-map u t, unjoined-map u t)
+  wrap-from u t (g ∷ gs) = rw (step-map u t g, wrap-from u (step u t g .pending) gs, map-append (map f), map-append f)
+
+  one-map : (ls : List (List Glyph)) → atLeastOne (map (map f) ls) ≡ map (map f) (atLeastOne ls)
+  one-map [] = refl
+  one-map (l ∷ ls) = refl
 
   pub wrap-map : (u : Rule) (gs : List Glyph) → wrap u (map f gs) ≡ onWrapped (wrap u gs)
   unfolding wrap
-  wrap-map u gs = cond-map onWrapped (eqb (u .limit) 0) _ refl refl (wrap-from u false start gs)
+  wrap-map u gs = cond-map onWrapped (eqb (u .limit) 0) _ refl refl (rw (wrap-from u start gs, one-map))
 
 abbrev pub renumber : ℕ → Glyph → Glyph
 renumber k g = record { number = k + g .number; symbol = g .symbol; width = g .width; whitespace = g .whitespace; style = g .style }

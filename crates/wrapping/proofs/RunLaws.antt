@@ -1,18 +1,12 @@
 -- What the methods of a run compute, one law for each way through the code.
 use Prim.Native.Nat.{ℕ, _+_, _≤_}
-use mathlib.Core.Path.{_≡_, refl}
-use mathlib.Core.Bool.{Bool, true, false, cond}
+use mathlib.Core.Path.{_≡_}
 use native.Mathlib.Omega.{arith}
 use borrow.Author.Tests.{eq-eqb, ne-eqb}
 use lib.Dec.{eqb}
+use Rattle.text.proofs.Bools.{cond-cases}
 use Rattle.wrapping.specs.declared.Run.{Run}
 use Rattle.wrapping.specs.Runs.{appendRun, pushRun}
-
-pub cond-cases : {A : Type 0} (P : A → Type 0) (b : Bool) (x y : A) → (b ≡ true → P x) → (b ≡ false → P y) → P (cond b x y)
-cond-cases P true x y f g = f refl
-cond-cases P false x y f g = g refl
-
--- ---- runs
 
 module _ (a b : Run) where
   pub append-first : a .end ≡ 0 → b ≡ appendRun a b

@@ -1,11 +1,11 @@
 -- Lists of glyphs that fall in two.
 use Prim.Native.Nat.{ℕ, suc, _+_, _-_}
-use mathlib.Core.Path.{_≡_, refl}
+use mathlib.Core.Path.{_≡_, refl, ap}
 use mathlib.Core.Bool.{Bool, true, false, cond, not, _||_}
 use mathlib.Core.List.{List, [], _∷_, _++_, append-assoc}
 use native.Mathlib.Omega.{arith}
 use lib.Dec.{leb}
-use lib.ListN.{length}
+use lib.ListN.{length, drop}
 use Rattle.text.specs.Line.{Glyph, numbered}
 use Rattle.wrapping.specs.declared.Rule.{Rule}
 use Rattle.wrapping.specs.Wrapping.{Pending, empty, overWide, takesSpaces, gathered, unjoined, fitting, afterFitting, notOverWide}
@@ -38,8 +38,8 @@ gathered-split u t = both (u .trim) (t .row)
 -- step 3 likewise
 pub fitting-split : (room : ℕ) (l : List Glyph) → l ≡ fitting room l ++ afterFitting room l
 fitting-split room [] = refl
-fitting-split room (g ∷ l) = both (leb (g .width) room) (fitting (room - g .width) l) (afterFitting (room - g .width) l) (fitting-split (room - g .width) l)
+fitting-split room (g ∷ l) = both (leb (g .width) room) (fitting (room - g .width) l) (fitting-split (room - g .width) l)
   where
-    both : (b : Bool) (x y : List Glyph) → l ≡ x ++ y → g ∷ l ≡ cond b (g ∷ x) [] ++ cond b y (g ∷ l)
-    both true x y e = cc
-    both false x y e = refl
+    both : (b : Bool) (x : List Glyph) → l ≡ x ++ drop (length x) l → g ∷ l ≡ cond b (g ∷ x) [] ++ drop (length (cond b (g ∷ x) [])) (g ∷ l)
+    both true x e = ap (λ (k : List Glyph). g ∷ k) e
+    both false x e = refl

@@ -3,6 +3,7 @@ use Prim.Native.Nat.{ℕ, _+_, _-_}
 use mathlib.Core.Bool.{Bool, true, false, cond, not, _&&_, _||_}
 use mathlib.Core.List.{List, [], _∷_, _++_}
 use lib.Dec.{eqb, leb, ltb}
+use lib.ListN.{length, drop}
 use Rattle.text.specs.Line.{Glyph, total}
 use Rattle.wrapping.specs.declared.Rule.{Rule}
 
@@ -17,18 +18,38 @@ pub record Pending : Type 0 where
 abbrev pub start : Pending
 start = record { row = []; spaces = []; word = []; solid = false }
 
--- A list is empty that has no glyph, whatever the widths.
+-- A list that has no glyph is empty, whatever the widths.
 abbrev pub empty : {A : Type 0} → List A → Bool
 empty [] = true
 empty (x ∷ xs) = false
 
 -- "A list's width is its sum.": `total`, with the glyphs in `text`.
 
--- What a glyph comes to: the lines emitted, none or one, the glyphs dropped, and what is pending then.
+-- What a step, or all four, make of a glyph: the lines emitted, none or one, the glyphs dropped, what is pending then, and whether
+-- to "go to the next glyph" before the steps that are left.
 pub record Step : Type 0 where
   pub lines : List (List Glyph)
   pub dropped : List Glyph
   pub pending : Pending
+  pub done : Bool
+
+-- It emits no line, drops no glyph and goes on.
+abbrev pub silent : Pending → Step
+silent s = record { lines = []; dropped = []; pending = s; done = false }
+
+-- one step and, unless it goes to the next glyph, another
+infixr 20 _then_
+unfoldable pub _then_ : (Pending → Step) → (Pending → Step) → Pending → Step
+(one then other) s =
+    let now = one s in
+    let later = other (now .pending) in
+    cond (now .done) now
+    (record {
+      lines = now .lines ++ later .lines;
+      dropped = now .dropped ++ later .dropped;
+      pending = later .pending;
+      done = later .done;
+    })
 
 -- 1. "If w exceeds the limit, skip it and change nothing else."
 unfoldable pub overWide : Rule → Glyph → Bool
@@ -54,25 +75,29 @@ gathered u s = (s .row ++ cond (takesSpaces u s) (s .spaces) []) ++ s .word
 unfoldable pub joined : Rule → Pending → Pending
 joined u s = record { row = gathered u s; spaces = []; word = []; solid = s .solid }
 
--- spaces that aren't appended there; they are dropped
+-- "Spaces never appended are dropped.": those that aren't appended there
 unfoldable pub unjoined : Rule → Pending → List Glyph
 unjoined u s = cond (takesSpaces u s) [] (s .spaces)
 
--- 3. "If row is at least the limit, or w > 0 and row + spaces + word is at least the limit": then
+-- step 2
+unfoldable pub joinStep : Rule → Glyph → Pending → Step
+joinStep u g s =
+    cond (mustJoin u s g) (record { lines = []; dropped = unjoined u s; pending = joined u s; done = false }) (silent s)
+
+-- 3. "If row is at least the limit, or w > 0 and row + spaces + word is at least the limit:"
 unfoldable pub full : Rule → Pending → Glyph → Bool
 full u s g =
     leb (u .limit) (total (s .row))
     || (ltb 0 (g .width) && leb (u .limit) (total (s .row) + total (s .spaces) + total (s .word)))
 
 -- "emit row, leaving it empty, then drop spaces from the front while each fits in (limit less the emitted width, held at 0) less
--- those dropped."
+-- those dropped." First the dropped ones, then those left.
 abbrev pub fitting : ℕ → List Glyph → List Glyph
 fitting room [] = []
 fitting room (g ∷ gs) = cond (leb (g .width) room) (g ∷ fitting (room - g .width) gs) []
 
 abbrev pub afterFitting : ℕ → List Glyph → List Glyph
-afterFitting room [] = []
-afterFitting room (g ∷ gs) = cond (leb (g .width) room) (afterFitting (room - g .width) gs) (g ∷ gs)
+afterFitting room gs = drop (length (fitting room gs)) gs
 
 unfoldable pub emptied : Rule → Pending → Pending
 emptied u s =
@@ -84,10 +109,21 @@ emptied u s =
     }
 
 -- "After such an emit, if the glyph is whitespace and spaces is now empty, drop it and go to the next glyph, 'previous'
--- unchanged."
--- (the state is the one after the emit)
+-- unchanged." The state is the one after the emit.
 unfoldable pub drops : Pending → Glyph → Bool
 drops s g = g .whitespace && empty (s .spaces)
+
+-- step 3
+unfoldable pub emitStep : Rule → Glyph → Pending → Step
+emitStep u g s =
+    cond (full u s g)
+    (record {
+      lines = s .row ∷ [];
+      dropped = fitting (u .limit - total (s .row)) (s .spaces) ++ cond (drops (emptied u s) g) (g ∷ []) [];
+      pending = emptied u s;
+      done = drops (emptied u s) g;
+    })
+    (silent s)
 
 -- 4. "Append it to spaces or word; previous is solid if it isn't whitespace."
 unfoldable pub appended : Pending → Glyph → Pending
@@ -96,31 +132,13 @@ appended s g =
     (record { row = s .row; spaces = s .spaces ++ (g ∷ []); word = s .word; solid = false })
     (record { row = s .row; spaces = s .spaces; word = s .word ++ (g ∷ []); solid = true })
 
--- step 3 where it emits: what is dropped, and whether the glyph is dropped too or appended by step 4
-unfoldable pub emitting : Rule → Pending → Glyph → Step
-emitting u s g =
-    record {
-      lines = s .row ∷ [];
-      dropped = fitting (u .limit - total (s .row)) (s .spaces) ++ cond (drops (emptied u s) g) (g ∷ []) [];
-      pending = cond (drops (emptied u s) g) (emptied u s) (appended (emptied u s) g);
-    }
+-- step 4
+unfoldable pub appendStep : Glyph → Pending → Step
+appendStep g s = silent (appended s g)
 
--- steps 3 and 4
-unfoldable pub filled : Rule → Pending → Glyph → Step
-filled u s g = cond (full u s g) (emitting u s g) (record { lines = []; dropped = []; pending = appended s g })
-
--- step 2, then 3 and 4
-unfoldable pub joining : Rule → Pending → Glyph → Step
-joining u s g =
-    let next = filled u (joined u s) g in
-    record { lines = next .lines; dropped = unjoined u s ++ next .dropped; pending = next .pending }
-
--- "For each glyph of width w": all four
+-- "For each glyph of width w:" the four steps in their order
 unfoldable pub step : Rule → Pending → Glyph → Step
-step u s g =
-    cond (overWide u g)
-    (record { lines = []; dropped = []; pending = s })
-    (cond (mustJoin u s g) (joining u s g) (filled u s g))
+step u s g = cond (overWide u g) (silent s) ((joinStep u g then emitStep u g then appendStep g) s)
 
 -- "At the line's end: if row and word are empty, spaces isn't and trim is on, emit an empty line. Append spaces to row if row
 -- isn't empty or trim is off; append word; emit row if not empty."
@@ -129,26 +147,29 @@ lastLines u s =
     cond (empty (s .row) && empty (s .word) && not (empty (s .spaces)) && u .trim) ([] ∷ []) []
     ++ cond (empty (gathered u s)) [] (gathered u s ∷ [])
 
--- "If the line has emitted nothing, emit an empty line." `emitted` says that it has.
-unfoldable pub finish : Rule → Bool → Pending → List (List Glyph)
-finish u emitted s = cond (emitted || not (empty (lastLines u s))) (lastLines u s) ([] ∷ [])
+-- "If the line has emitted nothing, emit an empty line."
+abbrev pub atLeastOne : List (List Glyph) → List (List Glyph)
+atLeastOne [] = [] ∷ []
+atLeastOne (line ∷ lines) = line ∷ lines
 
 -- what a text line comes to
 pub record Wrapped : Type 0 where
   pub lines : List (List Glyph)
   pub dropped : List Glyph
 
--- its glyphs from a state on; at its end, "Spaces never appended are dropped."
-abbrev pub wrapFrom : Rule → Bool → Pending → List Glyph → Wrapped
-wrapFrom u emitted s [] = record { lines = finish u emitted s; dropped = unjoined u s }
-wrapFrom u emitted s (g ∷ gs) =
+-- its glyphs from a state on, and its end. "Spaces never appended are dropped."
+abbrev pub wrapFrom : Rule → Pending → List Glyph → Wrapped
+wrapFrom u s [] = record { lines = lastLines u s; dropped = unjoined u s }
+wrapFrom u s (g ∷ gs) =
     let now = step u s g in
-    let later = wrapFrom u (emitted || not (empty (now .lines))) (now .pending) gs in
+    let later = wrapFrom u (now .pending) gs in
     record { lines = now .lines ++ later .lines; dropped = now .dropped ++ later .dropped }
 
--- "Limit 0 gives no line."
+-- the whole text line. "Limit 0 gives no line."
 unfoldable pub wrap : Rule → List Glyph → Wrapped
-wrap u gs = cond (eqb (u .limit) 0) (record { lines = []; dropped = [] }) (wrapFrom u false start gs)
+wrap u gs =
+    let all = wrapFrom u start gs in
+    cond (eqb (u .limit) 0) (record { lines = []; dropped = [] }) (record { lines = atLeastOne (all .lines); dropped = all .dropped })
 
 -- the glyphs of a text line that step 1 skips, and the others; at limit 0 no step is taken, and these say nothing
 abbrev pub overWides : Rule → List Glyph → List Glyph

@@ -13,7 +13,7 @@ shown-requires : tie.Need-shown-requires
 shown-requires c κs = search needs
 
 returns : tie.Need-returns
-returns c = cc
+returns c = rw (c .shown .ensures, c .before .offset .ensures)
 
 pub line-spec : {M : Type 1} → statement M
 line-spec = tie.close (tie.spec offset-requires cast-taken shown-requires returns)

@@ -1,38 +1,38 @@
 -- `reflow::Wrapper::finish` meets its contract.
-use Rattle.reflow.proofs.StepLaws.{finish-done, finish-first, finish-spaces, finish-row}
+use Rattle.reflow.proofs.StepLaws.{finish-done, finish-line}
 use borrow.Author.Needs.{needs}
 use Rattle.reflow.proofs.Wrapper.finish.Statement.{statement}
 use Rattle.reflow.proofs.Wrapper.finish.Tie as tie
 
-gathered-requires : tie.Need-gathered-requires
-gathered-requires c κs = search needs
+pending-requires : tie.Need-pending-requires
+pending-requires c κs = search needs
 
-empty-requires : tie.Need-empty-requires
-empty-requires c κs = search needs
+last-line-requires : tie.Need-last-line-requires
+last-line-requires c κs = rw (c .pending .ensures) (search needs)
+
+enum-known-line : tie.Need-enum-known-line
+enum-known-line c = search needs
 
 closed-requires : tie.Need-closed-requires
 closed-requires c κs = search needs
 
+enum-told : tie.Need-enum-told
+enum-told c = search needs
+
 returns : tie.Need-returns
-returns c = search finish-done
+returns c = search finish-line
 
 returns-2 : tie.Need-returns-2
-returns-2 c = search finish-first
-
-returns-3 : tie.Need-returns-3
-returns-3 c = search finish-spaces
-
-returns-4 : tie.Need-returns-4
-returns-4 c = search finish-row
+returns-2 c = search finish-done
 
 pub finish-spec : {M : Type 1} → statement M
 finish-spec =
     tie.close
     (tie.spec
-    gathered-requires
-    empty-requires
+    pending-requires
+    last-line-requires
+    enum-known-line
     closed-requires
+    enum-told
     returns
-    returns-2
-    returns-3
-    returns-4)
+    returns-2)

@@ -4,8 +4,11 @@ use borrow.Author.Needs.{needs}
 use Rattle.reflow.proofs.Wrapper.joined.Statement.{statement}
 use Rattle.reflow.proofs.Wrapper.joined.Tie as tie
 
+pending-requires : tie.Need-pending-requires
+pending-requires c κs = search needs
+
 must-join-requires : tie.Need-must-join-requires
-must-join-requires c κs = search needs
+must-join-requires c κs = rw (c .pending .ensures) (search needs)
 
 join-requires : tie.Need-join-requires
 join-requires c κs = search needs
@@ -17,4 +20,5 @@ returns-2 : tie.Need-returns-2
 returns-2 c = search joined-no
 
 pub joined-spec : {M : Type 1} → statement M
-joined-spec = tie.close (tie.spec must-join-requires join-requires returns returns-2)
+joined-spec =
+    tie.close (tie.spec pending-requires must-join-requires join-requires returns returns-2)

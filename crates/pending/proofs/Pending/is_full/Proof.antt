@@ -1,8 +1,8 @@
--- `reflow::Wrapper::is_full` meets its contract.
-use Rattle.reflow.proofs.StepLaws.{full-row, full-all, full-not}
+-- `pending::Pending::is_full` meets its contract.
+use Rattle.pending.proofs.TestLaws.{full-row, full-all, full-not}
 use borrow.Author.Needs.{needs}
-use Rattle.reflow.proofs.Wrapper.is_full.Statement.{statement}
-use Rattle.reflow.proofs.Wrapper.is_full.Tie as tie
+use Rattle.pending.proofs.Pending.is_full.Statement.{statement}
+use Rattle.pending.proofs.Pending.is_full.Tie as tie
 
 add-result : tie.Need-add-result
 add-result c = search needs

@@ -1,8 +1,8 @@
--- `reflow::Wrapper::must_join` meets its contract.
-use Rattle.reflow.proofs.StepLaws.{joins-word, joins-over, joins-not}
+-- `pending::Pending::must_join` meets its contract.
+use Rattle.pending.proofs.TestLaws.{joins-word, joins-over, joins-not}
 use borrow.Author.Needs.{needs}
-use Rattle.reflow.proofs.Wrapper.must_join.Statement.{statement}
-use Rattle.reflow.proofs.Wrapper.must_join.Tie as tie
+use Rattle.pending.proofs.Pending.must_join.Statement.{statement}
+use Rattle.pending.proofs.Pending.must_join.Tie as tie
 
 ends-word-requires : tie.Need-ends-word-requires
 ends-word-requires c κs = search needs

@@ -1,10 +1,10 @@
--- `reflow::Wrapper::gathered` meets its contract.
+-- `pending::Pending::gathered` meets its contract.
 use Rattle.wrapping.proofs.RunLaws.{append-width}
-use Rattle.reflow.proofs.StepLaws.{gather-word, gather-spaces, gather-row}
+use Rattle.pending.proofs.TestLaws.{gather-word, gather-spaces, gather-row}
 use native.Mathlib.Omega.{arith}
 use borrow.Author.Needs.{needs}
-use Rattle.reflow.proofs.Wrapper.gathered.Statement.{statement}
-use Rattle.reflow.proofs.Wrapper.gathered.Tie as tie
+use Rattle.pending.proofs.Pending.gathered.Statement.{statement}
+use Rattle.pending.proofs.Pending.gathered.Tie as tie
 
 returns : tie.Need-returns
 returns c = search gather-word

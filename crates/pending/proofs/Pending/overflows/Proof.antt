@@ -1,8 +1,8 @@
--- `reflow::Wrapper::overflows` meets its contract.
-use Rattle.reflow.proofs.StepLaws.{over-word, over-spaces, over-both}
+-- `pending::Pending::overflows` meets its contract.
+use Rattle.pending.proofs.TestLaws.{over-word, over-spaces, over-both}
 use borrow.Author.Needs.{needs}
-use Rattle.reflow.proofs.Wrapper.overflows.Statement.{statement}
-use Rattle.reflow.proofs.Wrapper.overflows.Tie as tie
+use Rattle.pending.proofs.Pending.overflows.Statement.{statement}
+use Rattle.pending.proofs.Pending.overflows.Tie as tie
 
 add-if2 : tie.Need-add-if2
 add-if2 c = search needs

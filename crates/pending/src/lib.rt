@@ -1,0 +1,106 @@
+// What is pending of a text line, and what the wrapper asks of it: reflow.rs' `WordWrapper`, its pending graphemes as runs of records.
+
+use wrapping::Rule;
+use wrapping::Run;
+ghost use mathlib.Core.Path.{_≡_};
+ghost use mathlib.Core.Bool.{_&&_};
+ghost use Prim.Native.Nat.{_+_, _^_, _<_};
+ghost use Rattle.pending.specs.Tests.{gatherRun, overflowing, joins, fullRun, lastRun};
+
+// Row, spaces and word, and whether the glyph before was solid.
+pub struct Pending {
+    pub row: Run,
+    pub spaces: Run,
+    pub word: Run,
+    pub solid: bool,
+}
+
+// What a text line's end emits: a line, or none.
+pub enum Last {
+    Emit(Run),
+    Nothing,
+}
+
+impl Pending {
+    // Row, then spaces if row isn't empty or trim is off, then word.
+    pub fn gathered(self, trim: bool) -> Run
+        requires { ⌜ self .row .width + self .spaces .width + self .word .width < 2 ^ 32 ⌝ }
+        ensures { λ r. ⌜ r ≡ gatherRun trim self ⌝ }
+    {
+        let row = self.row;
+        let spaces = self.spaces;
+        let word = self.word;
+        if row.end == 0 {
+            if trim {
+                return word;
+            }
+            return spaces.append(word);
+        }
+        let long = row.append(spaces);
+        long.append(word)
+    }
+
+    // A word ends where whitespace follows a solid glyph.
+    fn ends_word(self, space: bool) -> bool
+        ensures { λ r. ⌜ r ≡ (space && self .solid) ⌝ }
+    {
+        if space {
+            return self.solid;
+        }
+        false
+    }
+
+    // What waits, with a glyph of width w, would overflow an empty row.
+    fn overflows(self, rule: Rule, w: usize) -> bool
+        requires { ⌜ self .row .width + self .spaces .width + self .word .width + w < 2 ^ 32 ⌝ }
+        ensures { λ r. ⌜ r ≡ overflowing rule self w ⌝ }
+    {
+        if rule.trim {
+            return rule.limit < self.word.width + w || rule.limit < self.spaces.width + w;
+        }
+        rule.limit < self.word.width + self.spaces.width + w
+    }
+
+    // Step 2's test.
+    pub fn must_join(self, rule: Rule, w: usize, space: bool) -> bool
+        requires { ⌜ self .row .width + self .spaces .width + self .word .width + w < 2 ^ 32 ⌝ }
+        ensures { λ r. ⌜ r ≡ joins rule self w space ⌝ }
+    {
+        if self.ends_word(space) {
+            return true;
+        }
+        if self.row.end == 0 {
+            return self.overflows(rule, w);
+        }
+        false
+    }
+
+    // Step 3's test.
+    pub fn is_full(self, rule: Rule, w: usize) -> bool
+        requires { ⌜ self .row .width + self .spaces .width + self .word .width + w < 2 ^ 32 ⌝ }
+        ensures { λ r. ⌜ r ≡ fullRun rule self w ⌝ }
+    {
+        rule.limit <= self.row.width
+            || (0 < w && rule.limit <= self.row.width + self.spaces.width + self.word.width)
+    }
+
+    // The line's end, where `emitted` says that a line was emitted before.
+    pub fn last_line(self, trim: bool, emitted: bool) -> Last
+        requires { ⌜ self .row .width + self .spaces .width + self .word .width < 2 ^ 32 ⌝ }
+        ensures { λ r. ⌜ r ≡ lastRun trim emitted self ⌝ }
+    {
+        let last = self.gathered(trim);
+        let none = Run::empty();
+        let spaces = self.spaces;
+        if last.end == 0 {
+            if spaces.end == 0 {
+                if emitted {
+                    return Last::Nothing;
+                }
+                return Last::Emit(none);
+            }
+            return Last::Emit(none);
+        }
+        Last::Emit(last)
+    }
+}
