@@ -68,7 +68,9 @@ fn right_from(area: Rect, spared: Rect) -> Rect
 fn paint_other_rows(screen: Screen, cells: &mut [u64], spared: Rect, area: Rect, ink: Ink)
     requires { ⌜ SymbolFits ink ⌝ }
     requires { ⌜ OnScreen screen (length (now cells)) spared × OnScreen screen (length (now cells)) area ⌝ }
-    ensures { λ _. ⌜ now (cells .exit) ≡ drawn (screen .columns) (inOrder (over (above area spared) (inked ink) ∷ over (below area spared) (inked ink) ∷ [])) (now (cells .entry)) ⌝ }
+    ensures { λ _.
+        let drawing = inOrder (over (above area spared) (inked ink) ∷ over (below area spared) (inked ink) ∷ []) in
+        ⌜ now (cells .exit) ≡ drawn (screen .columns) drawing (now (cells .entry)) ⌝ }
 {
     buffer::paint_area(screen, cells, above(area, spared), ink);
     buffer::paint_area(screen, cells, below(area, spared), ink);
@@ -78,7 +80,9 @@ fn paint_other_rows(screen: Screen, cells: &mut [u64], spared: Rect, area: Rect,
 fn paint_same_rows(screen: Screen, cells: &mut [u64], spared: Rect, area: Rect, ink: Ink)
     requires { ⌜ SymbolFits ink ⌝ }
     requires { ⌜ OnScreen screen (length (now cells)) spared × OnScreen screen (length (now cells)) area ⌝ }
-    ensures { λ _. ⌜ now (cells .exit) ≡ drawn (screen .columns) (inOrder (over (leftOf area spared) (inked ink) ∷ over (rightFrom area spared) (inked ink) ∷ [])) (now (cells .entry)) ⌝ }
+    ensures { λ _.
+        let drawing = inOrder (over (leftOf area spared) (inked ink) ∷ over (rightFrom area spared) (inked ink) ∷ []) in
+        ⌜ now (cells .exit) ≡ drawn (screen .columns) drawing (now (cells .entry)) ⌝ }
 {
     buffer::paint_area(screen, cells, left_of(area, spared), ink);
     buffer::paint_area(screen, cells, right_from(area, spared), ink);

@@ -1,4 +1,3 @@
-pub mod Either
 pub mod Titles
 pub mod Settings
 pub mod Within

@@ -11,7 +11,7 @@ use Rattle.block.specs.declared.Effect.the-variants.{Overlay, Symbol}
 use Rattle.block.specs.declared.Shadow.{Shadow}
 use Rattle.block.specs.declared.Shadow.the-variants.{Present}
 use Rattle.block.specs.Causes.{shadowStyles, blockStyles, shadowSymbols}
-use Rattle.block.proofs.Either.{first-has, later-has}
+use Rattle.text.proofs.Either.{first-has, later-has}
 
 -- a shadow's style and symbol
 module _ (shadow : Shadow) (effect : Effect) (style : ℕ) (x y : ℤ) (e : shadow ≡ Present effect style x y) where

@@ -8,7 +8,7 @@ use Rattle.text.specs.declared.TitlePosition.the-variants.{Top, Bottom}
 use Rattle.text.specs.Record.{isHead, positionOf}
 use Rattle.text.specs.Alignment.{resolvedPosition}
 use Rattle.text.specs.Line.{TextLine, untilHead, linesFrom}
-use Rattle.refuse.specs.Causes.{some}
+use Rattle.text.specs.Lists.{some}
 use Rattle.block.specs.declared.Block.{Block}
 use Rattle.block.specs.Inner.{samePosition, hasTitleAt}
 

@@ -1,6 +1,9 @@
 -- Document 01, 'Why a call is refused': the style numbers and symbols that a block gives, for 6 and 7.
 use Prim.Native.Nat.{ℕ}
+use mathlib.Core.Path.{_≡_}
+use mathlib.Core.Bool.{false}
 use mathlib.Core.List.{List, [], _∷_, _++_}
+use Rattle.refuse.specs.Causes.{symbolsWrong}
 use Rattle.block.specs.declared.Block.{Block}
 use Rattle.block.specs.declared.BorderSet.{BorderSet}
 use Rattle.block.specs.declared.Effect.{Effect}
@@ -35,3 +38,7 @@ borderSymbols s =
 -- and with them its shadow's
 unfoldable pub blockSymbols : Block → List ℕ
 blockSymbols b = borderSymbols (b .«border_set») ++ shadowSymbols (b .shadow)
+
+-- no cause 7: what the code that draws a block's symbols asks of it
+abbrev pub SymbolsFit : Block → Type 0
+SymbolsFit b = symbolsWrong (blockSymbols b) ≡ false

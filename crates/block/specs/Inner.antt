@@ -10,7 +10,7 @@ use Rattle.text.specs.Alignment.{resolvedPosition}
 use Rattle.text.specs.Line.{TextLine, linesFrom}
 use Rattle.layout.specs.declared.Rect.{Rect}
 use Rattle.layout.specs.Rect.{rightOf, bottomOf}
-use Rattle.refuse.specs.Causes.{some}
+use Rattle.text.specs.Lists.{some}
 use Rattle.block.specs.declared.Block.{Block}
 use Rattle.block.specs.declared.Space.{Space}
 
@@ -21,13 +21,13 @@ samePosition Top Bottom = false
 samePosition Bottom Top = false
 samePosition Bottom Bottom = true
 
--- a title's position: the one that its head gives, or the block's
-abbrev pub titleIsAt : Block → TitlePosition → TextLine → Bool
-titleIsAt b position title = samePosition (resolvedPosition (positionOf (title .head)) (b .«titles_position»)) position
+-- by a title's head: its position is the one given, or the block's
+abbrev pub titleIsAt : Block → TitlePosition → ℕ → Bool
+titleIsAt b position head = samePosition (resolvedPosition (positionOf head) (b .«titles_position»)) position
 
 -- a block has a title at a position
 unfoldable pub hasTitleAt : Block → List ℕ → TitlePosition → Bool
-hasTitleAt b titles position = some (titleIsAt b position) (linesFrom 0 titles)
+hasTitleAt b titles position = some (λ (title : TextLine). titleIsAt b position (title .head)) (linesFrom 0 titles)
 
 -- what stands at the four sides: "a top border or top title", "bottom border or title"
 abbrev pub atLeft : Block → Bool

@@ -6,7 +6,7 @@ use mathlib.Core.List.{List, [], _∷_}
 use Rattle.layout.specs.declared.Rect.{Rect}
 use Rattle.block.specs.declared.Block.{Block}
 use Rattle.buffer.specs.declared.Ink.the-variants.{Both}
-use Rattle.buffer.specs.Drawing.{Drawing, drawn, over, onlyIf, inOrder, styleAt}
+use Rattle.buffer.specs.Drawing.{Drawing, drawn, over, inOrder, styleAt}
 use Rattle.buffer.specs.Ink.{inked}
 use Rattle.buffer.proofs.Order.{first-then, only-drawn, only-spared}
 use Rattle.edges.specs.declared.Edge.{Edge}
@@ -15,7 +15,7 @@ use Rattle.borders.specs.Borders.{border, sides, corners}
 
 -- a side or a corner drawn where it stands: the cells before and after
 abbrev Drew : ℕ → List ℕ → Block → Edge → List ℕ → List ℕ → Type 0
-Drew columns styles b edge cells next = next ≡ drawn columns (onlyIf (edge .stands) (border styles b (edge .part) (edge .symbol))) cells
+Drew columns styles b edge cells next = next ≡ drawn columns (border styles b edge) cells
 
 -- one side or corner
 module _ (columns : ℕ) (some : 0 < columns) (styles : List ℕ) (b : Block) (edge : Edge) (cells : List ℕ) where
@@ -27,6 +27,7 @@ module _ (columns : ℕ) (some : 0 < columns) (styles : List ℕ) (b : Block) (e
 
   -- where it doesn't, the cells are left
   pub border-left : edge .stands ≡ false → Drew columns styles b edge cells cells
+  unfolding border
   border-left off = only-spared columns (edge .stands) _ cells some off
 
 pub ruleset borders = (border-drawn, border-left)

@@ -10,7 +10,7 @@ use Rattle.buffer.specs.declared.Screen.{Screen}
 use Rattle.buffer.specs.Parts.{OnScreen}
 use Rattle.edges.specs.declared.Edge.{Edge}
 use Rattle.edges.specs.Edges.{leftEdge, topEdge, rightEdge, bottomEdge, bottomRightEdge, topRightEdge, bottomLeftEdge, topLeftEdge}
-use Rattle.edges.proofs.Ends.{not-empty}
+use Rattle.layout.proofs.NotEmpty.{not-empty}
 
 -- a rectangle that ends no further than one on the screen lies on it too, whatever was drawn on its cells since
 pub part-on-screen : (s : Screen) (m n : ℕ) (r part : Rect) → OnScreen s m r → n ≡ m → rightOf part ≤ rightOf r → bottomOf part ≤ bottomOf r → OnScreen s n part

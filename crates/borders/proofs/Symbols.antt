@@ -6,7 +6,8 @@ use mathlib.Core.List.{List, [], _∷_}
 use native.Mathlib.Omega.{arith}
 use borrow.Author.Tests.{leb-false}
 use lib.ListN.{length, getD}
-use Rattle.refuse.specs.Causes.{some, tooLarge, symbolsWrong}
+use Rattle.text.specs.Lists.{some}
+use Rattle.refuse.specs.Causes.{tooLarge, symbolsWrong}
 use Rattle.text.proofs.Bools.{neither}
 use Rattle.layout.specs.declared.Rect.{Rect}
 use Rattle.block.specs.declared.Block.{Block}
@@ -14,12 +15,11 @@ use Rattle.block.specs.declared.Effect.{Effect}
 use Rattle.block.specs.declared.Effect.the-variants.{Overlay, Symbol}
 use Rattle.block.specs.declared.Shadow.{Shadow}
 use Rattle.block.specs.declared.Shadow.the-variants.{Absent, Present}
-use Rattle.block.specs.Causes.{effectSymbols, shadowSymbols, borderSymbols, blockSymbols}
-use Rattle.block.proofs.Either.{some-append}
+use Rattle.block.specs.Causes.{effectSymbols, shadowSymbols, borderSymbols, blockSymbols, SymbolsFit}
+use Rattle.text.proofs.Either.{some-append}
 use Rattle.shadow.specs.Fitting.{EffectFits, ShadowFits}
 use Rattle.edges.specs.declared.Edge.{Edge}
 use Rattle.edges.specs.Edges.{leftEdge, topEdge, rightEdge, bottomEdge, bottomRightEdge, topRightEdge, bottomLeftEdge, topLeftEdge}
-use Rattle.borders.specs.Fitting.{SymbolsFit}
 
 -- a test that holds of nothing in a list fails of each of its elements
 none-at : (test : ℕ → Bool) (l : List ℕ) (i : ℕ) → some test l ≡ false → i < length l → test (getD l i 0) ≡ false

@@ -1,2 +1,1 @@
 pub mod Borders
-pub mod Fitting

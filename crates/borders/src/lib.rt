@@ -10,16 +10,16 @@ ghost use mathlib.Core.List.{[], _∷_};
 ghost use Prim.Native.Nat.{_<_, _^_};
 ghost use lib.ListN.{length};
 ghost use Rattle.layout.specs.Rect.{isEmpty};
-ghost use Rattle.buffer.specs.Drawing.{drawn, onlyIf, inOrder};
+ghost use Rattle.buffer.specs.Drawing.{drawn, inOrder};
 ghost use Rattle.buffer.specs.Parts.{OnScreen};
 ghost use Rattle.borders.specs.Borders.{border, sides, corners};
-ghost use Rattle.borders.specs.Fitting.{SymbolsFit};
+ghost use Rattle.block.specs.Causes.{SymbolsFit};
 
 // Draws a side or a corner where it stands: its cells get the symbol, then the border style.
 fn draw_border(screen: Screen, cells: &mut [u64], styles: &[u64], block: Block, edge: Edge)
     requires { ⌜ edge .symbol < 2 ^ 21 ⌝ }
     requires { ⌜ OnScreen screen (length (now cells)) (edge .part) ⌝ }
-    ensures { λ _. ⌜ now (cells .exit) ≡ drawn (screen .columns) (onlyIf (edge .stands) (border (now (styles .entry)) block (edge .part) (edge .symbol))) (now (cells .entry)) ⌝ }
+    ensures { λ _. ⌜ now (cells .exit) ≡ drawn (screen .columns) (border (now (styles .entry)) block edge) (now (cells .entry)) ⌝ }
 {
     if edge.stands {
         let symbol = edge.symbol as u64;
@@ -64,7 +64,9 @@ fn draw_corners(screen: Screen, cells: &mut [u64], styles: &[u64], block: Block,
 pub fn draw_borders(screen: Screen, cells: &mut [u64], styles: &[u64], block: Block, area: Rect)
     requires { ⌜ SymbolsFit block × (isEmpty area ≡ false) ⌝ }
     requires { ⌜ OnScreen screen (length (now cells)) area ⌝ }
-    ensures { λ _. ⌜ now (cells .exit) ≡ drawn (screen .columns) (inOrder (sides (now (styles .entry)) block area ∷ corners (now (styles .entry)) block area ∷ [])) (now (cells .entry)) ⌝ }
+    ensures { λ _.
+        let drawing = inOrder (sides (now (styles .entry)) block area ∷ corners (now (styles .entry)) block area ∷ []) in
+        ⌜ now (cells .exit) ≡ drawn (screen .columns) drawing (now (cells .entry)) ⌝ }
 {
     draw_sides(screen, cells, styles, block, area);
     draw_corners(screen, cells, styles, block, area);

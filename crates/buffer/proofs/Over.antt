@@ -1,18 +1,19 @@
 -- Laws of `over`, `inside` and `sparing`: what is drawn on a rectangle's cells, and what spares them.
 use Prim.Native.Nat.{ℕ, _+_, _-_, _*_, _<_, _≤_}
 use mathlib.Core.Path.{_≡_, refl}
-use mathlib.Core.Bool.{Bool, true, false}
+use mathlib.Core.Bool.{Bool, true, false, and-false}
 use mathlib.Core.Logic.{_⊎_, inl, inr, dite}
 use mathlib.Core.List.{List}
 use native.Mathlib.Decide.{decLt, ℕ-discrete}
 use native.Mathlib.Omega.{arith}
-use borrow.Author.Tests.{eq-eqb, ne-eqb}
+use borrow.Author.Tests.{eq-eqb, ne-eqb, eqb-true}
 use mir.Syntax.{w16}
 use mir.Val.{Fits}
 use lib.Dec.{eqb}
 use lib.ListN.{length}
+use Rattle.num.specs.Held.{held}
 use Rattle.layout.specs.declared.Rect.{Rect}
-use Rattle.layout.specs.Rect.{rightOf, bottomOf, within, contains}
+use Rattle.layout.specs.Rect.{rightOf, bottomOf, isEmpty, within, contains}
 use Rattle.buffer.specs.declared.Screen.{Screen}
 use Rattle.buffer.specs.Drawing.{Drawing, drawn, over, inside, sparing}
 use Rattle.buffer.specs.Parts.{inRow, inRows, OnScreen}
@@ -120,3 +121,19 @@ sparing-commute columns r d e cells some alone =
         → ((cell : ℕ) → e column row cell ≡ cell) ⊎ ((cell : ℕ) → sparing r d column row cell ≡ cell)
     apart column row true h = inr (λ cell. sparing-inside r d column row cell h)
     apart column row false h = inl (λ cell. alone column row cell h)
+
+-- no number lies in a part of size 0
+within-none : (first size n : ℕ) → size ≡ 0 → within first (held (first + size)) n ≡ false
+within-none first size n e = dite (decLt n first) (within-before first _ n) (λ p. within-past first _ n (omega (arith, p)))
+
+-- an empty rectangle has no cells
+contains-none : (r : Rect) (column row : ℕ) → isEmpty r ≡ true → contains r column row ≡ false
+contains-none r column row h = go (eqb (r .width) 0) refl
+  where
+    go : (b : Bool) → eqb (r .width) 0 ≡ b → contains r column row ≡ false
+    go true e = rw (within-none (r .x) (r .width) column (eqb-true (r .width) 0 e))
+    go false e = rw (within-none (r .y) (r .height) row (eqb-true (r .height) 0 (rw e at h)), and-false)
+
+-- what is drawn over an empty rectangle leaves every cell
+pub over-empty : (r : Rect) (f : ℕ → ℕ) (column row cell : ℕ) → isEmpty r ≡ true → over r f column row cell ≡ cell
+over-empty r f column row cell h = over-outside r f column row cell (contains-none r column row h)

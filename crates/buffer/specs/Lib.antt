@@ -1,3 +1,4 @@
 pub mod Drawing
 pub mod Ink
 pub mod Parts
+pub mod Screen

@@ -7,12 +7,11 @@ ghost use mathlib.Core.Path.{_≡_};
 ghost use mathlib.Core.Bool.{false};
 ghost use Prim.Native.Nat.{_<_, _^_};
 ghost use lib.ListN.{length};
-ghost use Rattle.text.specs.Line.{linesFrom};
+ghost use Rattle.text.specs.Line.{linesFrom, Opens};
 ghost use Rattle.layout.specs.Rect.{isEmpty};
 ghost use Rattle.buffer.specs.Drawing.{drawn};
 ghost use Rattle.buffer.specs.Parts.{OnScreen};
-ghost use Rattle.refuse.specs.Causes.{notOpening};
-ghost use Rattle.titles.specs.Titles.{titlesRow, titlesArea, groupsIn, titlesAt, titlesOn};
+ghost use Rattle.titles.specs.Titles.{titlesDrawn, titlesRow, titlesArea, groupsIn, titlesAt, titlesOn};
 ghost use Rattle.titles.specs.Placing.{AreaFits};
 
 // The row of the titles at a position.
@@ -50,9 +49,11 @@ fn draw_in(
     position: TitlePosition,
     area: Rect,
 )
-    requires { ⌜ (0 < screen .columns) × (notOpening (now titles) ≡ false) × (area .height ≡ 1) ⌝ }
+    requires { ⌜ (0 < screen .columns) × Opens (now titles) × (area .height ≡ 1) ⌝ }
     requires { ⌜ AreaFits screen (length (now cells)) area ⌝ }
-    ensures { λ _. ⌜ now (cells .exit) ≡ drawn (screen .columns) (groupsIn (now (styles .entry)) block position area (linesFrom 0 (now (titles .entry)))) (now (cells .entry)) ⌝ }
+    ensures { λ _.
+        let drawing = titlesDrawn (now (styles .entry)) block (groupsIn block position area (linesFrom 0 (now (titles .entry)))) in
+        ⌜ now (cells .exit) ≡ drawn (screen .columns) drawing (now (cells .entry)) ⌝ }
 {
     titles_forward::draw_left(screen, cells, styles, titles, block, position, area);
     titles_forward::draw_center(screen, cells, styles, titles, block, position, area);
@@ -69,9 +70,11 @@ fn draw_at_position(
     position: TitlePosition,
     met: Rect,
 )
-    requires { ⌜ (isEmpty met ≡ false) × (screen .columns < 2 ^ 15) × (screen .rows < 2 ^ 15) × (notOpening (now titles) ≡ false) ⌝ }
+    requires { ⌜ (isEmpty met ≡ false) × (screen .columns < 2 ^ 15) × (screen .rows < 2 ^ 15) × Opens (now titles) ⌝ }
     requires { ⌜ OnScreen screen (length (now cells)) met ⌝ }
-    ensures { λ _. ⌜ now (cells .exit) ≡ drawn (screen .columns) (titlesAt (now (styles .entry)) block position met (linesFrom 0 (now (titles .entry)))) (now (cells .entry)) ⌝ }
+    ensures { λ _.
+        let drawing = titlesDrawn (now (styles .entry)) block (titlesAt block position met (linesFrom 0 (now (titles .entry)))) in
+        ⌜ now (cells .exit) ≡ drawn (screen .columns) drawing (now (cells .entry)) ⌝ }
 {
     let area = titles_area(block, position, met);
     draw_in(screen, cells, styles, titles, block, position, area);
@@ -86,9 +89,11 @@ pub fn draw_titles(
     block: Block,
     met: Rect,
 )
-    requires { ⌜ (isEmpty met ≡ false) × (screen .columns < 2 ^ 15) × (screen .rows < 2 ^ 15) × (notOpening (now titles) ≡ false) ⌝ }
+    requires { ⌜ (isEmpty met ≡ false) × (screen .columns < 2 ^ 15) × (screen .rows < 2 ^ 15) × Opens (now titles) ⌝ }
     requires { ⌜ OnScreen screen (length (now cells)) met ⌝ }
-    ensures { λ _. ⌜ now (cells .exit) ≡ drawn (screen .columns) (titlesOn (now (styles .entry)) block met (now (titles .entry))) (now (cells .entry)) ⌝ }
+    ensures { λ _.
+        let drawing = titlesOn (now (styles .entry)) block met (now (titles .entry)) in
+        ⌜ now (cells .exit) ≡ drawn (screen .columns) drawing (now (cells .entry)) ⌝ }
 {
     draw_at_position(
         screen,

@@ -1,11 +1,12 @@
--- What each function of a side or a corner computes; the rules are in `Sides` and, for the order of drawing, in `borders`.
+-- Document 01, 'Inner area and frame (block.rs, padding.rs)': the sides and the corners of a block, which border each stands by, its cells
+-- and its symbol.
 use mathlib.Core.Bool.{_&&_}
 use Rattle.layout.specs.declared.Rect.{Rect}
 use Rattle.block.specs.declared.Block.{Block}
 use Rattle.edges.specs.declared.Edge.{Edge}
 use Rattle.edges.specs.Sides.{leftSide, topSide, rightSide, bottomSide, bottomRight, topRight, bottomLeft, topLeft}
 
--- the sides: each stands where its border does
+-- a side stands where its border does
 abbrev pub leftEdge : Block → Rect → Edge
 leftEdge b r = record { stands = b .borders .left; part = leftSide r; symbol = b .«border_set» .«vertical_left» }
 
@@ -18,7 +19,7 @@ rightEdge b r = record { stands = b .borders .right; part = rightSide r; symbol 
 abbrev pub bottomEdge : Block → Rect → Edge
 bottomEdge b r = record { stands = b .borders .bottom; part = bottomSide r; symbol = b .«border_set» .«horizontal_bottom» }
 
--- the corners: each stands where both borders do
+-- "corners (…, each where both borders stand)"
 abbrev pub bottomRightEdge : Block → Rect → Edge
 bottomRightEdge b r = record { stands = b .borders .right && b .borders .bottom; part = bottomRight r; symbol = b .«border_set» .«bottom_right» }
 

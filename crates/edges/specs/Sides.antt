@@ -1,4 +1,4 @@
--- Document 01, 'Inner area and frame (block.rs, padding.rs)': where the sides and the corners of a block are.
+-- Document 01, 'Inner area and frame (block.rs, padding.rs)': the cells of the sides and the corners of a block.
 use Prim.Native.Nat.{_-_}
 use Rattle.layout.specs.declared.Rect.{Rect}
 use Rattle.layout.specs.Rect.{rightOf, bottomOf}

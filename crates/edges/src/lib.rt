@@ -1,10 +1,10 @@
-// The sides and the corners of a rectangle that isn't empty: whether each stands, its cells and its symbol.
+// The sides and the corners of a rectangle: whether each stands, its cells and its symbol.
 use block::Block;
 use layout::Rect;
 ghost use mathlib.Core.Path.{_≡_};
-ghost use mathlib.Core.Bool.{false, _&&_};
+ghost use mathlib.Core.Bool.{_&&_};
 ghost use Prim.Native.Nat.{_-_};
-ghost use Rattle.layout.specs.Rect.{rightOf, bottomOf, isEmpty};
+ghost use Rattle.layout.specs.Rect.{rightOf, bottomOf};
 ghost use Rattle.edges.specs.Edges.{leftEdge, topEdge, rightEdge, bottomEdge, bottomRightEdge, topRightEdge, bottomLeftEdge, topLeftEdge};
 
 // A side or a corner of a rectangle: whether it stands, its cells and its symbol.
@@ -14,20 +14,18 @@ pub struct Edge {
     pub symbol: u32,
 }
 
-// The last column of a rectangle.
+// The column before a rectangle's right: its last, 0 where right is 0.
 fn last_column(area: Rect) -> u16
-    requires { ⌜ isEmpty area ≡ false ⌝ }
     ensures { λ r. ⌜ r ≡ rightOf area - 1 ⌝ }
 {
-    area.right() - 1
+    num::saturating_sub(area.right(), 1)
 }
 
-// The last row of a rectangle.
+// The row before a rectangle's bottom: its last, 0 where bottom is 0.
 fn last_row(area: Rect) -> u16
-    requires { ⌜ isEmpty area ≡ false ⌝ }
     ensures { λ r. ⌜ r ≡ bottomOf area - 1 ⌝ }
 {
-    area.bottom() - 1
+    num::saturating_sub(area.bottom(), 1)
 }
 
 // Whether two borders stand.
@@ -80,7 +78,6 @@ pub fn top_side(block: Block, area: Rect) -> Edge
 
 // The last column.
 pub fn right_side(block: Block, area: Rect) -> Edge
-    requires { ⌜ isEmpty area ≡ false ⌝ }
     ensures { λ r. ⌜ r ≡ rightEdge block area ⌝ }
 {
     let on = block.borders;
@@ -100,7 +97,6 @@ pub fn right_side(block: Block, area: Rect) -> Edge
 
 // The last row.
 pub fn bottom_side(block: Block, area: Rect) -> Edge
-    requires { ⌜ isEmpty area ≡ false ⌝ }
     ensures { λ r. ⌜ r ≡ bottomEdge block area ⌝ }
 {
     let on = block.borders;
@@ -120,7 +116,6 @@ pub fn bottom_side(block: Block, area: Rect) -> Edge
 
 // The last cell of the last row.
 pub fn bottom_right(block: Block, area: Rect) -> Edge
-    requires { ⌜ isEmpty area ≡ false ⌝ }
     ensures { λ r. ⌜ r ≡ bottomRightEdge block area ⌝ }
 {
     let on = block.borders;
@@ -140,7 +135,6 @@ pub fn bottom_right(block: Block, area: Rect) -> Edge
 
 // The last cell of the first row.
 pub fn top_right(block: Block, area: Rect) -> Edge
-    requires { ⌜ isEmpty area ≡ false ⌝ }
     ensures { λ r. ⌜ r ≡ topRightEdge block area ⌝ }
 {
     let on = block.borders;
@@ -160,7 +154,6 @@ pub fn top_right(block: Block, area: Rect) -> Edge
 
 // The first cell of the last row.
 pub fn bottom_left(block: Block, area: Rect) -> Edge
-    requires { ⌜ isEmpty area ≡ false ⌝ }
     ensures { λ r. ⌜ r ≡ bottomLeftEdge block area ⌝ }
 {
     let on = block.borders;

@@ -18,7 +18,7 @@ use Rattle.borders.specs.Borders.{sides, corners}
 use Rattle.titles.specs.Titles.{titlesOn}
 use Rattle.shadow.specs.Shadow.{shadowOf}
 use Rattle.frame.specs.Frame.{frame, blockOf}
-use Rattle.frame.specs.Fitting.{HasCells}
+use Rattle.buffer.specs.Screen.{HasCells}
 
 module _ (columns : ℕ) (styles : List ℕ) (screen : Screen) (titles : List ℕ) (b : Block) (cells : List ℕ) where
   -- sides and corners, then titles

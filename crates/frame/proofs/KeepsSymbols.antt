@@ -1,23 +1,25 @@
 -- The sides and corners that are drawn lie outside the inner area, so they keep its symbols.
 use Prim.Native.Nat.{ℕ, _+_, _-_, _<_, _≤_}
-use mathlib.Core.Path.{_≡_, refl, ap, _∙_}
+use mathlib.Core.Path.{_≡_, refl, sym, ap, _∙_}
 use mathlib.Core.Bool.{Bool, true, false, cond, _&&_, and-eq-true-iff}
 use mathlib.Core.Logic.{inl, inr}
-use mathlib.Core.List.{List, [], _∷_}
+use mathlib.Core.List.{List, [], _∷_, map}
 use native.Mathlib.Omega.{arith}
 use borrow.Author.Tests.{leb-true, ltb-true}
 use Rattle.layout.specs.declared.Rect.{Rect}
 use Rattle.layout.specs.Rect.{rightOf, bottomOf, within, contains}
-use Rattle.cell.specs.Cell.{cellFrom, styled}
+use Rattle.cell.specs.Cell.{cellFrom, withSymbol, styled}
 use Rattle.cell.proofs.Fields.{styled-symbol}
 use Rattle.block.specs.declared.Block.{Block}
 use Rattle.block.specs.Inner.{atLeft, atTop, atRight, atBottom, taken, innerOf}
 use Rattle.block.proofs.Within.{Inside, inside}
-use Rattle.buffer.specs.Drawing.{Drawing, over, onlyIf, inOrder}
+use Rattle.buffer.specs.Drawing.{Drawing, over, onlyIf, inOrder, styleAt}
 use Rattle.buffer.proofs.Over.{over-outside}
 use Rattle.buffer.proofs.Within.{cell-outside}
 use Rattle.edges.specs.Sides.{leftSide, topSide, rightSide, bottomSide, bottomRight, topRight, bottomLeft, topLeft}
-use Rattle.borders.specs.Borders.{border, sides, corners}
+use Rattle.edges.specs.declared.Edge.{Edge}
+use Rattle.edges.specs.Edges.{leftEdge, topEdge, rightEdge, bottomEdge, bottomRightEdge, topRightEdge, bottomLeftEdge, topLeftEdge}
+use Rattle.borders.specs.Borders.{border, sideEdges, cornerEdges, sides, corners}
 
 -- a drawing keeps the symbol of the cell in a column and a row, whatever the cell
 abbrev pub KeepsSymbol : Drawing → ℕ → ℕ → Type 0
@@ -65,23 +67,22 @@ between r column row h =
       bottom = ltb-true row (bottomOf r) (down .1);
     }
 
--- a side or a corner leaves a cell alone that doesn't lie in it
-pub border-alone : (styles : List ℕ) (b : Block) (part : Rect) (symbol column row cell : ℕ) → contains part column row ≡ false → border styles b part symbol column row cell ≡ cell
+-- a side or a corner keeps the symbol of a cell that doesn't lie in it, and of every cell where it doesn't stand
+edge-keeps : (styles : List ℕ) (b : Block) (edge : Edge) (column row : ℕ) → (edge .stands ≡ true → contains (edge .part) column row ≡ false)
+    → KeepsSymbol (border styles b edge) column row
 unfolding border
-border-alone styles b part symbol column row cell h = over-outside part _ column row cell h
+edge-keeps styles b edge column row outside cell = go (edge .stands) outside
+  where
+    go : (stands : Bool) → (stands ≡ true → contains (edge .part) column row ≡ false)
+        → cellFrom (onlyIf stands (over (edge .part) (λ c. styled (styleAt styles (b .«border_style»)) (withSymbol (edge .symbol) c))) column row cell) .symbol ≡ cellFrom cell .symbol
+    go true out = ap (λ (c : ℕ). cellFrom c .symbol) (over-outside (edge .part) _ column row cell (out refl))
+    go false out = refl
 
--- so it keeps the symbol of a cell that doesn't lie in it, and of every cell where it doesn't stand
-part-keeps : (styles : List ℕ) (b : Block) (part : Rect) (symbol : ℕ) (stands : Bool) (column row : ℕ) → (stands ≡ true → contains part column row ≡ false)
-    → KeepsSymbol (onlyIf stands (border styles b part symbol)) column row
-part-keeps styles b part symbol true column row outside =
-    alone-keeps (border styles b part symbol) column row (λ cell. border-alone styles b part symbol column row cell (outside refl))
-part-keeps styles b part symbol false column row outside = λ cell. refl
-
--- a corner needs two borders: it is enough that one of them keeps the cell out
-corner-keeps : (styles : List ℕ) (b : Block) (part : Rect) (symbol : ℕ) (one other : Bool) (column row : ℕ) → (one ≡ true → contains part column row ≡ false)
-    → KeepsSymbol (onlyIf (one && other) (border styles b part symbol)) column row
-corner-keeps styles b part symbol one other column row outside =
-    part-keeps styles b part symbol (one && other) column row (λ both. outside (and-eq-true-iff one other .0 both .0))
+-- a corner needs two borders: it is enough that the first of them keeps the cell out
+corner-keeps : (styles : List ℕ) (b : Block) (edge : Edge) (one other : Bool) (column row : ℕ) → edge .stands ≡ (one && other)
+    → (one ≡ true → contains (edge .part) column row ≡ false) → KeepsSymbol (border styles b edge) column row
+corner-keeps styles b edge one other column row both outside =
+    edge-keeps styles b edge column row (λ on. outside (and-eq-true-iff one other .0 (sym both ∙ on) .0))
 
 -- what stands takes a cell
 pub takes-one : (stands : Bool) → stands ≡ true → taken stands ≡ 1
@@ -130,17 +131,29 @@ module _ (b : Block) (titles : List ℕ) (met : Rect) (across : met .x + met .wi
   -- the sides keep the symbols of the inner area
   pub sides-keep : (styles : List ℕ) → KeepsSymbol (sides styles b met) column row
   unfolding sides
-  sides-keep styles cell =
-      part-keeps styles b (bottomSide met) _ (b .borders .bottom) column row (clear-bottom (bottomSide met) refl) _
-      ∙ part-keeps styles b (rightSide met) _ (b .borders .right) column row (clear-right (rightSide met) refl) _
-      ∙ part-keeps styles b (topSide met) _ (b .borders .top) column row (clear-top (topSide met) refl refl) _
-      ∙ part-keeps styles b (leftSide met) _ (b .borders .left) column row (clear-left (leftSide met) refl refl) cell
+  sides-keep styles =
+      order-keeps (map (border styles b) (sideEdges b met)) column row (
+        edge-keeps styles b (leftEdge b met) column row (clear-left (leftSide met) refl refl),
+        (
+          edge-keeps styles b (topEdge b met) column row (clear-top (topSide met) refl refl),
+          (
+            edge-keeps styles b (rightEdge b met) column row (clear-right (rightSide met) refl),
+            (edge-keeps styles b (bottomEdge b met) column row (clear-bottom (bottomSide met) refl), tt),
+          ),
+        ),
+      )
 
   -- and so do the corners
   pub corners-keep : (styles : List ℕ) → KeepsSymbol (corners styles b met) column row
   unfolding corners
-  corners-keep styles cell =
-      corner-keeps styles b (topLeft met) _ (b .borders .left) (b .borders .top) column row (clear-left (topLeft met) refl refl) _
-      ∙ corner-keeps styles b (bottomLeft met) _ (b .borders .left) (b .borders .bottom) column row (clear-left (bottomLeft met) refl refl) _
-      ∙ corner-keeps styles b (topRight met) _ (b .borders .right) (b .borders .top) column row (clear-right (topRight met) refl) _
-      ∙ corner-keeps styles b (bottomRight met) _ (b .borders .right) (b .borders .bottom) column row (clear-right (bottomRight met) refl) cell
+  corners-keep styles =
+      order-keeps (map (border styles b) (cornerEdges b met)) column row (
+        corner-keeps styles b (bottomRightEdge b met) (b .borders .right) (b .borders .bottom) column row refl (clear-right (bottomRight met) refl),
+        (
+          corner-keeps styles b (topRightEdge b met) (b .borders .right) (b .borders .top) column row refl (clear-right (topRight met) refl),
+          (
+            corner-keeps styles b (bottomLeftEdge b met) (b .borders .left) (b .borders .bottom) column row refl (clear-left (bottomLeft met) refl refl),
+            (corner-keeps styles b (topLeftEdge b met) (b .borders .left) (b .borders .top) column row refl (clear-left (topLeft met) refl refl), tt),
+          ),
+        ),
+      )

@@ -11,12 +11,12 @@ ghost use lib.ListN.{length};
 ghost use Rattle.layout.specs.Rect.{isEmpty};
 ghost use Rattle.buffer.specs.Drawing.{drawn, inOrder};
 ghost use Rattle.buffer.specs.Parts.{OnScreen};
-ghost use Rattle.refuse.specs.Causes.{notOpening};
+ghost use Rattle.text.specs.Line.{Opens};
 ghost use Rattle.borders.specs.Borders.{sides, corners};
-ghost use Rattle.borders.specs.Fitting.{SymbolsFit};
+ghost use Rattle.block.specs.Causes.{SymbolsFit};
 ghost use Rattle.titles.specs.Titles.{titlesOn};
 ghost use Rattle.frame.specs.Frame.{frame, blockOf};
-ghost use Rattle.frame.specs.Fitting.{HasCells};
+ghost use Rattle.buffer.specs.Screen.{HasCells};
 
 // Draws the sides and corners, then the titles, over a rectangle that lies on the screen and isn't empty.
 fn draw_borders_and_titles(
@@ -27,9 +27,12 @@ fn draw_borders_and_titles(
     block: Block,
     met: Rect,
 )
-    requires { ⌜ SymbolsFit block × (isEmpty met ≡ false) × (screen .columns < 2 ^ 15) × (screen .rows < 2 ^ 15) × (notOpening (now titles) ≡ false) ⌝ }
+    requires { ⌜ SymbolsFit block × (isEmpty met ≡ false) × (screen .columns < 2 ^ 15) × (screen .rows < 2 ^ 15) × Opens (now titles) ⌝ }
     requires { ⌜ OnScreen screen (length (now cells)) met ⌝ }
-    ensures { λ _. ⌜ now (cells .exit) ≡ drawn (screen .columns) (inOrder (sides (now (styles .entry)) block met ∷ corners (now (styles .entry)) block met ∷ titlesOn (now (styles .entry)) block met (now (titles .entry)) ∷ [])) (now (cells .entry)) ⌝ }
+    ensures { λ _.
+        let styles′ = now (styles .entry) in
+        let drawings = sides styles′ block met ∷ corners styles′ block met ∷ titlesOn styles′ block met (now (titles .entry)) ∷ [] in
+        ⌜ now (cells .exit) ≡ drawn (screen .columns) (inOrder drawings) (now (cells .entry)) ⌝ }
 {
     borders::draw_borders(screen, cells, styles, block, met);
     draw_titles::draw_titles(screen, cells, styles, titles, block, met);
@@ -44,9 +47,11 @@ pub fn draw_frame(
     block: Block,
     met: Rect,
 )
-    requires { ⌜ SymbolsFit block × (isEmpty met ≡ false) × (screen .columns < 2 ^ 15) × (screen .rows < 2 ^ 15) × (notOpening (now titles) ≡ false) ⌝ }
+    requires { ⌜ SymbolsFit block × (isEmpty met ≡ false) × (screen .columns < 2 ^ 15) × (screen .rows < 2 ^ 15) × Opens (now titles) ⌝ }
     requires { ⌜ OnScreen screen (length (now cells)) met ⌝ }
-    ensures { λ _. ⌜ now (cells .exit) ≡ drawn (screen .columns) (frame (now (styles .entry)) screen (now (titles .entry)) block met) (now (cells .entry)) ⌝ }
+    ensures { λ _.
+        let drawing = frame (now (styles .entry)) screen (now (titles .entry)) block met in
+        ⌜ now (cells .exit) ≡ drawn (screen .columns) drawing (now (cells .entry)) ⌝ }
 {
     let shadow = block.shadow;
     let ink = Ink::Style(buffer::style_at(styles, block.style));
@@ -64,8 +69,10 @@ pub fn draw_on(
     block: Block,
     area: Rect,
 )
-    requires { ⌜ SymbolsFit block × HasCells screen (length (now cells)) × (notOpening (now titles) ≡ false) ⌝ }
-    ensures { λ _. ⌜ now (cells .exit) ≡ drawn (screen .columns) (blockOf (now (styles .entry)) screen (now (titles .entry)) block area) (now (cells .entry)) ⌝ }
+    requires { ⌜ SymbolsFit block × HasCells screen (length (now cells)) × Opens (now titles) ⌝ }
+    ensures { λ _.
+        let drawing = blockOf (now (styles .entry)) screen (now (titles .entry)) block area in
+        ⌜ now (cells .exit) ≡ drawn (screen .columns) drawing (now (cells .entry)) ⌝ }
 {
     let met = area.intersection(screen.area());
     if met.is_empty() {

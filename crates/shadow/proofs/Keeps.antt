@@ -19,25 +19,8 @@ use Rattle.block.specs.declared.Shadow.{Shadow}
 use Rattle.block.specs.declared.Shadow.the-variants.{Absent, Present}
 use Rattle.buffer.specs.declared.Screen.{Screen}
 use Rattle.buffer.specs.Drawing.{Drawing, over, sparing}
-use Rattle.buffer.proofs.Within.{within-before, within-past}
-use Rattle.buffer.proofs.Over.{over-outside, sparing-inside, sparing-outside}
+use Rattle.buffer.proofs.Over.{over-empty, sparing-inside, sparing-outside}
 use Rattle.shadow.specs.Shadow.{shadowArea, besides, effectOf, shadowOf}
-
--- no number lies in a part of size 0
-within-none : (first size n : ℕ) → size ≡ 0 → within first (held (first + size)) n ≡ false
-within-none first size n e = dite (decLt n first) (within-before first _ n) (λ p. within-past first _ n (omega (arith, p)))
-
--- an empty rectangle has no cells
-contains-none : (r : Rect) (column row : ℕ) → isEmpty r ≡ true → contains r column row ≡ false
-contains-none r column row h = go (eqb (r .width) 0) refl
-  where
-    go : (b : Bool) → eqb (r .width) 0 ≡ b → contains r column row ≡ false
-    go true e = rw (within-none (r .x) (r .width) column (eqb-true (r .width) 0 e))
-    go false e = rw (within-none (r .y) (r .height) row (eqb-true (r .height) 0 (rw e at h)), and-false)
-
--- what is drawn over an empty rectangle leaves every cell
-pub over-empty : (r : Rect) (f : ℕ → ℕ) (column row cell : ℕ) → isEmpty r ≡ true → over r f column row cell ≡ cell
-over-empty r f column row cell h = over-outside r f column row cell (contains-none r column row h)
 
 -- a cell that a drawing leaves is left by it where it spares a rectangle
 sparing-leaves : (r : Rect) (d : Drawing) (column row cell : ℕ) → d column row cell ≡ cell → sparing r d column row cell ≡ cell

@@ -29,7 +29,9 @@ fn draw_effect(screen: Screen, cells: &mut [u64], base: Rect, area: Rect, effect
 fn draw_cells(screen: Screen, cells: &mut [u64], base: Rect, area: Rect, style: u64, effect: Effect)
     requires { ⌜ EffectFits effect ⌝ }
     requires { ⌜ OnScreen screen (length (now cells)) base × OnScreen screen (length (now cells)) area ⌝ }
-    ensures { λ _. ⌜ now (cells .exit) ≡ drawn (screen .columns) (inOrder (besides base area (styled style) ∷ effectOf base area effect ∷ [])) (now (cells .entry)) ⌝ }
+    ensures { λ _.
+        let drawing = inOrder (besides base area (styled style) ∷ effectOf base area effect ∷ []) in
+        ⌜ now (cells .exit) ≡ drawn (screen .columns) drawing (now (cells .entry)) ⌝ }
 {
     besides::paint_besides(screen, cells, base, area, Ink::Style(style));
     draw_effect(screen, cells, base, area, effect);

@@ -1,6 +1,4 @@
-pub mod Numbered
 pub mod Widths
-pub mod OneGlyph
-pub mod Writing
+pub mod Moving
 pub mod TitleLine
 pub mod Cells

@@ -1,7 +1,9 @@
 -- A title line on its row, and a title in its area.
-use Prim.Native.Nat.{ℕ, _+_, _-_, _*_, _≤_}
-use mathlib.Core.Path.{_≡_, _∙_}
+use Prim.Native.Nat.{ℕ, _+_, _-_, _*_, _≤_, _<_}
+use mathlib.Core.Path.{_≡_, refl, _∙_}
+use mathlib.Core.Logic.{_⊎_, inl, inr, dite}
 use mathlib.Core.List.{List, [], _∷_, _++_}
+use native.Mathlib.Decide.{decLt}
 use native.Mathlib.Omega.{arith}
 use mir.Syntax.{w16}
 use mir.Val.{Fits}
@@ -16,12 +18,15 @@ use Rattle.buffer.specs.declared.Ink.the-variants.{Style}
 use Rattle.buffer.specs.Drawing.{changed, drawn, over, inside, styleAt}
 use Rattle.buffer.specs.Ink.{inked}
 use Rattle.buffer.specs.Parts.{inRow}
+use Rattle.buffer.proofs.Changed.{changed-same, part-length, part-lent}
 use Rattle.buffer.proofs.Drawn.{drawn-same}
 use Rattle.buffer.proofs.Over.{row-is}
 use Rattle.buffer.proofs.Rows.{row-lent, row-fits}
 use Rattle.buffer.proofs.Order.{first-then}
-use Rattle.title.specs.Title.{titleGlyphs, titleLineWidth, lineStart, hiddenColumns, untilOverrun, titleGlyphsOn, titleLine, titleIn}
+use Rattle.title_glyphs.specs.TitleGlyphs.{titleGlyphs, untilOverrun, titleGlyphsOn}
+use Rattle.title.specs.Title.{titleLineWidth, lineStart, hiddenColumns, titleLine, titleIn}
 use Rattle.title.specs.Fitting.{TitleArea}
+use Rattle.title.proofs.Moving.{line-moved}
 
 module _ (alignment : Alignment) (t w : ℕ) where
   -- a right line ends in the last column
@@ -38,16 +43,31 @@ starts-in Left t w = omega arith
 starts-in Center t w = omega arith
 starts-in Right t w = omega arith
 
-pub starts-within : (alignment : Alignment) (t w start hidden n : ℕ) → start ≡ lineStart alignment t w → w ≡ n → start ≤ hidden + n
-starts-within alignment t w start hidden n e p = omega (arith, e, starts-in alignment t w)
+pub starts-within : (alignment : Alignment) (t w start n : ℕ) → start ≡ lineStart alignment t w → w ≡ n → start ≤ n
+starts-within alignment t w start n e p = omega (arith, e, starts-in alignment t w)
 
--- a line on its row: its glyphs, from where it starts and after the columns that it hides
-pub line-written : (styles : List ℕ) (alignment : Alignment) (w : ℕ) (records row next : List ℕ) (t hidden start : ℕ) → w ≡ length row → t ≡ titleLineWidth records
-    → hidden ≡ hiddenColumns alignment t w → start ≡ lineStart alignment t w
-    → next ≡ changed (titleGlyphsOn styles hidden (untilOverrun (hidden + length row) (startsFrom start (titleGlyphs records)))) row
-    → next ≡ changed (titleLine styles alignment w records) row
-unfolding titleLine
-line-written styles alignment w records row next t hidden start e p q r h = rw (← p, ← q, ← r, e) h
+-- it hides no column, or it starts in the first
+hides-or-starts : (alignment : Alignment) (t w : ℕ) → (hiddenColumns alignment t w ≡ 0) ⊎ (lineStart alignment t w ≡ 0)
+hides-or-starts Left t w = inl refl
+hides-or-starts Center t w = inl refl
+hides-or-starts Right t w = dite (decLt w t) (λ (h : w < t). inr (omega arith)) (λ n. inl (omega (arith, n)))
+
+-- a line on its row: the cells from its start column on, lent, come back with its glyphs on them
+module _ (styles : List ℕ) (alignment : Alignment) (w : ℕ) (records row part : List ℕ) (t hidden start : ℕ) (is-row : w ≡ length row) (is-width : t ≡ titleLineWidth records)
+    (hides : hidden ≡ hiddenColumns alignment t w) (starts : start ≡ lineStart alignment t w) where
+  abbrev lent : List ℕ
+  lent = take (length row - start) (drop start row)
+
+  pub line-written : part ≡ changed (titleGlyphsOn styles hidden (untilOverrun (hidden + length lent) (startsFrom 0 (titleGlyphs records)))) lent
+      → take start row ++ (part ++ drop (length row - start) (drop start row)) ≡ changed (titleLine styles alignment w records) row
+  unfolding titleLine
+  line-written h =
+      let low : start ≤ length row = starts-within alignment t w start (length row) starts is-row in
+      let size : length lent ≡ length row - start = part-length start (length row) row low (omega arith) in
+      let either : (hidden ≡ 0) ⊎ (start ≡ 0) = rw (hides, starts) (hides-or-starts alignment t w) in
+      part-lent _ start (length row) row part low (omega arith) (rw size at h)
+      ∙ rw (← is-width, ← hides, ← starts, is-row)
+      (changed-same _ _ row (λ i cell inside. line-moved styles (titleGlyphs records) (length row) i cell inside hidden start either low))
 
 -- the row of a title's area ends among the cells
 pub row-end : (s : Screen) (n : ℕ) (r : Rect) → TitleArea s n r → r .y * s .columns + rightOf r ≤ n
@@ -75,5 +95,3 @@ module _ (s : Screen) (r : Rect) (styles : List ℕ) (alignment : Alignment) (re
       (q
       ∙ drawn-same (s .columns) _ _ next (a .on-screen .columns)
       (λ column row cell _. row-is r (titleLine styles alignment (r .width) records) column row cell (a .one-row) (omega (arith, a .in-rows, fits .fits))))
-
-pub ruleset title-line = (starts-within, line-written, line-drawn, title-drawn)

@@ -9,7 +9,7 @@ use Rattle.num.specs.Held.{held}
 use Rattle.text.specs.Record.{widthOf}
 use Rattle.text.specs.Line.{numbered, total}
 use Rattle.title.specs.Title.{titleLineWidth}
-use Rattle.title.proofs.Numbered.{glyphs-from, glyphs-end}
+use Rattle.title_glyphs.proofs.Numbered.{glyphs-from, glyphs-end}
 
 -- a sum held twice is held once
 held-twice : (a b c : ℕ) → held (held (a + b) + c) ≡ held (a + (b + c))

@@ -5,7 +5,7 @@ use Rattle.layout.specs.declared.Rect.{Rect}
 use Rattle.buffer.specs.declared.Screen.{Screen}
 use Rattle.buffer.specs.Parts.{OnScreen}
 
--- It lies in one row of a screen, whose columns are so few that no sum of them is held: 512 are accepted.
+-- It lies in one row of a screen, whose columns are so few that no sum of them is held: at most 512 are accepted.
 pub record TitleArea (s : Screen) (cells : ℕ) (r : Rect) : Type 0 where
   pub on-screen : OnScreen s cells r
   pub one-row : r .height ≡ 1

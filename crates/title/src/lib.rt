@@ -37,7 +37,9 @@ fn draw_line(
     glyphs: &[u32],
 )
     requires { ⌜ TitleArea screen (length (now cells)) area ⌝ }
-    ensures { λ _. ⌜ now (cells .exit) ≡ drawn (screen .columns) (inRow (area .x) (rightOf area) (area .y) (titleLine (now (styles .entry)) alignment (area .width) (now (glyphs .entry)))) (now (cells .entry)) ⌝ }
+    ensures { λ _.
+        let drawing = inRow (area .x) (rightOf area) (area .y) (titleLine (now (styles .entry)) alignment (area .width) (now (glyphs .entry))) in
+        ⌜ now (cells .exit) ≡ drawn (screen .columns) drawing (now (cells .entry)) ⌝ }
 {
     let row = (area.y as usize) * (screen.columns as usize);
     let start = row + (area.x as usize);
@@ -62,7 +64,9 @@ pub fn draw_title(
     glyphs: &[u32],
 )
     requires { ⌜ TitleArea screen (length (now cells)) area ⌝ }
-    ensures { λ _. ⌜ now (cells .exit) ≡ drawn (screen .columns) (titleIn (now (styles .entry)) style area alignment (now (glyphs .entry))) (now (cells .entry)) ⌝ }
+    ensures { λ _.
+        let drawing = titleIn (now (styles .entry)) style area alignment (now (glyphs .entry)) in
+        ⌜ now (cells .exit) ≡ drawn (screen .columns) drawing (now (cells .entry)) ⌝ }
 {
     let ink = Ink::Style(buffer::style_at(styles, style));
     buffer::paint_area(screen, cells, area, ink);

@@ -14,7 +14,7 @@ use Rattle.layout.specs.Rect.{isEmpty}
 use Rattle.buffer.specs.declared.Screen.{Screen}
 use Rattle.title.specs.Fitting.{TitleArea}
 use Rattle.titles.specs.declared.Place.{Place}
-use Rattle.titles.specs.Titles.{withX, withWidth, pastTitle}
+use Rattle.titles.specs.Titles.{withX, withWidth, pastTitle, centeredFrom, centerOffset}
 use Rattle.titles.specs.Placing.{centerPlace, AreaFits}
 
 -- what isn't empty has a column
@@ -79,13 +79,13 @@ unfolding centerPlace
 center-area-fits s cells area total p fits e = rw e (go (leb total (area .width)) refl)
   where
     middle : Rect
-    middle = withWidth total (withX (held (area .x + (area .width - total) / 2)) area)
+    middle = withWidth total (centeredFrom total area)
 
     middle-edge : (x width : ℕ) → x + width < 2 ^ 15 → total ≤ width → held (x + (width - total) / 2) + total ≤ x + width
     middle-edge x width few h = omega arith
 
     go : (b : Bool) → leb total (area .width) ≡ b
-        → AreaFits s cells (cond {A = Place} b (record { area = middle; offset = 0; truncates = false }) (record { area = area; offset = (total - area .width) / 2; truncates = true }) .area)
+        → AreaFits s cells (cond {A = Place} b (record { area = middle; offset = 0; truncates = false }) (record { area = area; offset = centerOffset total area; truncates = true }) .area)
     go true e h =
         let k : total ≤ area .width = leb-true total (area .width) e in
         let f : TitleArea s cells area = fits (same-rows middle (area .x) (area .width) h (omega (arith, some-columns middle h))) in

@@ -6,14 +6,14 @@ use native.Mathlib.Omega.{arith}
 use lib.ListN.{length, getD, take, drop}
 use lib.Seq.{drop-length}
 use Rattle.text.specs.Line.{untilHead, linesFrom}
-use Rattle.text.proofs.TextLines.{Opens, rest, rest-is, rest-within, part-is, next-opens, line-first}
+use Rattle.text.proofs.TextLines.{AtHead, rest, rest-is, rest-within, part-is, next-opens, line-first}
 use Rattle.titles.specs.Placing.{titleOf}
 
-module _ (titles : List ℕ) (at n : ℕ) (h : at < length titles) (o : Opens titles at) (lent : n ≡ length (untilHead (rest titles (at + 1)))) where
+module _ (titles : List ℕ) (at n : ℕ) (h : at < length titles) (o : AtHead titles at) (lent : n ≡ length (untilHead (rest titles (at + 1)))) where
   length-is : n ≡ length (untilHead (drop (at + 1) titles))
   length-is = lent ∙ ap (λ (rs : List ℕ). length (untilHead rs)) (rest-is titles (at + 1))
 
-  pub title-opens : Opens titles (at + 1 + n)
+  pub title-opens : AtHead titles (at + 1 + n)
   title-opens = next-opens titles at n h o length-is
 
   -- the title at a head, and those after it
@@ -28,7 +28,7 @@ pub title-end : (titles : List ℕ) (at n : ℕ) → at < length titles → n �
 title-end titles at n h lent = omega (arith, lent, rest-within titles at h)
 
 -- past the last one none is left
-pub none-left : (titles : List ℕ) (at : ℕ) → Opens titles at → length titles ≤ at → linesFrom at (drop at titles) ≡ []
+pub none-left : (titles : List ℕ) (at : ℕ) → AtHead titles at → length titles ≤ at → linesFrom at (drop at titles) ≡ []
 none-left titles at o h =
     let e : at ≡ length titles = omega (arith, o .within) in
     ap (linesFrom at) (ap (λ (n : ℕ). drop n titles) e ∙ drop-length titles)

@@ -1,11 +1,10 @@
 -- Titles placed one after another: what a place comes to, and one title more.
-use Prim.Native.Nat.{ℕ, _+_, _-_, _/_, _<_, _≤_}
+use Prim.Native.Nat.{ℕ, _<_, _≤_}
 use mathlib.Core.Path.{_≡_, refl, sym, ap, _∙_}
 use mathlib.Core.Bool.{Bool, true, false}
 use mathlib.Core.List.{List, [], _∷_}
 use borrow.Author.Tests.{lt-ltb, le-ltb, le-leb, lt-leb}
 use lib.ListN.{length}
-use Rattle.num.specs.Held.{held}
 use Rattle.text.specs.declared.Alignment.{Alignment}
 use Rattle.text.specs.declared.Alignment.the-variants.{Left, Right}
 use Rattle.text.specs.Line.{TextLine}
@@ -13,13 +12,13 @@ use Rattle.layout.specs.declared.Rect.{Rect}
 use Rattle.layout.specs.Rect.{isEmpty}
 use Rattle.buffer.specs.declared.Screen.{Screen}
 use Rattle.buffer.specs.Drawing.{Drawing, drawn}
-use Rattle.buffer.proofs.Drawn.{drawn-length, drawn-then, drawn-same}
+use Rattle.buffer.proofs.Drawn.{drawn-length, drawn-then}
 use Rattle.block.specs.declared.Block.{Block}
 use Rattle.title.specs.Title.{titleLineWidth, titleIn}
 use Rattle.titles.specs.declared.Place.{Place}
 use Rattle.titles.specs.declared.Group.{Group}
-use Rattle.titles.specs.Titles.{isChosen, givenAlignment, withX, withWidth}
-use Rattle.titles.specs.Placing.{placedWidth, placedAlignment, nextPlace, placedTitles, centerPlace, AreaFits, titlesOf, titleOf, Moved}
+use Rattle.titles.specs.Titles.{isChosen, PlacedTitle, givenAlignment, titlesDrawn, withX, withWidth, centeredFrom, centerOffset}
+use Rattle.titles.specs.Placing.{placedWidth, placedAlignment, nextPlace, placedAt, placedTitles, centerPlace, AreaFits, titlesOf, titleOf, Moved}
 use Rattle.titles.proofs.Areas.{past-fits}
 
 -- ---- what a place comes to
@@ -41,13 +40,13 @@ pub ruleset alignments = (set-right, set-left, not-set)
 
 module _ (area : Rect) (total : ℕ) where
   -- titles that fit go to the middle
-  pub center-fits : (x : ℕ) → total ≤ area .width → x ≡ held (area .x + (area .width - total) / 2)
+  pub center-fits : (x : ℕ) → total ≤ area .width → x ≡ centeredFrom total area .x
       → record { area = withWidth total (withX x area); offset = 0; truncates = false } ≡ centerPlace area total
   unfolding centerPlace
   center-fits x h e = rw (le-leb total (area .width) h, e)
 
   -- of others as much is cut off at the left as at the right
-  pub center-truncates : area .width < total → record { area = area; offset = (total - area .width) / 2; truncates = true } ≡ centerPlace area total
+  pub center-truncates : area .width < total → record { area = area; offset = centerOffset total area; truncates = true } ≡ centerPlace area total
   unfolding centerPlace
   center-truncates h = rw (lt-leb total (area .width) h)
 
@@ -55,11 +54,10 @@ pub ruleset center-places = (center-fits, center-truncates)
 
 -- ---- one title more
 
--- in an area with no column or no row no title is drawn
-pub placed-none : (styles : List ℕ) (b : Block) (p : Place) (ts : List TextLine) (column row cell : ℕ) → isEmpty (p .area) ≡ true
-    → placedTitles styles b p ts column row cell ≡ cell
-placed-none styles b p [] column row cell e = refl
-placed-none styles b p (t ∷ ts) column row cell e = rw e
+-- in an area with no column or no row no title is placed
+pub placed-none : (p : Place) (ts : List TextLine) → isEmpty (p .area) ≡ true → placedTitles p ts ≡ []
+placed-none p [] e = refl
+placed-none p (t ∷ ts) e = rw e
 
 -- a title drawn in its part of the area
 module _ (p : Place) (records : List ℕ) (given width : ℕ) (told : given ≡ titleLineWidth records) (placed : width ≡ placedWidth p given) where
@@ -84,9 +82,9 @@ module _ (s : Screen) (styles : List ℕ) (b : Block) (g : Group) (head : ℕ) (
       record {
         fits = fits;
         same-length = refl;
-        draws = λ number ts. drawn-same (s .columns) _ _ cells some (λ column row cell _.
-            placed-none styles b p (titlesOf b g ts) column row cell (sym tested ∙ e)
-            ∙ sym (placed-none styles b p (titlesOf b g (titleOf number head records ∷ ts)) column row cell (sym tested ∙ e)));
+        draws = λ number ts.
+            ap (λ (placed : List PlacedTitle). drawn (s .columns) (titlesDrawn styles b placed) cells)
+            (placed-none p (titlesOf b g ts) (sym tested ∙ e) ∙ sym (placed-none p (titlesOf b g (titleOf number head records ∷ ts)) (sym tested ∙ e)));
       }
 
   module _ (has : Bool) (chosen : has ≡ isChosen b (g .position) (g .alignment) head) where
@@ -107,12 +105,12 @@ module _ (s : Screen) (styles : List ℕ) (b : Block) (g : Group) (head : ℕ) (
       abbrev title : Drawing
       title = titleIn styles (b .«titles_style») (withWidth width (p .area)) (placedAlignment p head) records
 
-      abbrev others : List TextLine → Drawing
-      others ts = placedTitles styles b (nextPlace p width) (titlesOf b g ts)
+      abbrev others : List TextLine → List PlacedTitle
+      others ts = placedTitles (nextPlace p width) (titlesOf b g ts)
 
-      first-drawn : (number : ℕ) (ts : List TextLine) (column row cell : ℕ)
-          → others ts column row (title column row cell) ≡ placedTitles styles b p (titlesOf b g (titleOf number head records ∷ ts)) column row cell
-      first-drawn number ts column row cell = rw (← chosen, of-group, ← tested, some-room)
+      first-placed : (number : ℕ) (ts : List TextLine)
+          → placedAt p (titleOf number head records) ∷ others ts ≡ placedTitles p (titlesOf b g (titleOf number head records ∷ ts))
+      first-placed number ts = rw (← chosen, of-group, ← tested, some-room)
 
       pub moved-drawn : next ≡ nextPlace p width → after ≡ drawn (s .columns) title cells → Moved s styles b g head records p cells next after
       moved-drawn en ea =
@@ -121,8 +119,8 @@ module _ (s : Screen) (styles : List ℕ) (b : Block) (g : Group) (head : ℕ) (
             fits = rw (en, n) (past-fits s (length cells) (p .area) width (fits (sym tested ∙ some-room)));
             same-length = n;
             draws = λ number ts.
-                rw (en, ea) (drawn-then (s .columns) title (others ts) cells)
-                ∙ drawn-same (s .columns) _ _ cells some (λ column row cell _. first-drawn number ts column row cell);
+                rw (en, ea) (drawn-then (s .columns) title (titlesDrawn styles b (others ts)) cells)
+                ∙ ap (λ (placed : List PlacedTitle). drawn (s .columns) (titlesDrawn styles b placed) cells) (first-placed number ts);
           }
 
 pub ruleset moves = (moved-full, moved-other, moved-drawn)

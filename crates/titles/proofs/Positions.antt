@@ -1,8 +1,8 @@
 -- The titles' area at a position of a rectangle that isn't empty, and the titles drawn in it.
 use Prim.Native.Nat.{ℕ, _+_, _-_, _<_, _≤_, _^_, min}
-use mathlib.Core.Path.{_≡_, refl}
+use mathlib.Core.Path.{_≡_, refl, sym, ap, _∙_}
 use mathlib.Core.Bool.{false}
-use mathlib.Core.List.{List, [], _∷_, reverse}
+use mathlib.Core.List.{List, [], _∷_, _++_, reverse}
 use native.Mathlib.Omega.{arith}
 use borrow.Author.Tests.{eqb-false}
 use lib.Dec.{eqb}
@@ -17,10 +17,10 @@ use Rattle.layout.specs.Rect.{bottomOf, isEmpty}
 use Rattle.buffer.specs.declared.Screen.{Screen}
 use Rattle.buffer.specs.Drawing.{drawn}
 use Rattle.buffer.specs.Parts.{OnScreen}
-use Rattle.buffer.proofs.Order.{first-then}
+use Rattle.buffer.proofs.Drawn.{drawn-then, drawn-none}
 use Rattle.block.specs.declared.Block.{Block}
 use Rattle.block.specs.Inner.{atLeft, atRight, taken}
-use Rattle.titles.specs.Titles.{filteredTitles, titlesRow, titlesArea, leftTitles, centerTitles, rightTitles, groupsIn, titlesAt, titlesOn}
+use Rattle.titles.specs.Titles.{filteredTitles, PlacedTitle, titleDrawn, titlesDrawn, titlesRow, titlesArea, leftTitles, centerTitles, rightTitles, groupsIn, titlesAt, titlesOn}
 use Rattle.titles.specs.Placing.{AreaFits}
 
 -- what the functions answer
@@ -81,29 +81,39 @@ on-columns s n met on = on .columns
 
 pub ruleset titles-fit = (titles-area-fits, titles-area-high, fits-still, on-columns)
 
+-- the titles of one list, and then those of another
+both-drawn : (columns : ℕ) (styles : List ℕ) (b : Block) (ps qs : List PlacedTitle) (cells next last : List ℕ)
+    → next ≡ drawn columns (titlesDrawn styles b ps) cells → last ≡ drawn columns (titlesDrawn styles b qs) next
+    → last ≡ drawn columns (titlesDrawn styles b (ps ++ qs)) cells
+both-drawn columns styles b [] qs cells next last p q = q ∙ ap (drawn columns (titlesDrawn styles b qs)) (p ∙ drawn-none columns cells)
+both-drawn columns styles b (x ∷ ps) qs cells next last p q =
+    both-drawn columns styles b ps qs (drawn columns (titleDrawn styles b x) cells) next last
+    (p ∙ sym (drawn-then columns (titleDrawn styles b x) (titlesDrawn styles b ps) cells)) q
+    ∙ drawn-then columns (titleDrawn styles b x) (titlesDrawn styles b (ps ++ qs)) cells
+
 module _ (columns : ℕ) (styles : List ℕ) (b : Block) (met : Rect) (titles : List ℕ) (cells : List ℕ) where
   -- left, centre, right
   pub groups-drawn : (position : TitlePosition) (area : Rect) (first second last : List ℕ)
-      → first ≡ drawn columns (leftTitles styles b area (filteredTitles b position Left (linesFrom 0 titles))) cells
-      → second ≡ drawn columns (centerTitles styles b area (filteredTitles b position Center (linesFrom 0 titles))) first
-      → last ≡ drawn columns (rightTitles styles b area (reverse (filteredTitles b position Right (linesFrom 0 titles)))) second
-      → last ≡ drawn columns (groupsIn styles b position area (linesFrom 0 titles)) cells
+      → first ≡ drawn columns (titlesDrawn styles b (leftTitles area (filteredTitles b position Left (linesFrom 0 titles)))) cells
+      → second ≡ drawn columns (titlesDrawn styles b (centerTitles area (filteredTitles b position Center (linesFrom 0 titles)))) first
+      → last ≡ drawn columns (titlesDrawn styles b (rightTitles area (reverse (filteredTitles b position Right (linesFrom 0 titles))))) second
+      → last ≡ drawn columns (titlesDrawn styles b (groupsIn b position area (linesFrom 0 titles))) cells
   unfolding groupsIn
   groups-drawn position area first second last p q r =
-      first-then columns _ (centerTitles styles b area (filteredTitles b position Center (linesFrom 0 titles))
-      ∷ rightTitles styles b area (reverse (filteredTitles b position Right (linesFrom 0 titles))) ∷ []) cells first last p
-      (first-then columns _ (rightTitles styles b area (reverse (filteredTitles b position Right (linesFrom 0 titles))) ∷ []) first second last q r)
+      let left : List PlacedTitle = leftTitles area (filteredTitles b position Left (linesFrom 0 titles)) in
+      let center : List PlacedTitle = centerTitles area (filteredTitles b position Center (linesFrom 0 titles)) in
+      both-drawn columns styles b (left ++ center) _ cells second last (both-drawn columns styles b left center cells first second p q) r
 
   -- in the titles' area
   pub position-drawn : (position : TitlePosition) (area : Rect) (last : List ℕ) → area ≡ titlesArea b position met
-      → last ≡ drawn columns (groupsIn styles b position area (linesFrom 0 titles)) cells
-      → last ≡ drawn columns (titlesAt styles b position met (linesFrom 0 titles)) cells
+      → last ≡ drawn columns (titlesDrawn styles b (groupsIn b position area (linesFrom 0 titles))) cells
+      → last ≡ drawn columns (titlesDrawn styles b (titlesAt b position met (linesFrom 0 titles))) cells
   position-drawn position area last e p = rw e at p
 
   -- top, bottom
-  pub titles-drawn : (first last : List ℕ) → first ≡ drawn columns (titlesAt styles b Top met (linesFrom 0 titles)) cells
-      → last ≡ drawn columns (titlesAt styles b Bottom met (linesFrom 0 titles)) first → last ≡ drawn columns (titlesOn styles b met titles) cells
+  pub titles-drawn : (first last : List ℕ) → first ≡ drawn columns (titlesDrawn styles b (titlesAt b Top met (linesFrom 0 titles))) cells
+      → last ≡ drawn columns (titlesDrawn styles b (titlesAt b Bottom met (linesFrom 0 titles))) first → last ≡ drawn columns (titlesOn styles b met titles) cells
   unfolding titlesOn
-  titles-drawn first last p q = first-then columns _ (titlesAt styles b Bottom met (linesFrom 0 titles) ∷ []) cells first last p q
+  titles-drawn first last p q = both-drawn columns styles b (titlesAt b Top met (linesFrom 0 titles)) (titlesAt b Bottom met (linesFrom 0 titles)) cells first last p q
 
 pub ruleset positions = (groups-drawn, position-drawn, titles-drawn)

@@ -13,30 +13,22 @@ use Rattle.layout.specs.declared.Rect.{Rect}
 use Rattle.layout.specs.Rect.{rightOf, isEmpty}
 use Rattle.buffer.specs.declared.Screen.{Screen}
 use Rattle.buffer.specs.Drawing.{drawn}
-use Rattle.buffer.proofs.Drawn.{drawn-length, drawn-then, drawn-same, drawn-none}
+use Rattle.buffer.proofs.Drawn.{drawn-length, drawn-then, drawn-none}
 use Rattle.block.specs.declared.Block.{Block}
 use Rattle.title.specs.Title.{titleLineWidth, titleIn}
 use Rattle.title.specs.Fitting.{TitleArea}
 use Rattle.titles.specs.declared.Group.{Group}
-use Rattle.titles.specs.Titles.{isChosen, filteredTitles, givenAlignment, withX, withWidth, rightTitles}
+use Rattle.titles.specs.Titles.{isChosen, filteredTitles, PlacedTitle, givenAlignment, titlesDrawn, withX, withWidth, rightPart, beforeTitle, rightTitles}
 use Rattle.titles.specs.Placing.{AreaFits, titlesOf, titleOf, MovedBack, Last}
 
 -- ---- a title's part of the area, and what is left
 
--- the part of a title of so many columns, at the right end
-abbrev pub rightPart : Rect → ℕ → Rect
-rightPart area width = withX (max (rightOf area - width) (area .x)) (withWidth (min width (area .width)) area)
-
--- what is left before it, and before one column between titles
-abbrev pub leftBefore : Rect → ℕ → Rect
-leftBefore area width = withWidth (area .width - width - 1) area
-
 pub part-is : (area : Rect) (width right start x columns : ℕ) → right ≡ rightOf area → start ≡ right - width → x ≡ max start (area .x) → columns ≡ min width (area .width)
-    → record { x = x; y = area .y; width = columns; height = area .height } ≡ rightPart area width
+    → record { x = x; y = area .y; width = columns; height = area .height } ≡ rightPart width area
 part-is area width right start x columns p q r s = rw (r, q, p, s)
 
 pub left-is : (area : Rect) (width without left : ℕ) → without ≡ area .width - width → left ≡ without - 1
-    → record { x = area .x; y = area .y; width = left; height = area .height } ≡ leftBefore area width
+    → record { x = area .x; y = area .y; width = left; height = area .height } ≡ beforeTitle width area
 left-is area width without left p q = rw (q, p)
 
 -- the part ends where the area does, since no sum is held
@@ -58,10 +50,10 @@ module _ (s : Screen) (n : ℕ) (area : Rect) (t : TitleArea s n area) where
         few-columns = t .few-columns;
       }
 
-  pub part-fits : (width : ℕ) (part : Rect) → part ≡ rightPart area width → TitleArea s n part
+  pub part-fits : (width : ℕ) (part : Rect) → part ≡ rightPart width area → TitleArea s n part
   part-fits width part e = rw e (row-fits _ _ (part-ends (area .x) (area .width) width (s .columns) (t .on-screen .right) (t .few-columns)))
 
-  left-fits : (width : ℕ) → TitleArea s n (leftBefore area width)
+  left-fits : (width : ℕ) → TitleArea s n (beforeTitle width area)
   left-fits width = row-fits _ _ (left-ends (area .x) (area .width) width (s .columns) (t .on-screen .right))
 
 -- an area with room lies on the screen
@@ -71,25 +63,24 @@ fits-with-room s n area empty f e h = f (sym e ∙ h)
 -- ---- one title drawn at the right end
 
 module _ (area : Rect) (glyphs : List ℕ) (width : ℕ) (e : width ≡ titleLineWidth glyphs) where
-  pub before-left : (r : Rect) → r ≡ leftBefore area width → r ≡ leftBefore area (titleLineWidth glyphs)
-  before-left r p = p ∙ ap (leftBefore area) e
+  pub before-left : (r : Rect) → r ≡ beforeTitle width area → r ≡ beforeTitle (titleLineWidth glyphs) area
+  before-left r p = p ∙ ap (λ (w : ℕ). beforeTitle w area) e
 
   pub before-drawn : (columns : ℕ) (styles : List ℕ) (style head : ℕ) (part : Rect) (alignment : Alignment) (cells next : List ℕ)
-      → part ≡ rightPart area width → alignment ≡ givenAlignment head → next ≡ drawn columns (titleIn styles style part alignment glyphs) cells
-      → next ≡ drawn columns (titleIn styles style (rightPart area (titleLineWidth glyphs)) (givenAlignment head) glyphs) cells
+      → part ≡ rightPart width area → alignment ≡ givenAlignment head → next ≡ drawn columns (titleIn styles style part alignment glyphs) cells
+      → next ≡ drawn columns (titleIn styles style (rightPart (titleLineWidth glyphs) area) (givenAlignment head) glyphs) cells
   before-drawn columns styles style head part alignment cells next p a d =
-      d ∙ ap (λ (r : Rect). drawn columns (titleIn styles style r alignment glyphs) cells) (p ∙ ap (rightPart area) e)
-      ∙ ap (λ (x : Alignment). drawn columns (titleIn styles style (rightPart area (titleLineWidth glyphs)) x glyphs) cells) a
+      d ∙ ap (λ (r : Rect). drawn columns (titleIn styles style r alignment glyphs) cells) (p ∙ ap (λ (w : ℕ). rightPart w area) e)
+      ∙ ap (λ (x : Alignment). drawn columns (titleIn styles style (rightPart (titleLineWidth glyphs) area) x glyphs) cells) a
 
 pub ruleset at-right-end = (part-is, left-is, part-fits, before-left, before-drawn)
 
 -- ---- one title more
 
--- in an empty area nothing is drawn
-nothing-right : (styles : List ℕ) (b : Block) (area : Rect) (ts : List TextLine) (column row cell : ℕ) → isEmpty area ≡ true
-    → rightTitles styles b area ts column row cell ≡ cell
-nothing-right styles b area [] column row cell e = refl
-nothing-right styles b area (t ∷ ts) column row cell e = rw e
+-- in an empty area none is placed
+nothing-right : (area : Rect) (ts : List TextLine) → isEmpty area ≡ true → rightTitles area ts ≡ []
+nothing-right area [] e = refl
+nothing-right area (t ∷ ts) e = rw e
 
 module _ (s : Screen) (styles : List ℕ) (b : Block) (g : Group) (head : ℕ) (glyphs : List ℕ) (area : Rect) (cells : List ℕ)
     (f : AreaFits s (length cells) area) (some : 0 < s .columns) (empty : Bool) (e : empty ≡ isEmpty area) where
@@ -99,18 +90,17 @@ module _ (s : Screen) (styles : List ℕ) (b : Block) (g : Group) (head : ℕ) (
       record {
         fits = f;
         same-length = refl;
-        draws = λ number ts. drawn-same (s .columns) _ _ cells some
-            (λ column row cell _.
-            nothing-right styles b area ts column row cell none
-            ∙ sym (nothing-right styles b area (cond (isChosen b (g .position) (g .alignment) head) (titleOf number head glyphs ∷ ts) ts) column row cell none));
+        draws = λ number ts.
+            ap (λ (placed : List PlacedTitle). drawn (s .columns) (titlesDrawn styles b placed) cells)
+            (nothing-right area ts none ∙ sym (nothing-right area (cond (isChosen b (g .position) (g .alignment) head) (titleOf number head glyphs ∷ ts) ts) none));
       }
 
   module _ (chosen : Bool) (c : chosen ≡ isChosen b (g .position) (g .alignment) head) where
     pub back-other : chosen ≡ false → MovedBack s styles b g head glyphs area cells area cells
     back-other h = record { fits = f; same-length = refl; draws = λ number ts. rw (← c, h) }
 
-    pub back-drawn : (left : Rect) (next : List ℕ) → empty ≡ false → chosen ≡ true → left ≡ leftBefore area (titleLineWidth glyphs)
-        → next ≡ drawn (s .columns) (titleIn styles (b .«titles_style») (rightPart area (titleLineWidth glyphs)) (givenAlignment head) glyphs) cells
+    pub back-drawn : (left : Rect) (next : List ℕ) → empty ≡ false → chosen ≡ true → left ≡ beforeTitle (titleLineWidth glyphs) area
+        → next ≡ drawn (s .columns) (titleIn styles (b .«titles_style») (rightPart (titleLineWidth glyphs) area) (givenAlignment head) glyphs) cells
         → MovedBack s styles b g head glyphs area cells left next
     back-drawn left next room h p d =
         let some-room : isEmpty area ≡ false = sym e ∙ room in
@@ -120,8 +110,7 @@ module _ (s : Screen) (styles : List ℕ) (b : Block) (g : Group) (head : ℕ) (
           fits = λ _. rw (p, size) (left-fits s (length cells) area (f some-room) (titleLineWidth glyphs));
           same-length = size;
           draws = λ number ts.
-              rw (p, d, is-chosen) (drawn-then (s .columns) _ _ cells
-              ∙ drawn-same (s .columns) _ (rightTitles styles b area (titleOf number head glyphs ∷ ts)) cells some (λ column row cell _. rw some-room));
+              rw (p, d, is-chosen) (drawn-then (s .columns) _ _ cells ∙ rw some-room);
         }
 
 pub ruleset moved-back = (fits-with-room, back-empty, back-other, back-drawn)
@@ -164,7 +153,7 @@ abbrev pub lastToFirst : Block → Group → List ℕ → ℕ → List TextLine
 lastToFirst b g titles end = reverse (titlesOf b g (linesFrom 0 (take end titles)))
 
 module _ (s : Screen) (styles titles : List ℕ) (b : Block) (g : Group) (area : Rect) (end count : ℕ) (e : count ≡ length (linesFrom 0 (take end titles))) where
-  pub backward-none : (cells : List ℕ) → count ≡ 0 → cells ≡ drawn (s .columns) (rightTitles styles b area (lastToFirst b g titles end)) cells
+  pub backward-none : (cells : List ℕ) → count ≡ 0 → cells ≡ drawn (s .columns) (titlesDrawn styles b (rightTitles area (lastToFirst b g titles end))) cells
   backward-none cells z =
       let none : linesFrom 0 (take end titles) ≡ [] = no-titles (linesFrom 0 (take end titles)) (sym e ∙ z) in
       rw none (sym (drawn-none (s .columns) cells))
@@ -175,14 +164,14 @@ module _ (s : Screen) (styles titles : List ℕ) (b : Block) (g : Group) (area :
 
     pub backward-more : (cells next last : List ℕ) (left : Rect)
         → MovedBack s styles b g (getD titles at 0) (take (end - (at + 1)) (drop (at + 1) titles)) area cells left next
-        → last ≡ drawn (s .columns) (rightTitles styles b left (lastToFirst b g titles at)) next
-        → last ≡ drawn (s .columns) (rightTitles styles b area (lastToFirst b g titles end)) cells
+        → last ≡ drawn (s .columns) (titlesDrawn styles b (rightTitles left (lastToFirst b g titles at))) next
+        → last ≡ drawn (s .columns) (titlesDrawn styles b (rightTitles area (lastToFirst b g titles end))) cells
     backward-more cells next last left m d =
         let all : lastToFirst b g titles end
         ≡ cond (isChosen b (g .position) (g .alignment) (getD titles at 0)) (titleAt titles end at ∷ lastToFirst b g titles at) (lastToFirst b g titles at)
         = ap (λ (ts : List TextLine). reverse (titlesOf b g ts)) (l .is-last) ∙ last-first b g (linesFrom 0 (take at titles)) (titleAt titles end at) in
         d ∙ m .draws (at + 1) (lastToFirst b g titles at)
-        ∙ ap (λ (ts : List TextLine). drawn (s .columns) (rightTitles styles b area ts) cells) (sym all)
+        ∙ ap (λ (ts : List TextLine). drawn (s .columns) (titlesDrawn styles b (rightTitles area ts)) cells) (sym all)
 
 pub moved-fits : (s : Screen) (styles : List ℕ) (b : Block) (g : Group) (head : ℕ) (glyphs : List ℕ) (area : Rect) (cells : List ℕ) (left : Rect) (next : List ℕ)
     → MovedBack s styles b g head glyphs area cells left next → AreaFits s (length next) left
@@ -197,8 +186,8 @@ pub all-counted : (titles : List ℕ) (count : ℕ) → count ≡ length (linesF
 all-counted titles count e = e ∙ rw (take-length titles)
 
 pub all-drawn : (columns : ℕ) (styles titles : List ℕ) (b : Block) (g : Group) (area : Rect) (cells next : List ℕ)
-    → next ≡ drawn columns (rightTitles styles b area (lastToFirst b g titles (length titles))) cells
-    → next ≡ drawn columns (rightTitles styles b area (reverse (filteredTitles b (g .position) (g .alignment) (linesFrom 0 titles)))) cells
+    → next ≡ drawn columns (titlesDrawn styles b (rightTitles area (lastToFirst b g titles (length titles)))) cells
+    → next ≡ drawn columns (titlesDrawn styles b (rightTitles area (reverse (filteredTitles b (g .position) (g .alignment) (linesFrom 0 titles))))) cells
 all-drawn columns styles titles b g area cells next e = rw (take-length titles) at e
 
 pub ruleset all-right = (all-counted, all-drawn)

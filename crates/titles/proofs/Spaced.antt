@@ -6,10 +6,8 @@ use mathlib.Core.List.{List, [], _∷_}
 use native.Mathlib.Omega.{arith}
 use lib.ListN.{length, getD, take, drop}
 use Rattle.num.specs.Held.{held}
-use Rattle.text.specs.Line.{TextLine, untilHead, linesFrom}
-use Rattle.text.proofs.TextLines.{Opens, rest}
-use Rattle.refuse.specs.Causes.{notOpening}
-use Rattle.refuse.proofs.TitleScan.{opens-start}
+use Rattle.text.specs.Line.{TextLine, untilHead, linesFrom, Opens}
+use Rattle.text.proofs.TextLines.{AtHead, rest, opens-start}
 use Rattle.block.specs.declared.Block.{Block}
 use Rattle.title.specs.Title.{titleLineWidth}
 use Rattle.titles.specs.declared.Group.{Group}
@@ -30,11 +28,11 @@ module _ (b : Block) (g : Group) (head : ℕ) (records : List ℕ) (sum : ℕ) (
 
 -- titles added up to a head
 pub record Summing (b : Block) (g : Group) (titles : List ℕ) (sum at : ℕ) : Type 0 where
-  pub opens : Opens titles at
+  pub opens : AtHead titles at
   pub same : spacedFrom sum (titlesOf b g (linesFrom at (drop at titles))) ≡ spacedFrom 0 (titlesOf b g (linesFrom 0 titles))
 
 module _ (b : Block) (g : Group) (titles : List ℕ) where
-  pub sum-starts : notOpening titles ≡ false → Summing b g titles 0 0
+  pub sum-starts : Opens titles → Summing b g titles 0 0
   sum-starts e = record { opens = opens-start titles e; same = refl }
 
   module _ (sum at : ℕ) (w : Summing b g titles sum at) where

@@ -1,33 +1,31 @@
 -- Titles drawn one after another: drawing those that are left comes to drawing all.
 use Prim.Native.Nat.{ℕ, suc, _+_, _-_, _<_, _≤_}
 use mathlib.Core.Path.{_≡_, refl, sym, ap, _∙_}
-use mathlib.Core.Bool.{false}
 use mathlib.Core.List.{List}
 use lib.ListN.{length, getD, take, drop}
-use Rattle.text.specs.Line.{TextLine, untilHead, linesFrom}
-use Rattle.text.proofs.TextLines.{Opens, rest}
+use Rattle.text.specs.Line.{TextLine, untilHead, linesFrom, Opens}
+use Rattle.text.proofs.TextLines.{AtHead, rest, opens-start}
 use Rattle.buffer.specs.declared.Screen.{Screen}
 use Rattle.buffer.specs.Drawing.{drawn}
 use Rattle.buffer.proofs.Drawn.{drawn-none}
-use Rattle.refuse.specs.Causes.{notOpening}
-use Rattle.refuse.proofs.TitleScan.{opens-start}
 use Rattle.block.specs.declared.Block.{Block}
 use Rattle.titles.specs.declared.Place.{Place}
 use Rattle.titles.specs.declared.Group.{Group}
+use Rattle.titles.specs.Titles.{titlesDrawn}
 use Rattle.titles.specs.Placing.{placedTitles, AreaFits, titlesOf, Moved}
 use Rattle.titles.proofs.NextTitle.{title-opens, title-first, none-left}
 
 -- titles drawn up to a head: drawing those that are left from the place reached comes to drawing all
 pub record Walking (s : Screen) (styles : List ℕ) (b : Block) (g : Group) (titles : List ℕ) (start : Place) (old : List ℕ) (cells : List ℕ) (p : Place) (at : ℕ) : Type 0 where
   pub some : 0 < s .columns
-  pub opens : Opens titles at
+  pub opens : AtHead titles at
   pub fits : AreaFits s (length cells) (p .area)
   pub same-length : length cells ≡ length old
-  pub draws : drawn (s .columns) (placedTitles styles b p (titlesOf b g (linesFrom at (drop at titles)))) cells
-      ≡ drawn (s .columns) (placedTitles styles b start (titlesOf b g (linesFrom 0 titles))) old
+  pub draws : drawn (s .columns) (titlesDrawn styles b (placedTitles p (titlesOf b g (linesFrom at (drop at titles))))) cells
+      ≡ drawn (s .columns) (titlesDrawn styles b (placedTitles start (titlesOf b g (linesFrom 0 titles)))) old
 
 module _ (s : Screen) (styles : List ℕ) (b : Block) (g : Group) (titles : List ℕ) (start : Place) (old : List ℕ) where
-  pub walk-starts : 0 < s .columns → notOpening titles ≡ false → AreaFits s (length old) (start .area) → Walking s styles b g titles start old old start 0
+  pub walk-starts : 0 < s .columns → Opens titles → AreaFits s (length old) (start .area) → Walking s styles b g titles start old old start 0
   walk-starts some e f = record { some = some; opens = opens-start titles e; fits = f; same-length = refl; draws = refl }
 
   module _ (cells : List ℕ) (p : Place) (at : ℕ) (w : Walking s styles b g titles start old cells p at) where
@@ -42,11 +40,11 @@ module _ (s : Screen) (styles : List ℕ) (b : Block) (g : Group) (titles : List
           same-length = m .same-length ∙ w .same-length;
           draws =
               m .draws (suc at) (linesFrom (at + 1 + n) (drop (at + 1 + n) titles))
-              ∙ ap (λ (ts : List TextLine). drawn (s .columns) (placedTitles styles b p (titlesOf b g ts)) cells) (sym (title-first titles at n h (w .opens) lent))
+              ∙ ap (λ (ts : List TextLine). drawn (s .columns) (titlesDrawn styles b (placedTitles p (titlesOf b g ts))) cells) (sym (title-first titles at n h (w .opens) lent))
               ∙ w .draws;
         }
 
-    pub walk-ends : length titles ≤ at → cells ≡ drawn (s .columns) (placedTitles styles b start (titlesOf b g (linesFrom 0 titles))) old
+    pub walk-ends : length titles ≤ at → cells ≡ drawn (s .columns) (titlesDrawn styles b (placedTitles start (titlesOf b g (linesFrom 0 titles)))) old
     walk-ends h = sym (drawn-none (s .columns) cells) ∙ rw (none-left titles at (w .opens) h) at (w .draws)
 
     pub walk-room : AreaFits s (length cells) (p .area) × (0 < s .columns)

@@ -13,13 +13,12 @@ ghost use mathlib.Core.Bool.{false};
 ghost use Prim.Native.Nat.{_<_};
 ghost use lib.ListN.{length};
 ghost use Rattle.text.specs.declared.Alignment.the-variants.{Left, Center};
-ghost use Rattle.text.specs.Line.{linesFrom};
+ghost use Rattle.text.specs.Line.{linesFrom, Opens};
 ghost use Rattle.buffer.specs.Drawing.{drawn};
-ghost use Rattle.refuse.specs.Causes.{notOpening};
-ghost use Rattle.title.specs.Title.{titleLineWidth, titleIn};
+ghost use Rattle.title.specs.Title.{titleLineWidth};
 ghost use Rattle.title.specs.Fitting.{TitleArea};
-ghost use Rattle.titles.specs.Titles.{filteredTitles, withWidth, spacedFrom, leftTitles, centerTitles};
-ghost use Rattle.titles.specs.Placing.{placedWidth, placedAlignment, nextPlace, placedTitles, centerPlace, AreaFits, titlesOf, Added, Moved};
+ghost use Rattle.titles.specs.Titles.{filteredTitles, titleDrawn, titlesDrawn, spacedFrom, leftTitles, centerTitles};
+ghost use Rattle.titles.specs.Placing.{placedWidth, nextPlace, placedAt, placedTitles, centerPlace, AreaFits, titlesOf, titleOf, Added, Moved};
 
 // Draws a title at a place with room, and answers the place after it.
 fn draw_at(
@@ -33,7 +32,9 @@ fn draw_at(
 ) -> Place
     requires { ⌜ TitleArea screen (length (now cells)) (place .area) ⌝ }
     ensures place { λ r. ⌜ r ≡ nextPlace place (placedWidth place (titleLineWidth (now (glyphs .entry)))) ⌝ }
-    ensures drawn { λ r. ⌜ now (cells .exit) ≡ drawn (screen .columns) (titleIn (now (styles .entry)) (block .«titles_style») (withWidth (placedWidth place (titleLineWidth (now (glyphs .entry)))) (place .area)) (placedAlignment place word) (now (glyphs .entry))) (now (cells .entry)) ⌝ }
+    ensures drawn { λ r.
+        let drawing = titleDrawn (now (styles .entry)) block (placedAt place (titleOf 0 word (now (glyphs .entry)))) in
+        ⌜ now (cells .exit) ≡ drawn (screen .columns) drawing (now (cells .entry)) ⌝ }
 {
     let area = place.area;
     let width = place.width(title::line_width(glyphs));
@@ -89,9 +90,11 @@ fn draw_forward(
     group: Group,
     place: Place,
 )
-    requires { ⌜ (0 < screen .columns) × (notOpening (now titles) ≡ false) ⌝ }
+    requires { ⌜ (0 < screen .columns) × Opens (now titles) ⌝ }
     requires { ⌜ AreaFits screen (length (now cells)) (place .area) ⌝ }
-    ensures { λ _. ⌜ now (cells .exit) ≡ drawn (screen .columns) (placedTitles (now (styles .entry)) block place (titlesOf block group (linesFrom 0 (now (titles .entry))))) (now (cells .entry)) ⌝ }
+    ensures { λ _.
+        let drawing = titlesDrawn (now (styles .entry)) block (placedTitles place (titlesOf block group (linesFrom 0 (now (titles .entry))))) in
+        ⌜ now (cells .exit) ≡ drawn (screen .columns) drawing (now (cells .entry)) ⌝ }
 {
     let mut place = place;
     let mut at = 0;
@@ -124,7 +127,7 @@ fn add_spaced(sum: u16, block: Block, group: Group, word: u32, glyphs: &[u32]) -
 
 // The columns of a group's titles, with one after each.
 fn spaced_width(titles: &[u32], block: Block, group: Group) -> u16
-    requires { ⌜ notOpening (now titles) ≡ false ⌝ }
+    requires { ⌜ Opens (now titles) ⌝ }
     ensures { λ r. ⌜ r ≡ spacedFrom 0 (titlesOf block group (linesFrom 0 (now (titles .entry)))) ⌝ }
 {
     let mut sum: u16 = 0;
@@ -148,9 +151,11 @@ pub fn draw_left(
     position: TitlePosition,
     area: Rect,
 )
-    requires { ⌜ (0 < screen .columns) × (notOpening (now titles) ≡ false) ⌝ }
+    requires { ⌜ (0 < screen .columns) × Opens (now titles) ⌝ }
     requires { ⌜ AreaFits screen (length (now cells)) area ⌝ }
-    ensures { λ _. ⌜ now (cells .exit) ≡ drawn (screen .columns) (leftTitles (now (styles .entry)) block area (filteredTitles block position Left (linesFrom 0 (now (titles .entry))))) (now (cells .entry)) ⌝ }
+    ensures { λ _.
+        let drawing = titlesDrawn (now (styles .entry)) block (leftTitles area (filteredTitles block position Left (linesFrom 0 (now (titles .entry))))) in
+        ⌜ now (cells .exit) ≡ drawn (screen .columns) drawing (now (cells .entry)) ⌝ }
 {
     let group = Group {
         position,
@@ -199,9 +204,11 @@ pub fn draw_center(
     position: TitlePosition,
     area: Rect,
 )
-    requires { ⌜ (0 < screen .columns) × (notOpening (now titles) ≡ false) ⌝ }
+    requires { ⌜ (0 < screen .columns) × Opens (now titles) ⌝ }
     requires { ⌜ AreaFits screen (length (now cells)) area × (area .height ≡ 1) ⌝ }
-    ensures { λ _. ⌜ now (cells .exit) ≡ drawn (screen .columns) (centerTitles (now (styles .entry)) block area (filteredTitles block position Center (linesFrom 0 (now (titles .entry))))) (now (cells .entry)) ⌝ }
+    ensures { λ _.
+        let drawing = titlesDrawn (now (styles .entry)) block (centerTitles area (filteredTitles block position Center (linesFrom 0 (now (titles .entry))))) in
+        ⌜ now (cells .exit) ≡ drawn (screen .columns) drawing (now (cells .entry)) ⌝ }
 {
     let group = Group {
         position,

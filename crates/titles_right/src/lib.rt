@@ -10,20 +10,19 @@ use titles::Group;
 use titles::heads;
 ghost use mathlib.Core.Path.{_≡_};
 ghost use mathlib.Core.List.{reverse};
-ghost use Prim.Native.Nat.{_-_, _≤_, min, max, _<_};
+ghost use Prim.Native.Nat.{_≤_, _<_};
 ghost use lib.ListN.{length, take};
 ghost use Rattle.text.specs.declared.Alignment.the-variants.{Right};
 ghost use Rattle.text.specs.Line.{linesFrom};
-ghost use Rattle.layout.specs.Rect.{rightOf};
 ghost use Rattle.buffer.specs.Drawing.{drawn};
-ghost use Rattle.title.specs.Title.{titleLineWidth, titleIn};
+ghost use Rattle.title.specs.Title.{titleLineWidth};
 ghost use Rattle.title.specs.Fitting.{TitleArea};
-ghost use Rattle.titles.specs.Titles.{filteredTitles, givenAlignment, withX, withWidth, rightTitles};
-ghost use Rattle.titles.specs.Placing.{AreaFits, titlesOf, MovedBack};
+ghost use Rattle.titles.specs.Titles.{filteredTitles, placedAsGiven, titleDrawn, titlesDrawn, rightPart, beforeTitle, rightTitles};
+ghost use Rattle.titles.specs.Placing.{AreaFits, titlesOf, titleOf, MovedBack};
 
 // What is left of an area before a title of so many columns at its right end, and one column between titles.
 fn before_title(area: Rect, width: u16) -> Rect
-    ensures { λ r. ⌜ r ≡ withWidth (area .width - width - 1) area ⌝ }
+    ensures { λ r. ⌜ r ≡ beforeTitle width area ⌝ }
 {
     Rect {
         x: area.x,
@@ -35,7 +34,7 @@ fn before_title(area: Rect, width: u16) -> Rect
 
 // The part of an area that a title of so many columns gets at its right end.
 fn right_part(area: Rect, width: u16) -> Rect
-    ensures { λ r. ⌜ r ≡ withX (max (rightOf area - width) (area .x)) (withWidth (min width (area .width)) area) ⌝ }
+    ensures { λ r. ⌜ r ≡ rightPart width area ⌝ }
 {
     Rect {
         x: num::max(num::saturating_sub(area.right(), width), area.x),
@@ -56,8 +55,11 @@ fn draw_before(
     glyphs: &[u32],
 ) -> Rect
     requires { ⌜ TitleArea screen (length (now cells)) area ⌝ }
-    ensures left { λ r. ⌜ r ≡ withWidth (area .width - titleLineWidth (now (glyphs .entry)) - 1) area ⌝ }
-    ensures drawn { λ r. ⌜ now (cells .exit) ≡ drawn (screen .columns) (titleIn (now (styles .entry)) (block .«titles_style») (withX (max (rightOf area - titleLineWidth (now (glyphs .entry))) (area .x)) (withWidth (min (titleLineWidth (now (glyphs .entry))) (area .width)) area)) (givenAlignment word) (now (glyphs .entry))) (now (cells .entry)) ⌝ }
+    ensures left { λ r. ⌜ r ≡ beforeTitle (titleLineWidth (now (glyphs .entry))) area ⌝ }
+    ensures drawn { λ r.
+        let part = rightPart (titleLineWidth (now (glyphs .entry))) area in
+        let drawing = titleDrawn (now (styles .entry)) block (placedAsGiven part (titleOf 0 word (now (glyphs .entry)))) in
+        ⌜ now (cells .exit) ≡ drawn (screen .columns) drawing (now (cells .entry)) ⌝ }
 {
     let width = title::line_width(glyphs);
     let part = right_part(area, width);
@@ -111,7 +113,10 @@ fn draw_backward(
 )
     requires { ⌜ (0 < screen .columns) × (end ≤ length (now titles)) × (count ≡ length (linesFrom 0 (take end (now titles)))) ⌝ }
     requires { ⌜ AreaFits screen (length (now cells)) area ⌝ }
-    ensures { λ _. ⌜ now (cells .exit) ≡ drawn (screen .columns) (rightTitles (now (styles .entry)) block area (reverse (titlesOf block group (linesFrom 0 (take end (now (titles .entry))))))) (now (cells .entry)) ⌝ }
+    ensures { λ _.
+        let lines = linesFrom 0 (take end (now (titles .entry))) in
+        let drawing = titlesDrawn (now (styles .entry)) block (rightTitles area (reverse (titlesOf block group lines))) in
+        ⌜ now (cells .exit) ≡ drawn (screen .columns) drawing (now (cells .entry)) ⌝ }
 {
     if count == 0 {
         return;
@@ -153,7 +158,10 @@ pub fn draw_right(
 )
     requires { ⌜ 0 < screen .columns ⌝ }
     requires { ⌜ AreaFits screen (length (now cells)) area ⌝ }
-    ensures { λ _. ⌜ now (cells .exit) ≡ drawn (screen .columns) (rightTitles (now (styles .entry)) block area (reverse (filteredTitles block position Right (linesFrom 0 (now (titles .entry)))))) (now (cells .entry)) ⌝ }
+    ensures { λ _.
+        let lines = linesFrom 0 (now (titles .entry)) in
+        let drawing = titlesDrawn (now (styles .entry)) block (rightTitles area (reverse (filteredTitles block position Right lines))) in
+        ⌜ now (cells .exit) ≡ drawn (screen .columns) drawing (now (cells .entry)) ⌝ }
 {
     let group = Group {
         position,

@@ -18,7 +18,14 @@ between-requires c κs = search needs
 
 returns : tie.Need-returns
 unfolding above
-returns c = cc
+returns c =
+    let first = c .before .before in
+    rw (
+      c .between .ensures,
+      c .before .min .ensures,
+      first .bottom .ensures,
+      first .before .right .ensures,
+    )
 
 pub above-spec : {M : Type 1} → statement M
 above-spec =

@@ -21,7 +21,15 @@ between-requires c κs = search needs
 
 returns : tie.Need-returns
 unfolding below
-returns c = cc
+returns c =
+    let first = c .before .before in
+    rw (
+      c .between .ensures,
+      c .before .bottom2 .ensures,
+      first .right .ensures,
+      first .before .max .ensures,
+      first .before .before .bottom .ensures,
+    )
 
 pub below-spec : {M : Type 1} → statement M
 below-spec =

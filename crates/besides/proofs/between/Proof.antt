@@ -10,7 +10,7 @@ saturating-sub-requires-2 : tie.Need-saturating-sub-requires-2
 saturating-sub-requires-2 c κs = search needs
 
 returns : tie.Need-returns
-returns c = cc
+returns c = rw (c .saturating-sub2 .ensures, c .before .saturating-sub .ensures)
 
 pub between-spec : {M : Type 1} → statement M
 between-spec = tie.close (tie.spec saturating-sub-requires saturating-sub-requires-2 returns)

@@ -27,7 +27,17 @@ between-requires c κs = search needs
 
 returns : tie.Need-returns
 unfolding leftOf
-returns c = cc
+returns c =
+    let first = c .before .before .before in
+    rw (
+      c .between .ensures,
+      c .before .min2 .ensures,
+      c .before .before .right .ensures,
+      first .min .ensures,
+      first .before .bottom2 .ensures,
+      first .before .before .bottom .ensures,
+      first .before .before .before .max .ensures,
+    )
 
 pub left-of-spec : {M : Type 1} → statement M
 left-of-spec =

@@ -30,7 +30,18 @@ between-requires c κs = search needs
 
 returns : tie.Need-returns
 unfolding rightFrom
-returns c = cc
+returns c =
+    let first = c .before .before .before .before in
+    rw (
+      c .between .ensures,
+      c .before .right2 .ensures,
+      c .before .before .max2 .ensures,
+      c .before .before .before .right .ensures,
+      first .min .ensures,
+      first .before .bottom2 .ensures,
+      first .before .before .bottom .ensures,
+      first .before .before .before .max .ensures,
+    )
 
 pub right-from-spec : {M : Type 1} → statement M
 right-from-spec =

@@ -10,7 +10,7 @@ both-requires : tie.Need-both-requires
 both-requires c κs = search needs
 
 returns : tie.Need-returns
-returns c = cc
+returns c = rw (c .both .ensures, c .before .last-row .ensures)
 
 pub bottom-left-spec : {M : Type 1} → statement M
 bottom-left-spec = tie.close (tie.spec last-row-requires both-requires returns)

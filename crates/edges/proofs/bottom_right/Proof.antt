@@ -13,7 +13,7 @@ both-requires : tie.Need-both-requires
 both-requires c κs = search needs
 
 returns : tie.Need-returns
-returns c = cc
+returns c = rw (c .both .ensures, c .before .last-row .ensures, c .before .before .last-column .ensures)
 
 pub bottom-right-spec : {M : Type 1} → statement M
 bottom-right-spec = tie.close (tie.spec last-column-requires last-row-requires both-requires returns)

@@ -7,7 +7,7 @@ last-row-requires : tie.Need-last-row-requires
 last-row-requires c κs = search needs
 
 returns : tie.Need-returns
-returns c = cc
+returns c = rw (c .last-row .ensures)
 
 pub bottom-side-spec : {M : Type 1} → statement M
 bottom-side-spec = tie.close (tie.spec last-row-requires returns)

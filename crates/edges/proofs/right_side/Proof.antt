@@ -7,7 +7,7 @@ last-column-requires : tie.Need-last-column-requires
 last-column-requires c κs = search needs
 
 returns : tie.Need-returns
-returns c = cc
+returns c = rw (c .last-column .ensures)
 
 pub right-side-spec : {M : Type 1} → statement M
 right-side-spec = tie.close (tie.spec last-column-requires returns)

@@ -7,7 +7,7 @@ both-requires : tie.Need-both-requires
 both-requires c κs = search needs
 
 returns : tie.Need-returns
-returns c = cc
+returns c = rw (c .both .ensures)
 
 pub top-left-spec : {M : Type 1} → statement M
 top-left-spec = tie.close (tie.spec both-requires returns)

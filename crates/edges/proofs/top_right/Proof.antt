@@ -10,7 +10,7 @@ both-requires : tie.Need-both-requires
 both-requires c κs = search needs
 
 returns : tie.Need-returns
-returns c = cc
+returns c = rw (c .both .ensures, c .before .last-column .ensures)
 
 pub top-right-spec : {M : Type 1} → statement M
 top-right-spec = tie.close (tie.spec last-column-requires both-requires returns)

@@ -16,7 +16,8 @@ intersection-requires c κs = search needs
 returns : tie.Need-returns
 returns c =
     let start = c .before .before .before in
-    cc (toZ-ofZ (start .fits .x), toZ-ofZ (start .fits .y))
+    rw (c .intersection .ensures, c .before .area .ensures, c .before .before .offset .ensures)
+    (simp (toZ-ofZ (start .fits .x), toZ-ofZ (start .fits .y)))
 
 pub shadow-area-spec : {M : Type 1} → statement M
 shadow-area-spec = tie.close (tie.spec offset-requires area-requires intersection-requires returns)

@@ -1,6 +1,6 @@
 -- `title::draw_line` meets its contract.
 use native.Mathlib.Omega.{arith}
-use Rattle.title.proofs.TitleLine.{title-line, row-end}
+use Rattle.title.proofs.TitleLine.{row-end, line-drawn}
 use borrow.Author.Needs.{needs}
 use Rattle.title.proofs.draw_line.Statement.{statement}
 use Rattle.title.proofs.draw_line.Tie as tie
@@ -48,7 +48,7 @@ same-length : tie.Need-same-length
 same-length c = search needs
 
 returns : tie.Need-returns
-returns c = search title-line
+returns c = search line-drawn
 
 pub draw-line-spec : {M : Type 1} → statement M
 draw-line-spec =

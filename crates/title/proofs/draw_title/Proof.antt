@@ -1,5 +1,5 @@
 -- `title::draw_title` meets its contract.
-use Rattle.title.proofs.TitleLine.{title-line}
+use Rattle.title.proofs.TitleLine.{title-drawn}
 use borrow.Author.Needs.{needs}
 use Rattle.title.proofs.draw_title.Statement.{statement}
 use Rattle.title.proofs.draw_title.Tie as tie
@@ -17,7 +17,7 @@ same-length : tie.Need-same-length
 same-length c = search needs
 
 returns : tie.Need-returns
-returns c = search title-line
+returns c = search title-drawn
 
 pub draw-title-spec : {M : Type 1} → statement M
 draw-title-spec =

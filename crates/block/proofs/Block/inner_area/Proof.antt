@@ -30,7 +30,20 @@ inner-size-requires-2 c κs = search needs
 
 returns : tie.Need-returns
 unfolding innerOf
-returns c = cc
+returns c =
+    let starts = c .before .before in
+    let first = starts .before .before in
+    let stands = first .before .before in
+    rw (
+      c .inner-size2 .ensures,
+      c .before .inner-size .ensures,
+      starts .inner-start2 .ensures,
+      starts .before .bottom .ensures,
+      first .inner-start .ensures,
+      first .before .right .ensures,
+      stands .stands-at-bottom .ensures,
+      stands .before .stands-at-top .ensures,
+    )
 
 pub inner-area-spec : {M : Type 1} → statement M
 inner-area-spec =

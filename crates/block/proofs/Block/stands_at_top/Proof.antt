@@ -1,5 +1,5 @@
 -- `block::Block::stands_at_top` meets its contract.
-use Rattle.block.proofs.Either.{either}
+use Rattle.text.proofs.Either.{either}
 use borrow.Author.Needs.{needs}
 use Rattle.block.proofs.Block.stands_at_top.Statement.{statement}
 use Rattle.block.proofs.Block.stands_at_top.Tie as tie

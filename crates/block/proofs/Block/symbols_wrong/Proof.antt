@@ -1,6 +1,6 @@
 -- `block::Block::symbols_wrong` meets its contract.
 use Rattle.block.specs.Causes.{blockSymbols}
-use Rattle.block.proofs.Either.{either}
+use Rattle.text.proofs.Either.{either}
 use borrow.Author.Needs.{needs}
 use Rattle.block.proofs.Block.symbols_wrong.Statement.{statement}
 use Rattle.block.proofs.Block.symbols_wrong.Tie as tie

@@ -15,7 +15,7 @@ space-requires c κs = search needs
 
 returns : tie.Need-returns
 unfolding verticalSpace
-returns c = cc
+returns c = rw (c .space .ensures, c .before .stands-at-bottom .ensures, c .before .before .stands-at-top .ensures)
 
 pub vertical-space-spec : {M : Type 1} → statement M
 vertical-space-spec =

@@ -22,7 +22,17 @@ saturating-sub-requires-3 : tie.Need-saturating-sub-requires-3
 saturating-sub-requires-3 c κs = search needs
 
 returns : tie.Need-returns
-returns c = cc
+returns c =
+    let inside = c .before .before in
+    let bare = inside .before .before in
+    rw (
+      c .saturating-sub3 .ensures,
+      c .before .saturating-add .ensures,
+      inside .saturating-sub2 .ensures,
+      inside .before .cells-taken2 .ensures,
+      bare .saturating-sub .ensures,
+      bare .before .cells-taken .ensures,
+    )
 
 pub inner-size-spec : {M : Type 1} → statement M
 inner-size-spec =

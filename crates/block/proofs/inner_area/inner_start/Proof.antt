@@ -13,13 +13,13 @@ saturating-add-requires-2 : tie.Need-saturating-add-requires-2
 saturating-add-requires-2 c κs = search needs
 
 returns : tie.Need-returns
-returns c = rw (c .before .before .before .if1 .taken) (cc)
+returns c = rw (c .saturating-add2 .ensures, c .before .min .ensures, c .before .before .saturating-add .ensures, c .before .before .before .if1 .taken)
 
 saturating-add-requires-3 : tie.Need-saturating-add-requires-3
 saturating-add-requires-3 c κs = search needs
 
 returns-2 : tie.Need-returns-2
-returns-2 c = rw (c .before .if1 .left) (cc)
+returns-2 c = rw (c .saturating-add3 .ensures, c .before .if1 .left)
 
 pub inner-start-spec : {M : Type 1} → statement M
 inner-start-spec =

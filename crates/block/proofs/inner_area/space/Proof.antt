@@ -16,7 +16,7 @@ saturating-add-requires-2 : tie.Need-saturating-add-requires-2
 saturating-add-requires-2 c κs = search needs
 
 returns : tie.Need-returns
-returns c = cc
+returns c = rw (c .saturating-add2 .ensures, c .before .cells-taken2 .ensures, c .before .before .saturating-add .ensures, c .before .before .before .cells-taken .ensures)
 
 pub space-spec : {M : Type 1} → statement M
 space-spec =

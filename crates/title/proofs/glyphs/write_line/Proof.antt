@@ -1,5 +1,5 @@
 -- `title::glyphs::write_line` meets its contract.
-use Rattle.title.proofs.TitleLine.{title-line}
+use Rattle.title.proofs.TitleLine.{starts-within, line-written}
 use borrow.Author.Needs.{needs}
 use Rattle.title.proofs.glyphs.write_line.Statement.{statement}
 use Rattle.title.proofs.glyphs.write_line.Tie as tie
@@ -19,14 +19,26 @@ line-start-requires c κs = search needs
 cast-start : tie.Need-cast-start
 cast-start c = search needs
 
+mul-write-glyphs : tie.Need-mul-write-glyphs
+mul-write-glyphs c = search needs
+
+sub-write-glyphs : tie.Need-sub-write-glyphs
+sub-write-glyphs c = search starts-within
+
+part-write-glyphs-start : tie.Need-part-write-glyphs-start
+part-write-glyphs-start c = search starts-within
+
+part-write-glyphs-end : tie.Need-part-write-glyphs-end
+part-write-glyphs-end c = search needs
+
 write-glyphs-requires : tie.Need-write-glyphs-requires
-write-glyphs-requires c κs = (search title-line, search needs)
+write-glyphs-requires c κs = search needs
 
 same-length : tie.Need-same-length
 same-length c = search needs
 
 returns : tie.Need-returns
-returns c = search title-line
+returns c = search line-written
 
 pub write-line-spec : {M : Type 1} → statement M
 write-line-spec =
@@ -37,6 +49,10 @@ write-line-spec =
     cast-hidden
     line-start-requires
     cast-start
+    mul-write-glyphs
+    sub-write-glyphs
+    part-write-glyphs-start
+    part-write-glyphs-end
     write-glyphs-requires
     same-length
     returns)

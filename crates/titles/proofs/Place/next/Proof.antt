@@ -19,7 +19,15 @@ saturating-sub-requires-3 : tie.Need-saturating-sub-requires-3
 saturating-sub-requires-3 c κs = search needs
 
 returns : tie.Need-returns
-returns c = cc
+returns c =
+    let first = c .before .before in
+    rw (
+      c .saturating-sub3 .ensures,
+      c .before .saturating-sub2 .ensures,
+      first .saturating-sub .ensures,
+      first .before .saturating-add .ensures,
+      first .before .before .spaced .ensures,
+    )
 
 pub next-spec : {M : Type 1} → statement M
 next-spec =

@@ -13,7 +13,7 @@ use Rattle.buffer.specs.declared.Ink.the-variants.{Both}
 use Rattle.buffer.specs.Drawing.{changed, styleAt}
 use Rattle.buffer.specs.Ink.{inked}
 use Rattle.buffer.proofs.Changed.{changed-same, changed-none, changed-one}
-use Rattle.title.specs.Title.{isDrawn, titleGlyphOn}
+use Rattle.title_glyphs.specs.TitleGlyphs.{isDrawn, titleGlyphOn}
 
 -- a glyph of a number that starts in a column
 abbrev pub startOf : ℕ → ℕ → ℕ → Start

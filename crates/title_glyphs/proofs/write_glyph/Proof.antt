@@ -1,8 +1,8 @@
--- `title::glyphs::write_glyph` meets its contract.
-use Rattle.title.proofs.OneGlyph.{one-glyph}
+-- `title_glyphs::write_glyph` meets its contract.
+use Rattle.title_glyphs.proofs.OneGlyph.{one-glyph}
 use borrow.Author.Needs.{needs}
-use Rattle.title.proofs.glyphs.write_glyph.Statement.{statement}
-use Rattle.title.proofs.glyphs.write_glyph.Tie as tie
+use Rattle.title_glyphs.proofs.write_glyph.Statement.{statement}
+use Rattle.title_glyphs.proofs.write_glyph.Tie as tie
 
 returns : tie.Need-returns
 returns c = search one-glyph

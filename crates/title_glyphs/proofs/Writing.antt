@@ -11,33 +11,33 @@ use Rattle.text.specs.Record.{widthOf}
 use Rattle.text.specs.Line.{Start, numbered, startsFrom}
 use Rattle.buffer.specs.Drawing.{changed}
 use Rattle.buffer.proofs.Changed.{length-changed, changed-same, changed-none, changed-then}
-use Rattle.title.specs.Title.{titleGlyphs, untilOverrun, titleGlyphOn, titleGlyphsOn}
-use Rattle.title.proofs.Numbered.{glyphs-from, glyphs-end}
-use Rattle.title.proofs.OneGlyph.{startOf, number-unread}
+use Rattle.title_glyphs.specs.TitleGlyphs.{titleGlyphs, untilOverrun, titleGlyphOn, titleGlyphsOn}
+use Rattle.title_glyphs.proofs.Numbered.{glyphs-from, glyphs-end}
+use Rattle.title_glyphs.proofs.OneGlyph.{startOf, number-unread}
 
 -- the glyphs from number i on, of which the first starts in a column, up to the first that overruns an end
 abbrev pub fitting : ℕ → ℕ → ℕ → List ℕ → List Start
 fitting end column i records = untilOverrun end (startsFrom column (numbered i (drop i records)))
 
 -- a row on which the glyphs before number i are written: what the others still make of it is what all make of the first row
-pub record Writing (styles : List ℕ) (hidden start : ℕ) (records old row : List ℕ) (column i : ℕ) : Type 0 where
+pub record Writing (styles : List ℕ) (hidden : ℕ) (records old row : List ℕ) (column i : ℕ) : Type 0 where
   pub reached : i ≤ length records
   pub same-length : length row ≡ length old
   pub room : column ≤ hidden + length old
   pub remaining : changed (titleGlyphsOn styles hidden (fitting (hidden + length old) column i records)) row
-      ≡ changed (titleGlyphsOn styles hidden (untilOverrun (hidden + length old) (startsFrom start (titleGlyphs records)))) old
+      ≡ changed (titleGlyphsOn styles hidden (untilOverrun (hidden + length old) (startsFrom 0 (titleGlyphs records)))) old
 
-module _ (styles : List ℕ) (hidden start : ℕ) (records old : List ℕ) where
+module _ (styles : List ℕ) (hidden : ℕ) (records old : List ℕ) where
   -- before the first turn none is written
-  pub writing-starts : start ≤ hidden + length old → Writing styles hidden start records old old start 0
-  writing-starts h = record { reached = omega arith; same-length = refl; room = h; remaining = refl }
+  pub writing-starts : Writing styles hidden records old old 0 0
+  writing-starts = record { reached = omega arith; same-length = refl; room = omega arith; remaining = refl }
 
-  module _ (row : List ℕ) (column i : ℕ) (r : Writing styles hidden start records old row column i) where
+  module _ (row : List ℕ) (column i : ℕ) (r : Writing styles hidden records old row column i) where
     abbrev end : ℕ
     end = hidden + length old
 
     abbrev Done : Type 0
-    Done = row ≡ changed (titleGlyphsOn styles hidden (untilOverrun end (startsFrom start (titleGlyphs records)))) old
+    Done = row ≡ changed (titleGlyphsOn styles hidden (untilOverrun end (startsFrom 0 (titleGlyphs records)))) old
 
     none-left : fitting end column i records ≡ [] → Done
     none-left e = sym (changed-none row) ∙ (rw e at (r .remaining))
@@ -58,7 +58,7 @@ module _ (styles : List ℕ) (hidden start : ℕ) (records old : List ℕ) where
 
       -- a turn writes glyph i
       pub writing-goes : (next : List ℕ) → column + width ≤ end → next ≡ changed (titleGlyphOn styles hidden (startOf 0 column (getD records i 0))) row
-          → Writing styles hidden start records old next (column + width) (i + 1)
+          → Writing styles hidden records old next (column + width) (i + 1)
       writing-goes next fits p =
           let others : List Start = fitting end (column + width) (i + 1) records in
           let more : fitting end column i records ≡ startOf i column (getD records i 0) ∷ others =

@@ -1,16 +1,16 @@
--- `title::glyphs::write_glyphs` meets its contract.
+-- `title_glyphs::write_glyphs` meets its contract.
 use Prim.Native.Nat.{_-_}
 use lib.ListN.{length}
-use Rattle.title.proofs.Writing.{Writing, writing}
+use Rattle.title_glyphs.proofs.Writing.{Writing, writing}
 use borrow.Author.Needs.{needs}
-use Rattle.title.proofs.glyphs.write_glyphs.Statement.{statement}
-use Rattle.title.proofs.glyphs.write_glyphs.Tie as tie
+use Rattle.title_glyphs.proofs.write_glyphs.Statement.{statement}
+use Rattle.title_glyphs.proofs.write_glyphs.Tie as tie
 
 abbrev Inv-loop : tie.InvT-loop
-Inv-loop row₀ styles hidden start glyphs end column₀ i₀ row column i = Writing styles hidden start glyphs row₀ row column i
+Inv-loop row₀ styles hidden glyphs end column₀ i₀ row column i = Writing styles hidden glyphs row₀ row column i
 
 abbrev μ-loop : tie.MeasureT-loop
-μ-loop row₀ styles hidden start glyphs end column₀ i₀ row column i = length glyphs - i
+μ-loop row₀ styles hidden glyphs end column₀ i₀ row column i = length glyphs - i
 
 add-end : tie.Need-add-end Inv-loop μ-loop
 add-end c = search needs
