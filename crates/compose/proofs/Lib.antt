@@ -5,3 +5,4 @@ pub mod Opening
 pub mod Pulling
 pub mod ReadBack
 pub mod Pulled
+pub mod Bounds

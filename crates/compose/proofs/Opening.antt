@@ -9,7 +9,7 @@ use Rattle.text.specs.declared.Alignment.{Alignment}
 use Rattle.text.specs.Record.{alignmentOf}
 use Rattle.text.specs.Alignment.{resolved}
 use Rattle.text.specs.Line.{Glyph, TextLine, numbered, untilHead, linesFrom}
-use Rattle.text.proofs.TextLines.{Opens, rest, rest-is, end-within, until-take, next-opens, line-first}
+use Rattle.text.proofs.TextLines.{AtHead, rest, rest-is, end-within, until-take, next-opens, line-first}
 use Rattle.wrapping.specs.declared.Run.{Run}
 use Rattle.wrapping.specs.declared.Rule.{Rule}
 use Rattle.reflow.specs.declared.Wrapper.{Wrapper}
@@ -54,7 +54,7 @@ module _ (u : Rule) (text : List ℕ) (from to : ℕ) (a : Alignment) where
         ∙ told-lines (linesOf u method a (numbered 0 records)) (lines-read u a method records)
         ∙ ap (map (aligned a)) numbered-lines
 
-module _ (u : Rule) (method : Method) (own : Alignment) (text : List ℕ) (at : ℕ) (c : Composer) (k : at < length text) (h : Opens text at)
+module _ (u : Rule) (method : Method) (own : Alignment) (text : List ℕ) (at : ℕ) (c : Composer) (k : at < length text) (h : AtHead text at)
     (p : Opened u method own text at c) where
   opened-part : part text c ≡ untilHead (drop (at + 1) text)
   opened-part =

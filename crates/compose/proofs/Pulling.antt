@@ -1,16 +1,13 @@
 -- A pull: the text line in hand gives its next line, or the next text line is opened.
 use Prim.Native.Nat.{ℕ, _+_, _-_, _^_, _≤_, _<_}
 use mathlib.Core.Path.{_≡_, refl, sym, ap, _∙_}
-use mathlib.Core.Bool.{false}
 use mathlib.Core.List.{List, [], _∷_}
 use native.Mathlib.Omega.{arith}
 use lib.ListN.{length, take, drop, length-take, length-drop, drop-of-length-le}
 use Rattle.text.specs.declared.Alignment.{Alignment}
 use Rattle.text.specs.declared.Alignment.the-variants.{Left}
-use Rattle.text.specs.Line.{linesFrom}
-use Rattle.text.proofs.TextLines.{Opens}
-use Rattle.refuse.specs.Causes.{notOpening}
-use Rattle.refuse.proofs.TitleScan.{opens-start}
+use Rattle.text.specs.Line.{linesFrom, Opens}
+use Rattle.text.proofs.TextLines.{AtHead, opens-start}
 use Rattle.wrapping.specs.declared.Run.{Run}
 use Rattle.wrapping.specs.declared.Rule.{Rule}
 use Rattle.reflow.specs.declared.Wrapper.{Wrapper}
@@ -80,7 +77,7 @@ module _ (u : Rule) (own : Alignment) (text : List ℕ) (s c : Composer) (p : Co
         record { pulled-lines = p .same ∙ later-left ∙ ap (λ (l : List ℕ). allLines u (c .method) own (linesFrom (c .to) l)) (drop-of-length-le text h); ready = tt }
 
     module _ (n : Composer) (k : c .to < length text) (f : Opened u (c .method) own text (c .to) n) where
-      opens : Opens text (c .to)
+      opens : AtHead text (c .to)
       opens = record { within = p .ready .to-end; head = p .ready .head }
 
       pub composing-opens : Composing u own text s n
@@ -96,7 +93,7 @@ module _ (u : Rule) (own : Alignment) (text : List ℕ) (s c : Composer) (p : Co
 pub ruleset composing = (composing-starts, pull-line, pull-done, composing-opens, composing-less)
 
 -- before a text's first line, the composer stands at the end of a text line that has no line left
-pub started : (u : Rule) (method : Method) (text : List ℕ) (w n : Wrapper) → n ≡ startRun u → w ≡ closedRun n → notOpening text ≡ false
+pub started : (u : Rule) (method : Method) (text : List ℕ) (w n : Wrapper) → n ≡ startRun u → w ≡ closedRun n → Opens text
     → Started u method text (record { method = method; wrapper = w; from = 0; to = 0; alignment = Left })
 unfolding left lines
 started u method text w n e f h =

@@ -1,4 +1,5 @@
 pub mod Lines
+pub mod Wrap
 pub mod Places
 pub mod Composers
 pub mod Composing

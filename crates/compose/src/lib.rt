@@ -8,10 +8,9 @@ use text::line;
 use wrapping::Rule;
 use wrapping::Run;
 ghost use mathlib.Core.Path.{_≡_};
-ghost use mathlib.Core.Bool.{false};
 ghost use Prim.Native.Nat.{_+_, _^_, _<_};
 ghost use lib.ListN.{length};
-ghost use Rattle.refuse.specs.Causes.{notOpening};
+ghost use Rattle.text.specs.Line.{Opens, FewRecords};
 ghost use Rattle.compose.specs.Composers.{SoundLine, PulledLine};
 ghost use Rattle.compose.specs.Composing.{composedRun, Ready, Opened, Started, Pulled};
 
@@ -21,6 +20,12 @@ pub struct Composed {
     pub end: usize,
     pub width: usize,
     pub alignment: Alignment,
+}
+
+// Whether a text's lines are wrapped, and trimmed then; lines that aren't are truncated, and scrolled to the right by so many columns.
+pub enum Wrap {
+    Off { column: u16 },
+    On { trim: bool },
 }
 
 // How lines are composed: wrapped, or truncated and scrolled to the right by so many columns.
@@ -76,7 +81,7 @@ fn next_line(
     records: &[u32],
 ) -> Next
     requires { ⌜ SoundLine rule method (now records) wrapper ⌝ }
-    requires { ⌜ length (now records) < 2 ^ 28 ⌝ }
+    requires { ⌜ FewRecords (now records) ⌝ }
     ensures { λ r. ⌜ PulledLine rule method alignment (now (records .entry)) wrapper r ⌝ }
 {
     match method {
@@ -94,7 +99,7 @@ fn next_line(
 impl Composer {
     // Before a text's first line.
     pub fn start(rule: Rule, method: Method, text: &[u32]) -> Composer
-        requires { ⌜ notOpening (now text) ≡ false ⌝ }
+        requires { ⌜ Opens (now text) ⌝ }
         ensures { λ c. ⌜ Started rule method (now (text .entry)) c ⌝ }
     {
         let wrapper = Wrapper::start(rule).closed();
@@ -130,7 +135,7 @@ impl Composer {
     // The next line of the text, or none.
     pub fn next(self, rule: Rule, own: Alignment, text: &[u32]) -> Pull
         requires { ⌜ Ready rule (now text) self ⌝ }
-        requires { ⌜ length (now text) < 2 ^ 28 ⌝ }
+        requires { ⌜ FewRecords (now text) ⌝ }
         ensures { λ r. ⌜ Pulled rule own (now (text .entry)) self r ⌝ }
     {
         let mut composer = self;

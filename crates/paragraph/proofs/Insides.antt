@@ -10,23 +10,20 @@ use Rattle.block.proofs.Within.{inside}
 use Rattle.layout.specs.declared.Rect.{Rect}
 use Rattle.layout.specs.Rect.{isEmpty}
 use Rattle.buffer.specs.declared.Screen.{Screen}
-use Rattle.buffer.specs.declared.Ink.the-variants.{Style}
 use Rattle.buffer.specs.Drawing.{drawn, over, styleAt}
-use Rattle.buffer.specs.Ink.{inked}
 use Rattle.buffer.specs.Parts.{OnScreen}
 use Rattle.buffer.proofs.Drawn.{drawn-same, drawn-none}
-use Rattle.buffer.proofs.Order.{first-then, only-drawn, only-spared}
+use Rattle.buffer.proofs.Order.{first-then, only-spared}
 use Rattle.cell.specs.Cell.{styled}
-use Rattle.edges.proofs.Ends.{not-empty}
-use Rattle.shadow.proofs.Keeps.{over-empty}
-use Rattle.compose.specs.Lines.{lines}
+use Rattle.layout.proofs.NotEmpty.{not-empty}
+use Rattle.buffer.proofs.Over.{over-empty}
 use Rattle.rows.specs.declared.Rows.{Rows}
-use Rattle.rows.specs.declared.Setting.{Setting}
-use Rattle.rows.specs.Rows.{textOn, rowsDrawn, placedOn, clippedOn}
-use Rattle.rows.specs.Drawing.{AreaOnScreen}
+use Rattle.rows.specs.Rows.{textOn}
+use Rattle.buffer.specs.Screen.{AreaOnScreen}
+use Rattle.draw_lines.specs.declared.Inside.{Inside}
+use Rattle.draw_lines.specs.Settings.{settingOf, linesOn, linesCounted}
 use Rattle.paragraph.specs.declared.Notice.{Notice}
 use Rattle.paragraph.specs.Notice.{noticeLines, noRows, insideOf, insideCounts}
-use Rattle.paragraph.specs.Settings.{settingOf}
 
 -- where the inner area of an area on the screen has a cell, it lies on the screen
 pub inner-on-screen : (screen : Screen) (count : ℕ) (b : Block) (titles : List ℕ) (met : Rect) → OnScreen screen count met
@@ -43,30 +40,21 @@ inner-on-screen screen count b titles met on few-columns few-rows e =
       few-rows = few-rows;
     }
 
-all-counts : (r : Rows) (rows placed clipped : ℕ) → r .rows ≡ rows → r .placed ≡ placed → r .clipped ≡ clipped
-    → r ≡ record { rows = rows; placed = placed; clipped = clipped }
-all-counts r rows placed clipped a b c = rw (← a, ← b, ← c)
+-- what a notice says of its inner area
+abbrev inside-said : Notice → Inside
+inside-said n = record { style = n .style; «text_style» = n .«text_style»; alignment = n .alignment; wrap = n .wrap; scroll = n .scroll }
 
 module _ (columns : ℕ) (styles text : List ℕ) (n : Notice) (inner : Rect) (cells : List ℕ) where
   -- an area with a cell: its style, then its lines
-  pub inside-drawn : isEmpty inner ≡ false → 0 < columns → (style : ℕ) (first last : List ℕ) (s : Setting)
-      → style ≡ styleAt styles (n .style) → first ≡ drawn columns (over inner (inked (Style style))) cells → s ≡ settingOf n (inner .width)
-      → last ≡ drawn columns (textOn styles (s .style) (lines (s .rule) (s .method) (s .own) text) inner (s .scroll)) first
+  inside-drawn : isEmpty inner ≡ false → (last : List ℕ) → last ≡ drawn columns (linesOn styles text (inside-said n) inner) cells
       → last ≡ drawn columns (insideOf styles text n inner) cells
-  unfolding insideOf noticeLines settingOf inked
-  inside-drawn g some style first last s e p k q =
-      first-then columns _ (_ ∷ []) cells first last (rw e at p)
-      (only-drawn columns (not (isEmpty inner)) _ first some last (rw g) (rw k at q))
+  unfolding insideOf noticeLines linesOn settingOf
+  inside-drawn g last p = rw g p
 
   -- what it counts
-  pub inside-counted : isEmpty inner ≡ false → (r : Rows) (s : Setting) → s ≡ settingOf n (inner .width)
-      → r .rows ≡ rowsDrawn (lines (s .rule) (s .method) (s .own) text) inner (s .scroll)
-      → r .placed ≡ placedOn (lines (s .rule) (s .method) (s .own) text) inner (s .scroll)
-      → r .clipped ≡ clippedOn (lines (s .rule) (s .method) (s .own) text) inner (s .scroll)
-      → r ≡ insideCounts text n inner
-  unfolding insideCounts noticeLines settingOf
-  inside-counted g r s k a b c =
-      rw g (all-counts r _ _ _ (rw k at a) (rw k at b) (rw k at c))
+  inside-counted : isEmpty inner ≡ false → (r : Rows) → r ≡ linesCounted text (inside-said n) inner → r ≡ insideCounts text n inner
+  unfolding insideCounts noticeLines linesCounted settingOf
+  inside-counted g r p = rw g p
 
   -- an empty area: no cell is drawn, and nothing is counted
   inside-left : isEmpty inner ≡ true → 0 < columns → cells ≡ drawn columns (insideOf styles text n inner) cells
@@ -82,8 +70,6 @@ module _ (columns : ℕ) (styles text : List ℕ) (n : Notice) (inner : Rect) (c
   unfolding insideCounts
   inside-none e = rw e
 
-pub ruleset lines-laws = (inside-drawn, inside-counted)
-
 -- the inner area of an area, as the code has it
 module _ (columns : ℕ) (styles text titles : List ℕ) (n : Notice) (b : Block) (met inner : Rect) (cells : List ℕ)
     (k : b ≡ n .block) (i : inner ≡ innerOf b titles met) (empty : Bool) (f : empty ≡ isEmpty inner) where
@@ -96,12 +82,13 @@ module _ (columns : ℕ) (styles text titles : List ℕ) (n : Notice) (b : Block
   pub none : empty ≡ true → noRows ≡ insideCounts text n (innerOf (n .block) titles met)
   none g = rw inner-is at (inside-none columns styles text n inner cells (sym f ∙ g))
 
-  pub drawn-inside : (next : List ℕ) → next ≡ drawn columns (insideOf styles text n inner) cells
+  pub drawn-inside : empty ≡ false → (next : List ℕ) → next ≡ drawn columns (linesOn styles text (inside-said n) inner) cells
       → next ≡ drawn columns (insideOf styles text n (innerOf (n .block) titles met)) cells
-  drawn-inside next p = rw inner-is at p
+  drawn-inside g next p = rw inner-is at (inside-drawn columns styles text n inner cells (sym f ∙ g) next p)
 
-  pub counted-inside : (r : Rows) → r ≡ insideCounts text n inner → r ≡ insideCounts text n (innerOf (n .block) titles met)
-  counted-inside r p = rw inner-is at p
+  pub counted-inside : empty ≡ false → (r : Rows) → r ≡ linesCounted text (inside-said n) inner
+      → r ≡ insideCounts text n (innerOf (n .block) titles met)
+  counted-inside g r p = rw inner-is at (inside-counted columns styles text n inner cells (sym f ∙ g) r p)
 
 -- where it isn't empty, it has a cell and lies on the screen
 pub has-cell : (inner : Rect) (empty : Bool) → empty ≡ isEmpty inner → empty ≡ false → isEmpty inner ≡ false

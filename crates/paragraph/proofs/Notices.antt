@@ -19,7 +19,7 @@ use Rattle.buffer.specs.Parts.{OnScreen}
 use Rattle.buffer.proofs.Drawn.{drawn-also}
 use Rattle.buffer.proofs.Order.{first-then, only-drawn, only-spared}
 use Rattle.frame.specs.Frame.{frame}
-use Rattle.frame.specs.Fitting.{HasCells}
+use Rattle.buffer.specs.Screen.{HasCells}
 use Rattle.frame.proofs.Frames.{met-on-screen}
 use Rattle.rows.specs.declared.Rows.{Rows}
 use Rattle.paragraph.specs.declared.Notice.{Notice}

@@ -1,6 +1,6 @@
 -- Document 01, 'Rows, pages, tally (paragraph.rs)': what a notice draws, and what its answer counts.
 use Prim.Native.Nat.{ℕ}
-use mathlib.Core.Bool.{false, cond, not}
+use mathlib.Core.Bool.{cond, not}
 use mathlib.Core.List.{List, [], _∷_}
 use Rattle.cell.specs.Cell.{styled}
 use Rattle.layout.specs.declared.Rect.{Rect}
@@ -9,25 +9,11 @@ use Rattle.block.specs.Inner.{innerOf}
 use Rattle.buffer.specs.declared.Screen.{Screen}
 use Rattle.buffer.specs.Drawing.{Drawing, over, onlyIf, inOrder, areaOf, styleAt}
 use Rattle.frame.specs.Frame.{frame}
-use Rattle.wrapping.specs.declared.Rule.{Rule}
-use Rattle.compose.specs.declared.Method.{Method}
-use Rattle.compose.specs.declared.Method.the-variants.{Wrapped, Truncated}
 use Rattle.compose.specs.Lines.{Line, lines}
-use Rattle.lines.specs.List.{ruleOf}
-use Rattle.measure.specs.declared.Wrap.{Wrap}
-use Rattle.measure.specs.declared.Wrap.the-variants.{Off, On}
+use Rattle.compose.specs.Wrap.{methodOf, ruleAt}
 use Rattle.rows.specs.declared.Rows.{Rows}
 use Rattle.rows.specs.Rows.{textOn, rowsDrawn, placedOn, clippedOn}
 use Rattle.paragraph.specs.declared.Notice.{Notice}
-
--- wrapped lines are trimmed or not; unwrapped ones are truncated, scrolled to the right, and truncation never trims
-abbrev pub methodOf : Wrap → Method
-methodOf (On trim) = Wrapped
-methodOf (Off column) = Truncated column
-
-abbrev pub ruleAt : Wrap → ℕ → Rule
-ruleAt (On trim) limit = ruleOf limit trim
-ruleAt (Off column) limit = ruleOf limit false
 
 -- a notice's lines, "composed with the inner width as the limit"
 unfoldable pub noticeLines : Notice → List ℕ → ℕ → List Line

@@ -2,30 +2,27 @@
 use block::Block;
 use buffer::Ink;
 use buffer::Screen;
-use compose::Method;
+use compose::Wrap;
+use draw_lines::Inside;
 use layout::Rect;
-use measure::Wrap;
 use rows::Rows;
-use rows::Setting;
 use text::Alignment;
-use wrapping::Rule;
 ghost use mathlib.Core.Path.{_≡_};
 ghost use mathlib.Core.Bool.{false};
 ghost use mathlib.Core.List.{[], _∷_};
 ghost use Prim.Native.Nat.{_<_, _^_};
 ghost use lib.ListN.{length};
+ghost use Rattle.text.specs.Line.{Opens};
 ghost use Rattle.cell.specs.Cell.{styled};
 ghost use Rattle.layout.specs.Rect.{isEmpty};
 ghost use Rattle.buffer.specs.Drawing.{drawn, over, inOrder, styleAt};
 ghost use Rattle.buffer.specs.Parts.{OnScreen};
-ghost use Rattle.refuse.specs.Causes.{notOpening};
-ghost use Rattle.borders.specs.Fitting.{SymbolsFit};
+ghost use Rattle.buffer.specs.Screen.{HasCells};
+ghost use Rattle.block.specs.Causes.{SymbolsFit};
 ghost use Rattle.block.specs.Inner.{innerOf};
 ghost use Rattle.frame.specs.Frame.{frame};
-ghost use Rattle.frame.specs.Fitting.{HasCells};
-ghost use Rattle.rows.specs.Drawing.{Composable, AreaOnScreen};
+ghost use Rattle.rows.specs.Drawing.{Composable};
 ghost use Rattle.paragraph.specs.Notice.{insideOf, insideCounts, noticeOf, noticeCounts};
-ghost use Rattle.paragraph.specs.Settings.{settingOf};
 
 // A notice: its block, its style and its text's, its own alignment, how its lines are composed, and the first line drawn.
 pub struct Notice {
@@ -35,53 +32,6 @@ pub struct Notice {
     pub alignment: Alignment,
     pub wrap: Wrap,
     pub scroll: u16,
-}
-
-// How its lines are composed and drawn in so many columns.
-fn setting(notice: Notice, width: u16) -> Setting
-    ensures { λ r. ⌜ r ≡ settingOf notice width ⌝ }
-{
-    let limit = width as usize;
-    let own = notice.alignment;
-    let style = notice.text_style;
-    let scroll = notice.scroll;
-    let wrap = notice.wrap;
-    match wrap {
-        Wrap::On { trim } => Setting {
-            rule: Rule { limit, trim },
-            method: Method::Wrapped,
-            own,
-            style,
-            scroll,
-        },
-        Wrap::Off { column } => Setting {
-            rule: Rule { limit, trim: false },
-            method: Method::Truncated(column as u32),
-            own,
-            style,
-            scroll,
-        },
-    }
-}
-
-// Draws the notice's style and its lines over an area that lies on the screen and isn't empty.
-fn draw_lines(
-    screen: Screen,
-    cells: &mut [u64],
-    styles: &[u64],
-    text: &[u32],
-    inner: Rect,
-    notice: Notice,
-) -> Rows
-    requires { ⌜ Composable (now text) × (isEmpty inner ≡ false) ⌝ }
-    requires { ⌜ AreaOnScreen screen (length (now cells)) inner ⌝ }
-    ensures cells { λ r. ⌜ now (cells .exit) ≡ drawn (screen .columns) (insideOf (now (styles .entry)) (now (text .entry)) notice inner) (now (cells .entry)) ⌝ }
-    ensures counts { λ r. ⌜ r ≡ insideCounts (now (text .entry)) notice inner ⌝ }
-{
-    let ink = Ink::Style(buffer::style_at(styles, notice.style));
-    buffer::paint_area(screen, cells, inner, ink);
-    let setting = setting(notice, inner.width);
-    rows::draw_text(screen, cells, styles, text, inner, setting)
 }
 
 // Draws what stands in the frame of a rectangle that lies on the screen: an empty inner area gets nothing.
@@ -96,7 +46,10 @@ fn draw_inside(
 ) -> Rows
     requires { ⌜ Composable (now text) × (screen .columns < 2 ^ 15) × (screen .rows < 2 ^ 15) ⌝ }
     requires { ⌜ OnScreen screen (length (now cells)) met ⌝ }
-    ensures cells { λ r. ⌜ now (cells .exit) ≡ drawn (screen .columns) (insideOf (now (styles .entry)) (now (text .entry)) notice (innerOf (notice .block) (now (titles .entry)) met)) (now (cells .entry)) ⌝ }
+    ensures cells { λ r.
+        let inner = innerOf (notice .block) (now (titles .entry)) met in
+        let drawing = insideOf (now (styles .entry)) (now (text .entry)) notice inner in
+        ⌜ now (cells .exit) ≡ drawn (screen .columns) drawing (now (cells .entry)) ⌝ }
     ensures counts { λ r. ⌜ r ≡ insideCounts (now (text .entry)) notice (innerOf (notice .block) (now (titles .entry)) met) ⌝ }
 {
     let block = notice.block;
@@ -108,7 +61,16 @@ fn draw_inside(
             clipped: 0,
         };
     }
-    draw_lines(screen, cells, styles, text, inner, notice)
+    let alignment = notice.alignment;
+    let wrap = notice.wrap;
+    let inside = Inside {
+        style: notice.style,
+        text_style: notice.text_style,
+        alignment,
+        wrap,
+        scroll: notice.scroll,
+    };
+    draw_lines::draw_lines(screen, cells, styles, text, inner, inside)
 }
 
 // Draws the notice's style over a rectangle that lies on the screen and isn't empty, and its frame around it, with its shadow.
@@ -120,9 +82,12 @@ fn draw_frame(
     met: Rect,
     notice: Notice,
 )
-    requires { ⌜ SymbolsFit (notice .block) × (isEmpty met ≡ false) × (screen .columns < 2 ^ 15) × (screen .rows < 2 ^ 15) × (notOpening (now titles) ≡ false) ⌝ }
+    requires { ⌜ SymbolsFit (notice .block) × (isEmpty met ≡ false) × (screen .columns < 2 ^ 15) × (screen .rows < 2 ^ 15) × Opens (now titles) ⌝ }
     requires { ⌜ OnScreen screen (length (now cells)) met ⌝ }
-    ensures { λ _. ⌜ now (cells .exit) ≡ drawn (screen .columns) (inOrder (over met (styled (styleAt (now (styles .entry)) (notice .style))) ∷ frame (now (styles .entry)) screen (now (titles .entry)) (notice .block) met ∷ [])) (now (cells .entry)) ⌝ }
+    ensures { λ _.
+        let under = over met (styled (styleAt (now (styles .entry)) (notice .style))) in
+        let around = frame (now (styles .entry)) screen (now (titles .entry)) (notice .block) met in
+        ⌜ now (cells .exit) ≡ drawn (screen .columns) (inOrder (under ∷ around ∷ [])) (now (cells .entry)) ⌝ }
 {
     let ink = Ink::Style(buffer::style_at(styles, notice.style));
     buffer::paint_area(screen, cells, met, ink);
@@ -139,9 +104,11 @@ pub fn draw_on(
     area: Rect,
     notice: Notice,
 ) -> Rows
-    requires { ⌜ SymbolsFit (notice .block) × HasCells screen (length (now cells)) × (notOpening (now titles) ≡ false) ⌝ }
+    requires { ⌜ SymbolsFit (notice .block) × HasCells screen (length (now cells)) × Opens (now titles) ⌝ }
     requires { ⌜ Composable (now text) ⌝ }
-    ensures cells { λ r. ⌜ now (cells .exit) ≡ drawn (screen .columns) (noticeOf (now (styles .entry)) screen (now (text .entry)) (now (titles .entry)) notice area) (now (cells .entry)) ⌝ }
+    ensures cells { λ r.
+        let drawing = noticeOf (now (styles .entry)) screen (now (text .entry)) (now (titles .entry)) notice area in
+        ⌜ now (cells .exit) ≡ drawn (screen .columns) drawing (now (cells .entry)) ⌝ }
     ensures counts { λ r. ⌜ r ≡ noticeCounts screen (now (text .entry)) (now (titles .entry)) notice area ⌝ }
 {
     let met = area.intersection(screen.area());

@@ -1,5 +1,3 @@
-pub mod OneGlyph
 pub mod Offsets
-pub mod Writing
 pub mod Moving
 pub mod LineDrawn

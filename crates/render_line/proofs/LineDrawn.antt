@@ -18,9 +18,10 @@ use Rattle.buffer.proofs.Within.{within-inside, within-before}
 use Rattle.compose.specs.declared.Composed.{Composed}
 use Rattle.compose.specs.Lines.{lineAt}
 use Rattle.compose.specs.Places.{placed, clipped}
-use Rattle.render_line.specs.declared.Glyphs.{Glyphs}
-use Rattle.render_line.specs.RenderLine.{lineOffset, drawnStarts, glyphsOn, lineOn, placedIn, clippedIn}
-use Rattle.render_line.specs.Writing.{startsOf, Wrote}
+use Rattle.render_glyphs.specs.declared.Glyphs.{Glyphs}
+use Rattle.render_glyphs.specs.RenderGlyphs.{glyphsOn}
+use Rattle.render_glyphs.specs.Writing.{startsOf, Wrote}
+use Rattle.render_line.specs.RenderLine.{lineOffset, drawnStarts, lineOn, placedIn, clippedIn}
 use Rattle.render_line.proofs.Moving.{placed-same, clipped-same, glyphs-same, glyphs-before}
 
 -- a part of the text, lent, is a slice of it

@@ -13,8 +13,8 @@ use Rattle.text.specs.Lists.{countOf}
 use Rattle.wrapping.specs.declared.Rule.{Rule}
 use Rattle.wrapping.specs.Wrapping.{overWide, notOverWide}
 use Rattle.compose.specs.Places.{placed, clipped}
-use Rattle.render_line.specs.RenderLine.{glyphOn, glyphsOn}
-use Rattle.render_line.proofs.OneGlyph.{startOf}
+use Rattle.render_glyphs.specs.RenderGlyphs.{glyphOn, glyphsOn}
+use Rattle.render_glyphs.proofs.OneGlyph.{startOf}
 
 -- what holds of no glyphs, and of a glyph before others of which it holds, holds of all the glyphs of records; their numbers may
 -- differ, and the first list starts so many columns further

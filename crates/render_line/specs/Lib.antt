@@ -1,2 +1,1 @@
 pub mod RenderLine
-pub mod Writing

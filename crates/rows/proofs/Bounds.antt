@@ -13,7 +13,7 @@ use Rattle.text.proofs.Lists.{count-few}
 use Rattle.text.proofs.LineGlyphs.{lineGlyphs, split-glyphs, glyphs-short, starts-length}
 use Rattle.wrapping.specs.declared.Rule.{Rule}
 use Rattle.wrapping.specs.Wrapping.{overWide}
-use Rattle.wrapping.proofs.RunLaws.{cond-cases}
+use Rattle.text.proofs.Bools.{cond-cases}
 use Rattle.nothing_lost.specs.Glyphs.{glyphsOfAll}
 use Rattle.nothing_lost.proofs.Accounted.{wrapped-few}
 use Rattle.truncate.specs.Truncation.{offsetOf, ends, swallows, shownFrom, truncate}

@@ -1,4 +1,3 @@
 pub mod Skipping
-pub mod RowDrawn
 pub mod Bounds
 pub mod TextDrawn

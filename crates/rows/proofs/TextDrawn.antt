@@ -12,6 +12,7 @@ use mir.Val.{Fits}
 use mir.Syntax.{w16, w32}
 use lib.ListN.{length, getD, take, drop, length-drop, List·getD-eq-default}
 use lib.Seq.{getD-drop, take-nil}
+use Rattle.text.specs.Line.{FewRecords}
 use Rattle.layout.specs.declared.Rect.{Rect}
 use Rattle.layout.specs.Rect.{rightOf, bottomOf, within}
 use Rattle.buffer.specs.declared.Screen.{Screen}
@@ -25,19 +26,16 @@ use Rattle.compose.specs.declared.Pull.{Pull}
 use Rattle.compose.specs.declared.Pull.the-variants.{Line as PulledLine, Done}
 use Rattle.compose.specs.Lines.{Line, lines, lineAt}
 use Rattle.compose.specs.Composing.{left, Ready, Told, Pulled}
-use Rattle.render_line.specs.declared.Glyphs.{Glyphs}
+use Rattle.render_glyphs.specs.declared.Glyphs.{Glyphs}
 use Rattle.render_line.specs.RenderLine.{drawnStarts, lineOn, placedIn, clippedIn}
 use Rattle.rows.specs.declared.Setting.{Setting}
 use Rattle.rows.specs.Rows.{noLine, textOn, linesDrawn, rowsDrawn, sumOf, placedOn, clippedOn}
-use Rattle.rows.specs.Drawing.{Composable, Stands, AreaOnScreen}
+use Rattle.buffer.specs.Screen.{AreaOnScreen}
+use Rattle.rows.specs.Drawing.{Composable, Stands, linesFor}
 use Rattle.compose.proofs.Pulled.{pulled-left, pulled-ready, pulled-told, none-left}
 use Rattle.rows.proofs.Skipping.{drop-more}
-use Rattle.rows.proofs.RowDrawn.{bottom-is}
+use Rattle.draw_row.proofs.RowDrawn.{bottom-is}
 use Rattle.rows.proofs.Bounds.{placed-few, clipped-few, counted-few}
-
--- the composed lines of a text that is drawn with a setting
-abbrev pub linesFor : Setting → List ℕ → List Line
-linesFor setting text = lines (setting .rule) (setting .method) (setting .own) text
 
 -- what row j of the area gets
 abbrev pub lineRow : List ℕ → List ℕ → Rect → Setting → ℕ → ℕ → ℕ → ℕ
@@ -47,7 +45,7 @@ lineRow styles text area setting j column cell =
 -- the lines before a row were drawn on theirs, and the composer has the others
 pub record DrawingText (s : Screen) (old styles text : List ℕ) (area : Rect) (setting : Setting) (cells : List ℕ) (c : Composer) (placed clipped row : ℕ) : Type 0 where
   pub on-screen : AreaOnScreen s (length old) area
-  pub short : length text < 2 ^ 28
+  pub few : FewRecords text
   pub ready : Ready (setting .rule) text c
   pub lines-left : left (setting .rule) (setting .own) text c ≡ drop (setting .scroll + row) (linesFor setting text)
   pub drawing : DrawingRows (s .columns) (area .x) (rightOf area) (area .y) (bottomOf area) (lineRow styles text area setting) old cells (area .y + row)
@@ -86,7 +84,7 @@ module _ (s : Screen) (styles text : List ℕ) (area : Rect) (setting : Setting)
       let z : area .height - 0 ≡ area .height = omega arith in
       record {
         on-screen = a;
-        short = m .short;
+        few = m .few;
         ready = t .ready;
         lines-left = rw add-zero (t .lines-left);
         drawing =
@@ -146,7 +144,7 @@ module _ (s : Screen) (styles text : List ℕ) (area : Rect) (setting : Setting)
                     arith,
                     k,
                     placed-is,
-                    t .short,
+                    t .few,
                     counted-few (setting .rule) (setting .method) (setting .own) text (placedIn (area .width)) (area .height) (setting .scroll) (placed-few (area .width)),
                   );
                 }
@@ -159,7 +157,7 @@ module _ (s : Screen) (styles text : List ℕ) (area : Rect) (setting : Setting)
                     arith,
                     m,
                     clipped-is,
-                    t .short,
+                    t .few,
                     counted-few (setting .rule) (setting .method) (setting .own) text (clippedIn (area .width)) (area .height) (setting .scroll) (clipped-few (area .width)),
                   );
                 }
@@ -172,7 +170,7 @@ module _ (s : Screen) (styles text : List ℕ) (area : Rect) (setting : Setting)
                 let z : setting .scroll + row + 1 ≡ setting .scroll + (row + 1) = omega arith in
                 record {
                   on-screen = t .on-screen;
-                  short = t .short;
+                  few = t .few;
                   ready = pulled-ready (setting .rule) (setting .own) text c o p line d e;
                   lines-left = rw z at (drop-more (setting .scroll + row) _ _ (lineAt (setting .rule) text line) (sym left-is ∙ t .lines-left));
                   drawing =

@@ -1,24 +1,17 @@
 // The lines of a text drawn in an area: paragraph.rs' `render_paragraph` and `render_lines`.
 use buffer::Screen;
-use compose::Composed;
 use compose::Composer;
 use compose::Method;
 use compose::Pull;
 use layout::Rect;
-use render_line::Glyphs;
 use text::Alignment;
 use wrapping::Rule;
 ghost use mathlib.Core.Path.{_≡_};
-ghost use Prim.Native.Nat.{_+_, _<_, _^_};
 ghost use lib.ListN.{length};
-ghost use Rattle.layout.specs.Rect.{rightOf};
 ghost use Rattle.buffer.specs.Drawing.{drawn};
-ghost use Rattle.buffer.specs.Parts.{inRow};
-ghost use Rattle.compose.specs.Lines.{lines, lineAt};
-ghost use Rattle.compose.specs.Composing.{Told};
-ghost use Rattle.render_line.specs.RenderLine.{lineOn, placedIn, clippedIn};
+ghost use Rattle.buffer.specs.Screen.{AreaOnScreen};
 ghost use Rattle.rows.specs.Rows.{textOn, rowsDrawn, placedOn, clippedOn};
-ghost use Rattle.rows.specs.Drawing.{Composable, Stands, AreaOnScreen};
+ghost use Rattle.rows.specs.Drawing.{Composable, Stands, linesFor};
 
 // The rows drawn, and the glyphs placed and clipped in them.
 pub struct Rows {
@@ -53,36 +46,6 @@ fn skip_lines(rule: Rule, method: Method, own: Alignment, text: &[u32], n: usize
     composer
 }
 
-// Draws a line on a row of the area; row 0 is the area's first.
-fn draw_row(
-    screen: Screen,
-    cells: &mut [u64],
-    styles: &[u64],
-    text: &[u32],
-    area: Rect,
-    setting: Setting,
-    row: u16,
-    line: Composed,
-) -> Glyphs
-    requires { ⌜ Told (setting .rule) (now text) line × (length (now text) < 2 ^ 28) × (row < area .height) ⌝ }
-    requires { ⌜ AreaOnScreen screen (length (now cells)) area ⌝ }
-    ensures cells { λ r. ⌜ now (cells .exit) ≡ drawn (screen .columns) (inRow (area .x) (rightOf area) (area .y + row) (lineOn (now (styles .entry)) (setting .style) (area .width) (lineAt (setting .rule) (now (text .entry)) line))) (now (cells .entry)) ⌝ }
-    ensures placed { λ r. ⌜ r .placed ≡ placedIn (area .width) (lineAt (setting .rule) (now (text .entry)) line) ⌝ }
-    ensures clipped { λ r. ⌜ r .clipped ≡ clippedIn (area .width) (lineAt (setting .rule) (now (text .entry)) line) ⌝ }
-{
-    let start_of_row = (area.y as usize + row as usize) * (screen.columns as usize);
-    let start = start_of_row + (area.x as usize);
-    let end = start_of_row + (area.right() as usize);
-    render_line::draw_line(
-        &mut cells[start..end],
-        styles,
-        setting.style,
-        setting.rule,
-        text,
-        line,
-    )
-}
-
 // Draws the lines of a text from the scroll row on, one to a row of an area that lies on the screen.
 pub fn draw_text(
     screen: Screen,
@@ -94,10 +57,12 @@ pub fn draw_text(
 ) -> Rows
     requires { ⌜ Composable (now text) ⌝ }
     requires { ⌜ AreaOnScreen screen (length (now cells)) area ⌝ }
-    ensures cells { λ r. ⌜ now (cells .exit) ≡ drawn (screen .columns) (textOn (now (styles .entry)) (setting .style) (lines (setting .rule) (setting .method) (setting .own) (now (text .entry))) area (setting .scroll)) (now (cells .entry)) ⌝ }
-    ensures rows { λ r. ⌜ r .rows ≡ rowsDrawn (lines (setting .rule) (setting .method) (setting .own) (now (text .entry))) area (setting .scroll) ⌝ }
-    ensures placed { λ r. ⌜ r .placed ≡ placedOn (lines (setting .rule) (setting .method) (setting .own) (now (text .entry))) area (setting .scroll) ⌝ }
-    ensures clipped { λ r. ⌜ r .clipped ≡ clippedOn (lines (setting .rule) (setting .method) (setting .own) (now (text .entry))) area (setting .scroll) ⌝ }
+    ensures cells { λ r.
+        let drawing = textOn (now (styles .entry)) (setting .style) (linesFor setting (now (text .entry))) area (setting .scroll) in
+        ⌜ now (cells .exit) ≡ drawn (screen .columns) drawing (now (cells .entry)) ⌝ }
+    ensures rows { λ r. ⌜ r .rows ≡ rowsDrawn (linesFor setting (now (text .entry))) area (setting .scroll) ⌝ }
+    ensures placed { λ r. ⌜ r .placed ≡ placedOn (linesFor setting (now (text .entry))) area (setting .scroll) ⌝ }
+    ensures clipped { λ r. ⌜ r .clipped ≡ clippedOn (linesFor setting (now (text .entry))) area (setting .scroll) ⌝ }
 {
     let rule = setting.rule;
     let method = setting.method;
@@ -114,7 +79,17 @@ pub fn draw_text(
                 clipped,
             };
         };
-        let glyphs = draw_row(screen, cells, styles, text, area, setting, row, line);
+        let glyphs = draw_row::draw_row(
+            screen,
+            cells,
+            styles,
+            setting.style,
+            rule,
+            text,
+            area,
+            row,
+            line,
+        );
         placed += glyphs.placed;
         clipped += glyphs.clipped;
         composer = next;

@@ -1,0 +1,4 @@
+pub mod Ways
+pub mod Sums
+pub mod Emitted
+pub mod Summing

@@ -1,0 +1,2 @@
+pub mod OneGlyph
+pub mod Writing

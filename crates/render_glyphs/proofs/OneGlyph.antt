@@ -1,0 +1,32 @@
+-- One glyph of a line, written on its row.
+use Prim.Native.Nat.{ℕ, _<_}
+use mathlib.Core.Path.{_≡_, _∙_}
+use mathlib.Core.Bool.{cond}
+use mathlib.Core.List.{List}
+use borrow.Author.Tests.{lt-ltb}
+use lib.Dec.{eqb}
+use lib.ListN.{length, getD, set}
+use Rattle.text.specs.Record.{symbolOf, widthOf, styleOf}
+use Rattle.text.specs.Line.{Start, glyphFrom}
+use Rattle.cell.specs.Cell.{withSymbol, styled}
+use Rattle.buffer.specs.Drawing.{changed, styleAt}
+use Rattle.buffer.proofs.Changed.{changed-same, changed-one}
+use Rattle.compose.specs.Places.{placed}
+use Rattle.render_glyphs.specs.RenderGlyphs.{glyphOn}
+
+-- a glyph of a number that starts in a column
+abbrev pub startOf : ℕ → ℕ → ℕ → Start
+startOf number column word = record { start = column; glyph = glyphFrom number word }
+
+-- its cell gets the symbol, then the text style, then its own style
+pub glyph-written : (styles : List ℕ) (style column word : ℕ) (row : List ℕ) (symbol text-style number own-style with-symbol with-text-style cell : ℕ)
+    → column < length row → 0 < widthOf word → symbol ≡ symbolOf word → text-style ≡ styleAt styles style
+    → number ≡ styleOf word → own-style ≡ styleAt styles number → with-symbol ≡ withSymbol symbol (getD row column 0)
+    → with-text-style ≡ styled text-style with-symbol → cell ≡ styled own-style with-text-style
+    → set row column cell ≡ changed (glyphOn styles style (length row) (startOf 0 column word)) row
+unfolding glyphOn placed
+glyph-written styles style column word row symbol text-style number own-style with-symbol with-text-style cell h some p q n r s t e =
+    let write : ℕ → ℕ = λ c. styled (styleAt styles (styleOf word)) (styled (styleAt styles style) (withSymbol (symbolOf word) c)) in
+    rw (e, t, s, r, n, q, p) (changed-one write column row)
+    ∙ changed-same (λ i c. cond (eqb i column) (write c) c) _ row
+    (λ i c _. simp (lt-ltb 0 (widthOf word) some, lt-ltb column (length row) h))

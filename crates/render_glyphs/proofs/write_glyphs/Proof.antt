@@ -1,0 +1,101 @@
+-- `render_glyphs::write_glyphs` meets its contract.
+use Prim.Native.Nat.{_-_}
+use mathlib.Core.Logic.{⊎-elim}
+use lib.ListN.{length}
+use Rattle.render_glyphs.proofs.Writing.{Writing, writing, writing-places}
+use borrow.Author.Needs.{needs}
+use Rattle.render_glyphs.proofs.write_glyphs.Statement.{statement}
+use Rattle.render_glyphs.proofs.write_glyphs.Tie as tie
+
+abbrev Inv-loop : tie.InvT-loop
+Inv-loop row₀ styles style rule records column₀ placed₀ clipped₀ i₀ row column placed clipped i = Writing styles style rule records row₀ row column placed clipped i
+
+abbrev μ-loop : tie.MeasureT-loop
+μ-loop row₀ styles style rule records column₀ placed₀ clipped₀ i₀ row column placed clipped i = length records - i
+
+loop-holds : tie.Need-loop-holds Inv-loop μ-loop
+loop-holds c = search writing
+
+mul-word : tie.Need-mul-word Inv-loop μ-loop
+mul-word c = search needs
+
+shared-slice-read-word : tie.Need-shared-slice-read-word Inv-loop μ-loop
+shared-slice-read-word c = search needs
+
+width-requires : tie.Need-width-requires Inv-loop μ-loop
+width-requires c κs = search needs
+
+cast-width : tie.Need-cast-width Inv-loop μ-loop
+cast-width c = search needs
+
+add-i : tie.Need-add-i Inv-loop μ-loop
+add-i c = search needs
+
+loop-less : tie.Need-loop-less Inv-loop μ-loop
+loop-less c = search needs
+
+loop-again : tie.Need-loop-again Inv-loop μ-loop
+loop-again c = search writing
+
+loop-less-2 : tie.Need-loop-less-2 Inv-loop μ-loop
+loop-less-2 c = search needs
+
+loop-again-2 : tie.Need-loop-again-2 Inv-loop μ-loop
+loop-again-2 c = search writing
+
+write-glyph-requires : tie.Need-write-glyph-requires Inv-loop μ-loop
+write-glyph-requires c κs = search needs
+
+add-placed : tie.Need-add-placed Inv-loop μ-loop
+add-placed c = search needs
+
+add-clipped : tie.Need-add-clipped Inv-loop μ-loop
+add-clipped c = search needs
+
+add-column : tie.Need-add-column Inv-loop μ-loop
+add-column c = search needs
+
+loop-less-3 : tie.Need-loop-less-3 Inv-loop μ-loop
+loop-less-3 c = search needs
+
+loop-again-3 : tie.Need-loop-again-3 Inv-loop μ-loop
+loop-again-3 c =
+    let turn = c .before .before .before .before in
+    let inv = turn .before .before .before .loop .inv in
+    ⊎-elim
+    (λ t.
+    writing-places _ _ _ _ _ _ _ _ _ _ inv (search needs) _ (turn .width .ensures) (c .before .before .if1 .left) (c .before .if2 .left) _ _ _ _
+    (t .0 .taken) (t .2 .ensures) (t .5) (t .6) (t .7))
+    (λ t. search writing)
+    (c .if3 .came)
+
+same-length : tie.Need-same-length Inv-loop μ-loop
+same-length c = search needs
+
+returns : tie.Need-returns Inv-loop μ-loop
+returns c = search writing
+
+pub write-glyphs-spec : {M : Type 1} → statement M
+write-glyphs-spec =
+    tie.close
+    (tie.spec
+    Inv-loop
+    μ-loop
+    loop-holds
+    mul-word
+    shared-slice-read-word
+    width-requires
+    cast-width
+    add-i
+    loop-less
+    loop-again
+    loop-less-2
+    loop-again-2
+    write-glyph-requires
+    add-placed
+    add-clipped
+    add-column
+    loop-less-3
+    loop-again-3
+    same-length
+    returns)

@@ -1,0 +1,2 @@
+pub mod RenderGlyphs
+pub mod Writing

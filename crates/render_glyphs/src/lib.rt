@@ -1,0 +1,67 @@
+// The glyphs of a composed line, written on a part of a row.
+use text::glyph;
+use wrapping::Rule;
+ghost use mathlib.Core.Path.{_≡_};
+ghost use Prim.Native.Nat.{_<_};
+ghost use lib.ListN.{length};
+ghost use Rattle.text.specs.Record.{widthOf};
+ghost use Rattle.text.specs.Line.{glyphFrom, FewRecords};
+ghost use Rattle.buffer.specs.Drawing.{changed};
+ghost use Rattle.render_glyphs.specs.RenderGlyphs.{glyphOn};
+ghost use Rattle.render_glyphs.specs.Writing.{startsOf, Wrote};
+
+// How many glyphs are placed, and how many are clipped.
+pub struct Glyphs {
+    pub placed: u32,
+    pub clipped: u32,
+}
+
+// Writes a glyph in the cell of its column: the symbol, then the text style, then its own style.
+fn write_glyph(row: &mut [u64], styles: &[u64], style: u8, column: usize, word: u32)
+    requires { ⌜ (column < length (now row)) × (0 < widthOf word) ⌝ }
+    ensures { λ _.
+        let change = glyphOn (now (styles .entry)) style (length (now (row .entry))) (record { start = column; glyph = glyphFrom 0 word }) in
+        ⌜ now (row .exit) ≡ changed change (now (row .entry)) ⌝ }
+{
+    let symbol = glyph::symbol(word) as u64;
+    let text_style = buffer::style_at(styles, style);
+    let own_style = buffer::style_at(styles, glyph::style(word) as u8);
+    let written = cell::apply_style(text_style, cell::set_symbol(symbol, row[column]));
+    row[column] = cell::apply_style(own_style, written);
+}
+
+// Writes the glyphs of a line's records on the cells from its start column on. Those that are wider than the limit aren't its own.
+pub fn write_glyphs(
+    row: &mut [u64],
+    styles: &[u64],
+    style: u8,
+    rule: Rule,
+    records: &[u32],
+) -> Glyphs
+    requires { ⌜ FewRecords (now records) ⌝ }
+    ensures { λ r. ⌜ Wrote (now (styles .entry)) style (startsOf rule 0 (now (records .entry))) (now (row .entry)) (now (row .exit)) r ⌝ }
+{
+    let mut column = 0;
+    let mut placed = 0;
+    let mut clipped = 0;
+    let mut i = 0;
+    while i < records.len() {
+        let word = records[i];
+        let width = glyph::width(word) as usize;
+        i += 1;
+        if rule.limit < width {
+            continue;
+        }
+        if width == 0 {
+            continue;
+        }
+        if column < row.len() {
+            write_glyph(row, styles, style, column, word);
+            placed += 1;
+        } else {
+            clipped += 1;
+        }
+        column += width;
+    }
+    Glyphs { placed, clipped }
+}
