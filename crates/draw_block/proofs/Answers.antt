@@ -1,42 +1,78 @@
--- That the causes of the call `draw_block` come lowest first, and what a refused call leaves.
-use Prim.Native.Nat.{ℕ, _<_, _≤_}
-use mathlib.Core.Path.{_≡_, refl}
-use mathlib.Core.Bool.{true}
+-- What the call `draw_block` answers and draws; what its answers say in document 01's numbers; that its causes come in order; and what
+-- an accepted call knows of its inputs.
+use Prim.Native.Nat.{ℕ, _<_, _^_}
+use mathlib.Core.Path.{_≡_, refl, sym, ap, _∙_}
+use mathlib.Core.Bool.{false}
 use mathlib.Core.List.{List}
-use Rattle.layout.specs.declared.Rect.{Rect}
+use lib.ListN.{length}
+use Rattle.text.specs.Line.{Opens}
 use Rattle.refuse.specs.declared.Ceilings.{Ceilings}
 use Rattle.refuse.specs.declared.Refusal.{Refusal}
+use Rattle.refuse.specs.declared.Refusal.the-variants.{Screen, Titles, Symbol}
 use Rattle.refuse.specs.declared.Verdict.{Verdict}
-use Rattle.refuse.specs.declared.Verdict.the-variants.{Accepted, Refused}
-use Rattle.refuse.specs.Refusal.{refusalNumber, verdictNumber}
-use Rattle.refuse.proofs.Lowest.{ascending, Holds, lowest, only}
-use Rattle.block.specs.declared.Block.{Block}
-use Rattle.draw_block.specs.Call.{blockCauses, blockVerdict, blockAnswer, framedNumber, blockCells}
+use Rattle.refuse.specs.declared.Verdict.the-variants.{Accepted, Refused as RefusedFor}
+use Rattle.refuse.specs.Refusal.{verdictNumber}
+use Rattle.refuse.specs.Causes.{mostAccepted, screenCauses, screenWrong}
+use Rattle.refuse.proofs.Calls.{no-cause, left-refused, left-accepted}
+use Rattle.refuse.proofs.Accepted.{titles-open}
+use Rattle.refuse.proofs.Lowest.{InOrder, in-order}
+use Rattle.check_settings.proofs.Cells.{columns-fit, rows-fit, has-cells}
+use Rattle.block.specs.Causes.{SymbolsFit}
+use Rattle.buffer.specs.Drawing.{drawn}
+use Rattle.buffer.specs.Screen.{screenOf, HasCells}
+use Rattle.draw_block.specs.declared.Framed.the-variants.{Drawn, Refused}
+use Rattle.draw_block.specs.Call.{Call, causesOf, verdictOf, framed, answerOf, framedNumber, drawingOf, cellsAfter}
+
+-- causes come lowest first, and at no other time
+pub lowest-first : (most : Ceilings) (call : Call) → InOrder (causesOf most call)
+unfolding causesOf screenCauses
+lowest-first most call = in-order (causesOf most call) refl
 
 -- the answer's number is the verdict's
-pub answer-number : (verdict : Verdict) → framedNumber (blockAnswer verdict) ≡ verdictNumber verdict
-answer-number Accepted = refl
-answer-number (Refused why) = refl
+framed-number : (verdict : Verdict) → framedNumber (framed verdict) ≡ verdictNumber verdict
+framed-number Accepted = refl
+framed-number (RefusedFor why) = refl
+
+pub answer-number : (call : Call) → framedNumber (answerOf call) ≡ verdictNumber (verdictOf call)
+unfolding answerOf
+answer-number call = framed-number (verdictOf call)
 
 -- a refused call leaves all cells
-pub refused-cells : (why : Refusal) (columns rows : ℕ) (styles titles : List ℕ) (area : Rect) (b : Block) (cells : List ℕ)
-    → blockCells (Refused why) columns rows styles titles area b cells ≡ cells
-unfolding blockCells
-refused-cells why columns rows styles titles area b cells = refl
+pub refused-cells : (call : Call) (why : Refusal) → verdictOf call ≡ RefusedFor why → cellsAfter call ≡ call .cells
+unfolding cellsAfter
+refused-cells call why e = rw e
 
-module _ (most : Ceilings) (columns rows cells : ℕ) (styles titles : List ℕ) (b : Block) where
-  in-order : ascending 0 (blockCauses most columns rows cells styles titles b) ≡ true
-  unfolding blockCauses
-  in-order = refl
+-- v is what the checks answered
+module _ (call : Call) (v : Verdict) (e : v ≡ verdictOf call) where
+  pub block-refused : (why : Refusal) → v ≡ RefusedFor why → (Refused why ≡ answerOf call) × (call .cells ≡ cellsAfter call)
+  unfolding answerOf cellsAfter
+  block-refused why r =
+      let k : verdictOf call ≡ RefusedFor why = sym e ∙ r in
+      (rw k, left-refused (verdictOf call) (drawn (call .columns) (drawingOf call) (call .cells)) (call .cells) why k)
 
-  -- a cause that holds means a refusal, with its number or a lower one
-  pub block-lowest : (why : Refusal) → Holds why (blockCauses most columns rows cells styles titles b)
-      → (0 < verdictNumber (blockVerdict most columns rows cells styles titles b))
-      × (verdictNumber (blockVerdict most columns rows cells styles titles b) ≤ refusalNumber why)
-  unfolding blockVerdict
-  block-lowest why h = lowest 0 (blockCauses most columns rows cells styles titles b) why in-order h
+  module _ (a : v ≡ Accepted) where
+    pub block-drawn : (next : List ℕ) → next ≡ drawn (call .columns) (drawingOf call) (call .cells)
+        → (Drawn ≡ answerOf call) × (next ≡ cellsAfter call)
+    unfolding answerOf cellsAfter
+    block-drawn next p =
+        let k : verdictOf call ≡ Accepted = sym e ∙ a in
+        (rw k, left-accepted (verdictOf call) (drawn (call .columns) (drawingOf call) (call .cells)) (call .cells) k next p)
 
-  -- and a refusal is for a cause that holds
-  pub block-only : (why : Refusal) → blockVerdict most columns rows cells styles titles b ≡ Refused why → Holds why (blockCauses most columns rows cells styles titles b)
-  unfolding blockVerdict
-  block-only why e = only (blockCauses most columns rows cells styles titles b) why e
+    screen-right : screenWrong mostAccepted (call .columns) (call .rows) (length (call .cells)) ≡ false
+    unfolding verdictOf causesOf screenCauses
+    screen-right = no-cause (causesOf mostAccepted call) Screen (sym e ∙ a)
+
+    pub few-columns : call .columns < 2 ^ 16
+    few-columns = columns-fit (call .columns) (call .rows) (length (call .cells)) screen-right
+
+    pub few-rows : call .rows < 2 ^ 16
+    few-rows = rows-fit (call .columns) (call .rows) (length (call .cells)) screen-right
+
+    pub drawable : SymbolsFit (call .block) × HasCells (screenOf (call .columns) (call .rows)) (length (call .cells)) × Opens (call .titles)
+    unfolding verdictOf causesOf screenCauses
+    drawable =
+        let causes = causesOf mostAccepted call in (
+          no-cause causes Symbol (sym e ∙ a),
+          has-cells (call .columns) (call .rows) (length (call .cells)) screen-right,
+          titles-open mostAccepted (call .titles) (no-cause causes Titles (sym e ∙ a)),
+        )

@@ -1,3 +1,2 @@
-pub mod Verdicts
-pub mod Accepting
+pub mod Styles
 pub mod Answers

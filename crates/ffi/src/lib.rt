@@ -10,24 +10,16 @@ use flat_answers::MeasureAnswer;
 use flat_answers::TallyAnswer;
 ghost use mathlib.Core.Path.{_≡_};
 ghost use mathlib.Core.Bool.{cond, _&&_};
-ghost use mathlib.Core.List.{map};
-ghost use lib.ListN.{length};
-ghost use Rattle.refuse.specs.Refusal.{verdictNumber};
-ghost use Rattle.refuse.specs.Causes.{mostAccepted};
-ghost use Rattle.compose.specs.declared.Method.the-variants.{Wrapped};
-ghost use Rattle.compose.specs.Lines.{lines};
-ghost use Rattle.lines.specs.Causes.{textVerdict};
-ghost use Rattle.lines.specs.List.{listed, ruleOf, listVerdict, listAnswer, listAfter};
-ghost use Rattle.tally.specs.Tally.{tallyOf, tallyAnswer};
-ghost use Rattle.block.specs.Inner.{innerOf};
-ghost use Rattle.inner.specs.Call.{innerVerdict, innerAnswer};
-ghost use Rattle.measure.specs.Measures.{lineCount, lineWidth};
-ghost use Rattle.measure.specs.Calls.{widthVerdict, countVerdict, measuredAnswer};
-ghost use Rattle.paragraph.specs.Notice.{noticeCounts};
-ghost use Rattle.draw_block.specs.Call.{blockVerdict, blockCells};
-ghost use Rattle.draw_notice.specs.Call.{noticeVerdict, noticeAnswer, screenOf, noticeCells};
+ghost use Rattle.lines.specs.Call.{callOf as listCall, answerOf as listAnswer, listAfter};
+ghost use Rattle.tally.specs.Call.{callOf as tallyCall, answerOf as tallyAnswer};
+ghost use Rattle.inner.specs.Call.{callOf as innerCall, answerOf as innerAnswer};
+ghost use Rattle.measure.specs.LineCount.{callOf as countCall, answerOf as countAnswer};
+ghost use Rattle.measure.specs.LineWidth.{callOf as widthCall, answerOf as widthAnswer};
+ghost use Rattle.draw_block.specs.Call.{callOf as blockCall, answerOf as blockAnswer, cellsAfter as blockCells, framedNumber};
+ghost use Rattle.draw_notice.specs.Call.{callOf as noticeCall, answerOf as noticeAnswer, cellsAfter as noticeCells};
 ghost use Rattle.flat.specs.Flat.{flagNamed, alignmentNamed, wrapNamed, areaFrom, blockKnown, blockFrom, textKnown, noticeFrom};
-ghost use Rattle.flat_answers.specs.Answer.{unknownNumber, listKnown, tallyKnown, listFlat, tallyFlat, areaFlat, drawFlat, measureFlat, listUnknown, tallyUnknown, areaUnknown, drawUnknown, measureUnknown};
+ghost use Rattle.flat_answers.specs.Answer.{unknownNumber, listKnown, tallyKnown, listFlat, tallyFlat, areaFlat, drawFlat, measureFlat};
+ghost use Rattle.flat_answers.specs.Answer.{listUnknown, tallyUnknown, areaUnknown, drawUnknown, measureUnknown};
 
 // Lists the composed lines of a text.
 #[no_mangle]
@@ -38,8 +30,11 @@ pub extern "C" fn notice_list_lines(
     trim: u8,
     list: &mut [u64],
 ) -> ListAnswer
-    ensures answer { λ r. ⌜ r ≡ cond (listKnown alignment trim) (listFlat (listAnswer (listVerdict mostAccepted (ruleOf limit (flagNamed trim)) (alignmentNamed alignment) (now (text .entry)) (length (now (list .entry)))) (length (lines (ruleOf limit (flagNamed trim)) Wrapped (alignmentNamed alignment) (now (text .entry)))))) listUnknown ⌝ }
-    ensures entries { λ r. ⌜ now (list .exit) ≡ cond (listKnown alignment trim) (listAfter (listVerdict mostAccepted (ruleOf limit (flagNamed trim)) (alignmentNamed alignment) (now (text .entry)) (length (now (list .entry)))) (map listed (lines (ruleOf limit (flagNamed trim)) Wrapped (alignmentNamed alignment) (now (text .entry)))) (now (list .entry))) (now (list .entry)) ⌝ }
+    ensures { λ r.
+        let known = listKnown alignment trim in
+        let call = listCall (now (text .entry)) (alignmentNamed alignment) limit (flagNamed trim) (now (list .entry)) in
+        ⌜ (r ≡ cond known (listFlat (listAnswer call)) listUnknown)
+        × (now (list .exit) ≡ cond known (listAfter call) (now (list .entry))) ⌝ }
 {
     if 2 < alignment {
         return ListAnswer {
@@ -60,7 +55,9 @@ pub extern "C" fn notice_list_lines(
 // Tallies a text at a limit.
 #[no_mangle]
 pub extern "C" fn notice_tally(text: &[u32], limit: u16, trim: u8) -> TallyAnswer
-    ensures { λ r. ⌜ r ≡ cond (tallyKnown trim) (tallyFlat (tallyAnswer (textVerdict mostAccepted limit (now (text .entry))) (tallyOf (ruleOf limit (flagNamed trim)) (now (text .entry))))) tallyUnknown ⌝ }
+    ensures { λ r.
+        let call = tallyCall (now (text .entry)) limit (flagNamed trim) in
+        ⌜ r ≡ cond (tallyKnown trim) (tallyFlat (tallyAnswer call)) tallyUnknown ⌝ }
 {
     if 1 < trim {
         return TallyAnswer {
@@ -79,7 +76,9 @@ pub extern "C" fn notice_tally(text: &[u32], limit: u16, trim: u8) -> TallyAnswe
 // The inner area of a block.
 #[no_mangle]
 pub extern "C" fn notice_inner(block: FlatBlock, titles: &[u32], area: FlatArea) -> AreaAnswer
-    ensures { λ r. ⌜ r ≡ cond (blockKnown block) (areaFlat (innerAnswer (innerVerdict mostAccepted (now (titles .entry)) (blockFrom block)) (innerOf (blockFrom block) (now (titles .entry)) (areaFrom area)))) areaUnknown ⌝ }
+    ensures { λ r.
+        let call = innerCall (blockFrom block) (now (titles .entry)) (areaFrom area) in
+        ⌜ r ≡ cond (blockKnown block) (areaFlat (innerAnswer call)) areaUnknown ⌝ }
 {
     if !block.is_known() {
         return AreaAnswer {
@@ -104,8 +103,11 @@ pub extern "C" fn notice_draw_block(
     area: FlatArea,
     block: FlatBlock,
 ) -> u32
-    ensures number { λ r. ⌜ r ≡ cond (blockKnown block) (verdictNumber (blockVerdict mostAccepted columns rows (length (now (cells .entry))) (now (styles .entry)) (now (titles .entry)) (blockFrom block))) unknownNumber ⌝ }
-    ensures cells { λ r. ⌜ now (cells .exit) ≡ cond (blockKnown block) (blockCells (blockVerdict mostAccepted columns rows (length (now (cells .entry))) (now (styles .entry)) (now (titles .entry)) (blockFrom block)) columns rows (now (styles .entry)) (now (titles .entry)) (areaFrom area) (blockFrom block) (now (cells .entry))) (now (cells .entry)) ⌝ }
+    ensures { λ r.
+        let lent = now (cells .entry) in
+        let call = blockCall columns rows lent (now (styles .entry)) (now (titles .entry)) (areaFrom area) (blockFrom block) in
+        ⌜ (r ≡ cond (blockKnown block) (framedNumber (blockAnswer call)) unknownNumber)
+        × (now (cells .exit) ≡ cond (blockKnown block) (blockCells call) lent) ⌝ }
 {
     if !block.is_known() {
         return 255;
@@ -128,8 +130,13 @@ pub extern "C" fn notice_draw_notice(
     block: FlatBlock,
     settings: FlatText,
 ) -> DrawAnswer
-    ensures answer { λ r. ⌜ r ≡ cond (blockKnown block && textKnown settings) (drawFlat (noticeAnswer (noticeVerdict mostAccepted columns rows (length (now (cells .entry))) (now (styles .entry)) (now (text .entry)) (now (titles .entry)) (noticeFrom block settings)) (noticeCounts (screenOf columns rows) (now (text .entry)) (now (titles .entry)) (noticeFrom block settings) (areaFrom area)))) drawUnknown ⌝ }
-    ensures cells { λ r. ⌜ now (cells .exit) ≡ cond (blockKnown block && textKnown settings) (noticeCells (noticeVerdict mostAccepted columns rows (length (now (cells .entry))) (now (styles .entry)) (now (text .entry)) (now (titles .entry)) (noticeFrom block settings)) columns rows (now (styles .entry)) (now (text .entry)) (now (titles .entry)) (areaFrom area) (noticeFrom block settings) (now (cells .entry))) (now (cells .entry)) ⌝ }
+    ensures { λ r.
+        let known = blockKnown block && textKnown settings in
+        let lent = now (cells .entry) in
+        let named = noticeFrom block settings in
+        let call = noticeCall columns rows lent (now (styles .entry)) (now (text .entry)) (now (titles .entry)) (areaFrom area) named in
+        ⌜ (r ≡ cond known (drawFlat (noticeAnswer call)) drawUnknown)
+        × (now (cells .exit) ≡ cond known (noticeCells call) lent) ⌝ }
 {
     if !flat::all_known(block, settings) {
         return DrawAnswer {
@@ -163,7 +170,9 @@ pub extern "C" fn notice_line_count(
     settings: FlatText,
     width: u16,
 ) -> MeasureAnswer
-    ensures { λ r. ⌜ r ≡ cond (blockKnown block && textKnown settings) (measureFlat (measuredAnswer (countVerdict mostAccepted (now (text .entry)) (now (titles .entry)) (blockFrom block) width) (lineCount (blockFrom block) (now (titles .entry)) (wrapNamed settings) width (now (text .entry))))) measureUnknown ⌝ }
+    ensures { λ r.
+        let call = countCall (now (text .entry)) (now (titles .entry)) (blockFrom block) (wrapNamed settings) width in
+        ⌜ r ≡ cond (blockKnown block && textKnown settings) (measureFlat (countAnswer call)) measureUnknown ⌝ }
 {
     if !flat::all_known(block, settings) {
         return MeasureAnswer {
@@ -178,7 +187,9 @@ pub extern "C" fn notice_line_count(
 // How many columns a notice needs.
 #[no_mangle]
 pub extern "C" fn notice_line_width(text: &[u32], titles: &[u32], block: FlatBlock) -> MeasureAnswer
-    ensures { λ r. ⌜ r ≡ cond (blockKnown block) (measureFlat (measuredAnswer (widthVerdict mostAccepted (now (text .entry)) (now (titles .entry)) (blockFrom block)) (lineWidth (blockFrom block) (now (text .entry))))) measureUnknown ⌝ }
+    ensures { λ r.
+        let call = widthCall (now (text .entry)) (now (titles .entry)) (blockFrom block) in
+        ⌜ r ≡ cond (blockKnown block) (measureFlat (widthAnswer call)) measureUnknown ⌝ }
 {
     if !block.is_known() {
         return MeasureAnswer {

@@ -14,8 +14,8 @@ use Rattle.block.specs.declared.Borders.{Borders}
 use Rattle.block.specs.declared.Effect.the-variants.{Overlay, Symbol}
 use Rattle.block.specs.declared.Shadow.{Shadow}
 use Rattle.block.specs.declared.Shadow.the-variants.{Absent, Present}
-use Rattle.measure.specs.declared.Wrap.{Wrap}
-use Rattle.measure.specs.declared.Wrap.the-variants.{Off, On}
+use Rattle.compose.specs.declared.Wrap.{Wrap}
+use Rattle.compose.specs.declared.Wrap.the-variants.{On, Off}
 use Rattle.block.specs.declared.Block.{Block}
 use Rattle.flat.specs.declared.FlatBlock.{FlatBlock}
 use Rattle.flat.specs.declared.FlatText.{FlatText}

@@ -9,13 +9,13 @@ use Rattle.text.specs.declared.Alignment.the-variants.{Left, Center, Right}
 use Rattle.text.specs.declared.TitlePosition.{TitlePosition}
 use Rattle.text.specs.declared.TitlePosition.the-variants.{Top, Bottom}
 use Rattle.layout.specs.declared.Rect.{Rect}
-use Rattle.refuse.specs.Causes.{some}
+use Rattle.text.specs.Lists.{some}
 use Rattle.block.specs.declared.Block.{Block}
 use Rattle.block.specs.declared.Effect.the-variants.{Overlay, Symbol}
 use Rattle.block.specs.declared.Shadow.{Shadow}
 use Rattle.block.specs.declared.Shadow.the-variants.{Absent, Present}
-use Rattle.measure.specs.declared.Wrap.{Wrap}
-use Rattle.measure.specs.declared.Wrap.the-variants.{Off, On}
+use Rattle.compose.specs.declared.Wrap.{Wrap}
+use Rattle.compose.specs.declared.Wrap.the-variants.{On, Off}
 use Rattle.paragraph.specs.declared.Notice.{Notice}
 use Rattle.flat.specs.declared.FlatArea.{FlatArea}
 use Rattle.flat.specs.declared.FlatBlock.{FlatBlock}

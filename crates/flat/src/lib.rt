@@ -5,15 +5,16 @@ use block::Borders;
 use block::Effect;
 use block::Shadow;
 use check_settings::styles;
+use compose::Wrap;
 use layout::Rect;
-use measure::Wrap;
 use padding::Padding;
 use paragraph::Notice;
 use text::Alignment;
 use text::TitlePosition;
 ghost use mathlib.Core.Path.{_≡_};
 ghost use mathlib.Core.Bool.{_&&_};
-ghost use Rattle.flat.specs.Flat.{unnamed, alignmentNamed, positionNamed, shadowNamed, wrapNamed, areaFrom, blockKnown, blockFrom, textKnown, noticeFrom};
+ghost use Rattle.flat.specs.Flat.{unnamed, alignmentNamed, positionNamed, shadowNamed, wrapNamed};
+ghost use Rattle.flat.specs.Flat.{areaFrom, blockKnown, blockFrom, textKnown, noticeFrom};
 
 // A rectangle.
 #[repr(C)]

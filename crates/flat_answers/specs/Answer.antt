@@ -7,12 +7,12 @@ use Rattle.layout.specs.declared.Rect.{Rect}
 use Rattle.inner.specs.declared.InnerArea.{InnerArea}
 use Rattle.inner.specs.Call.{innerNumber, innerRect}
 use Rattle.lines.specs.declared.Listed.{Listed}
-use Rattle.lines.specs.List.{listedNumber, listedCount}
+use Rattle.lines.specs.Call.{listedNumber, listedCount}
 use Rattle.tally.specs.declared.Counts.{Counts}
 use Rattle.tally.specs.declared.Tallied.{Tallied}
-use Rattle.tally.specs.Tally.{talliedNumber, talliedCounts}
+use Rattle.tally.specs.Call.{talliedNumber, talliedCounts}
 use Rattle.measure.specs.declared.Measured.{Measured}
-use Rattle.measure.specs.Calls.{measuredNumber, measuredValue}
+use Rattle.measure.specs.Answers.{measuredNumber, measuredValue}
 use Rattle.rows.specs.declared.Rows.{Rows}
 use Rattle.draw_notice.specs.declared.Drawn.{Drawn}
 use Rattle.draw_notice.specs.Call.{drawnNumber, drawnCounts}

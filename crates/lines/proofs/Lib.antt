@@ -1,4 +1,2 @@
-pub mod Bounds
-pub mod Counting
-pub mod Verdicts
+pub mod Writing
 pub mod Answers

@@ -2,7 +2,7 @@
 use Prim.Native.Nat.{ℕ, _≤_}
 use mathlib.Core.Path.{_≡_, refl, sym, ap, _∙_}
 use mathlib.Core.Bool.{Bool, true, false, cond}
-use mathlib.Core.List.{List, _++_, map}
+use mathlib.Core.List.{List, _++_}
 use native.Mathlib.Omega.{arith}
 use borrow.Author.Tests.{ltb-false}
 use lib.Dec.{ltb}
@@ -10,11 +10,7 @@ use lib.ListN.{length, take, drop}
 use lib.Seq.{length-take-le, take-at}
 use Rattle.refuse.specs.declared.Refusal.{Refusal}
 use Rattle.refuse.specs.Refusal.{refusalNumber}
-use Rattle.text.specs.declared.Alignment.the-variants.{Left}
-use Rattle.compose.specs.declared.Method.the-variants.{Wrapped}
-use Rattle.compose.specs.Lines.{lines}
-use Rattle.refuse.specs.Causes.{mostAccepted}
-use Rattle.lines.specs.List.{listed, ruleOf, listVerdict, listAnswer, listAfter}
+use Rattle.lines.specs.Call.{answerOf as listAnswer, listAfter}
 use Rattle.lines.specs.declared.Listed.{Listed}
 use Rattle.lines.specs.declared.Listed.the-variants as listed-variant
 use Rattle.listing.specs.declared.Answer.{Answer}
@@ -22,7 +18,7 @@ use Rattle.listing.specs.declared.Answer.the-variants as answer
 use Rattle.listinput.specs.declared.Parsed.{Parsed}
 use Rattle.listinput.specs.declared.Parsed.the-variants.{Refused, Text}
 use Rattle.listinput.specs.Input.{limitOf, trimOf, recordsOf, mostRecords, incomplete, trimWrong, tooMany, parsedOf, holding}
-use Rattle.listing.specs.Program.{answerFor, answerOf, listOf}
+use Rattle.listing.specs.Program.{answerFor, callFor, answerOf, listOf}
 
 module _ (l : Listed) where
   pub answer-lines : (count : ℕ) → l ≡ listed-variant.Written count → answer.Lines count ≡ answerFor l
@@ -48,7 +44,7 @@ unfolding parsedOf
 counted input = counted-of (incomplete input) (trimWrong input) (tooMany input) (trimOf input) (limitOf input) (length (recordsOf input)) refl
 
 module _ (input : List ℕ) (p : Parsed) (e : p ≡ parsedOf input) where
-  pub answer-own : (number : ℕ) (list : List ℕ) → p ≡ Refused number → (answer.Refused number ≡ answerOf input) × (list ≡ listOf input list)
+  pub answer-own : (number : ℕ) (list : List ℕ) → p ≡ Refused number → (answer.Refused number ≡ answerOf input list) × (list ≡ listOf input list)
   unfolding answerOf listOf
   answer-own number list h = (rw (← e, h), rw (← e, h))
 
@@ -64,18 +60,16 @@ module _ (input : List ℕ) (p : Parsed) (e : p ≡ parsedOf input) where
       pub text-part : count ≡ length (take count text)
       text-part = sym (length-take-le count text text-fits)
 
-    module _ (list₀ : List ℕ) (room : length list₀ ≡ mostRecords) (hold : text ≡ holding p (recordsOf input) text₀) where
+    module _ (list₀ : List ℕ) (hold : text ≡ holding p (recordsOf input) text₀) where
       part-is : take count text ≡ recordsOf input
       part-is =
           let k : text ≡ recordsOf input ++ drop count text₀ = rw h at hold in
           ap (take count) k ∙ take-at (recordsOf input) (drop count text₀) count (sym (known .0))
 
       pub answer-listed : (l : Listed) (list : List ℕ) (r : Answer) → r ≡ answerFor l
-          → l ≡ listAnswer (listVerdict mostAccepted (ruleOf limit trim) Left (take count text) (length list₀)) (length (lines (ruleOf limit trim) Wrapped Left (take count text)))
-          → list ≡ listAfter (listVerdict mostAccepted (ruleOf limit trim) Left (take count text) (length list₀)) (map listed (lines (ruleOf limit trim) Wrapped Left (take count text))) list₀
-          → (r ≡ answerOf input) × (list ≡ listOf input list₀)
+          → l ≡ listAnswer (callFor limit trim (take count text) list₀) → list ≡ listAfter (callFor limit trim (take count text) list₀)
+          → (r ≡ answerOf input list₀) × (list ≡ listOf input list₀)
       unfolding answerOf listOf
-      answer-listed l list r q f g =
-          (q ∙ ap answerFor (rw (part-is, room) at f) ∙ rw (← e, h), (rw (part-is, room) at g) ∙ rw (← e, h))
+      answer-listed l list r q f g = (q ∙ ap answerFor (rw part-is at f) ∙ rw (← e, h), (rw part-is at g) ∙ rw (← e, h))
 
 pub ruleset answering = (answer-lines, answer-refused, answer-own, text-fits, text-part, answer-listed)

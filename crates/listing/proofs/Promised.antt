@@ -1,50 +1,19 @@
--- Beside the program's contract: its list is never too short, and the fields that it prints are the composed line's.
-use Prim.Native.Nat.{ℕ, _+_, _*_, _/_, _%_, _^_, _<_, _≤_}
-use mathlib.Core.Path.{_≡_, refl}
+-- Beside the program's contract: its list is never too short.
+use Prim.Native.Nat.{ℕ, _≤_}
+use mathlib.Core.Path.{_≡_}
 use mathlib.Core.Bool.{false}
 use mathlib.Core.List.{List}
 use native.Mathlib.Omega.{arith}
 use borrow.Author.Tests.{le-ltb}
 use lib.ListN.{length}
 use Rattle.text.specs.declared.Alignment.the-variants.{Left}
-use Rattle.text.specs.Alignment.{alignmentNumber}
-use Rattle.text.proofs.Resolving.{alignment-small}
 use Rattle.refuse.specs.Causes.{listTooShort}
 use Rattle.wrapping.specs.declared.Rule.{Rule}
-use Rattle.compose.specs.declared.Composed.{Composed}
 use Rattle.compose.specs.declared.Method.the-variants.{Wrapped}
 use Rattle.compose.specs.Lines.{lines}
-use Rattle.lines.specs.List.{packed}
-use Rattle.lines.proofs.Bounds.{lines-short}
+use Rattle.compose.proofs.Bounds.{lines-short}
 use Rattle.listinput.specs.Input.{mostRecords}
-use Rattle.listing.specs.Entry.{entryFirst, entryEnd, entryWidth, entryAlignment}
 
 -- a text has no more lines than records, so that cause 9 never holds
 pub long-enough : (u : Rule) (text : List ℕ) → length text ≤ mostRecords → listTooShort mostRecords (length (lines u Wrapped Left text)) ≡ false
 long-enough u text h = le-ltb mostRecords (length (lines u Wrapped Left text)) (omega (arith, lines-short u Left text))
-
--- fields of so many bits come back from an entry
-module _ (first end width alignment : ℕ) (e : end < 2 ^ 15) (w : width < 2 ^ 16) (a : alignment < 4) where
-  abbrev entry : ℕ
-  entry = first * 2 ^ 49 + end * 2 ^ 34 + width * 2 ^ 18 + alignment * 2 ^ 16
-
-  first-back : entry / 2 ^ 49 ≡ first
-  first-back = omega arith
-
-  end-back : entry / 2 ^ 34 % 2 ^ 15 ≡ end
-  end-back = let q : entry / 2 ^ 34 ≡ first * 2 ^ 15 + end = omega arith in omega arith
-
-  width-back : entry / 2 ^ 18 % 2 ^ 16 ≡ width
-  width-back = let q : entry / 2 ^ 18 ≡ first * 2 ^ 31 + end * 2 ^ 16 + width = omega arith in omega arith
-
-  alignment-back : entry / 2 ^ 16 % 2 ^ 2 ≡ alignment
-  alignment-back = let q : entry / 2 ^ 16 ≡ first * 2 ^ 33 + end * 2 ^ 18 + width * 2 ^ 2 + alignment = omega arith in omega arith
-
--- what is printed of an entry is what is told of its line; the list call packs no line whose fields are larger
-pub entry-fields : (c : Composed) → c .end < 2 ^ 15 → c .width < 2 ^ 16
-    → (entryFirst (packed c) ≡ c .first) × (entryEnd (packed c) ≡ c .end) × (entryWidth (packed c) ≡ c .width) × (entryAlignment (packed c) ≡ alignmentNumber (c .alignment))
-unfolding packed
-entry-fields c e w =
-    let n : ℕ = alignmentNumber (c .alignment) in
-    let a : n < 4 = omega (arith, alignment-small n (c .alignment) refl) in
-    (first-back (c .first) (c .end) (c .width) n e w a, end-back (c .first) (c .end) (c .width) n e w a, width-back (c .first) (c .end) (c .width) n e w a, alignment-back (c .first) (c .end) (c .width) n e w a)

@@ -8,7 +8,6 @@ ghost use lib.ListN.{length};
 ghost use Rattle.listinput.specs.Input.{mostRecords};
 ghost use Rattle.listing.specs.Program.{answerFor, answerOf, listOf};
 
-mod entry;
 mod print;
 mod read;
 
@@ -31,7 +30,9 @@ fn answer_for(listed: Listed) -> Answer
 // The answer to an input, the notice aligned left.
 fn answer_to(input: &[u8], text: &mut [u32], list: &mut [u64]) -> Answer
     requires { ⌜ (mostRecords ≤ length (now text)) × (length (now list) ≡ mostRecords) ⌝ }
-    ensures { λ r. ⌜ (r ≡ answerOf (now (input .entry))) × (now (list .exit) ≡ listOf (now (input .entry)) (now (list .entry))) ⌝ }
+    ensures { λ r.
+        let lent = now (list .entry) in
+        ⌜ (r ≡ answerOf (now (input .entry)) lent) × (now (list .exit) ≡ listOf (now (input .entry)) lent) ⌝ }
 {
     match listinput::parse(input, text) {
         Parsed::Refused(number) => Answer::Refused(number),

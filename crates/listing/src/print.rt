@@ -1,5 +1,4 @@
 // What the program prints.
-use crate::entry;
 use libc::STDOUT_FILENO;
 
 // A word, a blank and a number on one line.

@@ -1,48 +1,80 @@
--- What the answers of `line_count` and `line_width` say in document 01's numbers, and that their causes come lowest first.
-use Prim.Native.Nat.{ℕ, _<_, _≤_}
-use mathlib.Core.Path.{_≡_, refl}
-use mathlib.Core.List.{List}
+-- What the calls `line_count` and `line_width` answer; what the answers say in document 01's numbers; and that causes come in order.
+use Prim.Native.Nat.{ℕ}
+use mathlib.Core.Path.{_≡_, refl, sym, _∙_}
 use Rattle.refuse.specs.declared.Ceilings.{Ceilings}
 use Rattle.refuse.specs.declared.Refusal.{Refusal}
+use Rattle.refuse.specs.declared.Refusal.the-variants.{TextLength, TextHeads}
 use Rattle.refuse.specs.declared.Verdict.{Verdict}
-use Rattle.refuse.specs.declared.Verdict.the-variants.{Accepted, Refused}
-use Rattle.refuse.specs.Refusal.{refusalNumber, verdictNumber}
-use Rattle.refuse.proofs.Lowest.{Holds, lowest, only}
-use Rattle.block.specs.declared.Block.{Block}
-use Rattle.measure.specs.Calls.{widthCauses, widthVerdict, countCauses, countVerdict, measuredAnswer, measuredNumber, measuredValue}
+use Rattle.refuse.specs.declared.Verdict.the-variants.{Accepted, Refused as RefusedFor}
+use Rattle.refuse.specs.Refusal.{verdictNumber}
+use Rattle.refuse.specs.Causes.{mostAccepted, textCauses}
+use Rattle.refuse.proofs.Calls.{no-cause, answer-refused, answer-accepted, answered-number, answered-value}
+use Rattle.refuse.proofs.Accepted.{Sound, sound}
+use Rattle.refuse.proofs.Lowest.{InOrder, in-order}
+use Rattle.measures.specs.Measures.{lineWidth}
+use Rattle.check_block.specs.Causes.{frameCauses}
+use Rattle.measure.specs.declared.Measured.the-variants.{Value, Refused}
+use Rattle.measure.specs.Answers.{measuredNumber, measuredValue}
+use Rattle.measure.specs.LineWidth as width
+use Rattle.measure.specs.LineCount as count
 
--- the answer's number is the verdict's
-pub answer-number : (verdict : Verdict) (value : ℕ) → measuredNumber (measuredAnswer verdict value) ≡ verdictNumber verdict
-answer-number Accepted value = refl
-answer-number (Refused why) value = refl
+-- causes come lowest first, and at no other time
+pub width-lowest-first : (most : Ceilings) (call : width.Call) → InOrder (width.causesOf most call)
+unfolding width.causesOf textCauses frameCauses
+width-lowest-first most call = in-order (width.causesOf most call) refl
 
--- an accepted call answers the value
-pub accepted-value : (value : ℕ) → measuredValue (measuredAnswer Accepted value) ≡ value
-accepted-value value = refl
+pub count-lowest-first : (most : Ceilings) (call : count.Call) → InOrder (count.causesOf most call)
+unfolding count.causesOf width.causesOf textCauses frameCauses
+count-lowest-first most call = in-order (count.causesOf most call) refl
 
--- "number, counts 0"
-pub refused-value : (why : Refusal) (value : ℕ) → measuredValue (measuredAnswer (Refused why) value) ≡ 0
-refused-value why value = refl
+-- the answer's number is the verdict's, and its value 0 where it is refused
+module _ (call : width.Call) where
+  pub width-number : measuredNumber (width.answerOf call) ≡ verdictNumber (width.verdictOf call)
+  unfolding width.answerOf
+  width-number = answered-number Value Refused measuredNumber (λ value. refl) (λ why. refl) (width.verdictOf call) (lineWidth (call .block) (call .text))
 
-module _ (most : Ceilings) (text titles : List ℕ) (b : Block) where
-  -- a cause that holds means a refusal, with its number or a lower one
-  pub width-lowest : (why : Refusal) → Holds why (widthCauses most text titles b)
-      → (0 < verdictNumber (widthVerdict most text titles b)) × (verdictNumber (widthVerdict most text titles b) ≤ refusalNumber why)
-  unfolding widthVerdict widthCauses
-  width-lowest why h = lowest 0 (widthCauses most text titles b) why refl h
+  pub width-value : measuredValue (width.answerOf call) ≡ width.valueOf call
+  unfolding width.answerOf width.valueOf
+  width-value = answered-value Value Refused measuredValue (λ value. value) 0 (λ value. refl) (λ why. refl) (width.verdictOf call) (lineWidth (call .block) (call .text))
 
-  -- and a refusal is for a cause that holds
-  pub width-only : (why : Refusal) → widthVerdict most text titles b ≡ Refused why → Holds why (widthCauses most text titles b)
-  unfolding widthVerdict
-  width-only why e = only (widthCauses most text titles b) why e
+  -- v is what the checks answered
+  module _ (v : Verdict) (e : v ≡ width.verdictOf call) where
+    pub width-refused : (why : Refusal) → v ≡ RefusedFor why → Refused why ≡ width.answerOf call
+    unfolding width.answerOf
+    width-refused why r = answer-refused Value Refused (width.verdictOf call) (lineWidth (call .block) (call .text)) why (sym e ∙ r)
 
-  -- the same of `line_count`
-  module _ (width : ℕ) where
-    pub count-lowest : (why : Refusal) → Holds why (countCauses most text titles b width)
-        → (0 < verdictNumber (countVerdict most text titles b width)) × (verdictNumber (countVerdict most text titles b width) ≤ refusalNumber why)
-    unfolding countVerdict countCauses widthCauses
-    count-lowest why h = lowest 0 (countCauses most text titles b width) why refl h
+    module _ (a : v ≡ Accepted) where
+      pub width-answered : (value : ℕ) → value ≡ lineWidth (call .block) (call .text) → Value value ≡ width.answerOf call
+      unfolding width.answerOf
+      width-answered value p = answer-accepted Value Refused (width.verdictOf call) (lineWidth (call .block) (call .text)) (sym e ∙ a) value p
 
-    pub count-only : (why : Refusal) → countVerdict most text titles b width ≡ Refused why → Holds why (countCauses most text titles b width)
-    unfolding countVerdict
-    count-only why e = only (countCauses most text titles b width) why e
+      pub width-sound : Sound (call .text)
+      unfolding width.verdictOf width.causesOf textCauses frameCauses
+      width-sound =
+          let causes = width.causesOf mostAccepted call in
+          sound (call .text) (no-cause causes TextLength (sym e ∙ a)) (no-cause causes TextHeads (sym e ∙ a))
+
+module _ (call : count.Call) where
+  pub count-number : measuredNumber (count.answerOf call) ≡ verdictNumber (count.verdictOf call)
+  unfolding count.answerOf
+  count-number = answered-number Value Refused measuredNumber (λ value. refl) (λ why. refl) (count.verdictOf call) (count.countOf call)
+
+  pub count-value : measuredValue (count.answerOf call) ≡ count.valueOf call
+  unfolding count.answerOf count.valueOf
+  count-value = answered-value Value Refused measuredValue (λ value. value) 0 (λ value. refl) (λ why. refl) (count.verdictOf call) (count.countOf call)
+
+  module _ (v : Verdict) (e : v ≡ count.verdictOf call) where
+    pub count-refused : (why : Refusal) → v ≡ RefusedFor why → Refused why ≡ count.answerOf call
+    unfolding count.answerOf
+    count-refused why r = answer-refused Value Refused (count.verdictOf call) (count.countOf call) why (sym e ∙ r)
+
+    module _ (a : v ≡ Accepted) where
+      pub count-answered : (value : ℕ) → value ≡ count.countOf call → Value value ≡ count.answerOf call
+      unfolding count.answerOf
+      count-answered value p = answer-accepted Value Refused (count.verdictOf call) (count.countOf call) (sym e ∙ a) value p
+
+      pub count-sound : Sound (call .text)
+      unfolding count.verdictOf count.causesOf width.causesOf textCauses frameCauses
+      count-sound =
+          let causes = count.causesOf mostAccepted call in
+          sound (call .text) (no-cause causes TextLength (sym e ∙ a)) (no-cause causes TextHeads (sym e ∙ a))

@@ -1,4 +1,2 @@
-pub mod Verdicts
 pub mod Answers
-pub mod Widening
 pub mod Lines

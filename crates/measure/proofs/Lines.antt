@@ -1,40 +1,25 @@
--- How many lines a text has, one law for each way to count them; and that what is added up fits 32 bits.
+-- What `line_count` and `line_width` add up fits 32 bits.
 use Prim.Native.Nat.{ℕ, suc, _+_, _*_, _≤_}
 use mathlib.Core.Path.{_≡_}
 use mathlib.Core.Bool.{Bool, true, false, cond}
 use mathlib.Core.List.{List, [], _∷_}
 use native.Mathlib.Omega.{arith}
-use borrow.Author.Tests.{eq-eqb, ne-eqb}
 use mir.Val.{Fits}
 use mir.Syntax.{w32}
 use lib.ListN.{length}
 use Rattle.text.specs.declared.Alignment.the-variants.{Left}
 use Rattle.text.specs.Record.{isHead}
 use Rattle.text.specs.Line.{untilHead, linesFrom}
-use Rattle.refuse.specs.Causes.{mostAccepted}
+use Rattle.refuse.proofs.Accepted.{Sound}
 use Rattle.block.specs.declared.Block.{Block}
 use Rattle.block.specs.declared.Space.{Space}
 use Rattle.block.specs.Inner.{horizontalSpace, verticalSpace}
-use Rattle.compose.specs.declared.Method.the-variants.{Wrapped}
-use Rattle.compose.specs.Lines.{lines}
-use Rattle.lines.specs.List.{ruleOf}
-use Rattle.lines.proofs.Bounds.{lines-short}
-use Rattle.measure.specs.declared.Wrap.{Wrap}
-use Rattle.measure.specs.declared.Wrap.the-variants.{Off, On}
-use Rattle.measure.specs.Measures.{linesAt, both, widest, lineCount, lineWidth}
-use Rattle.measure.proofs.Verdicts.{Sound}
-use Rattle.measure.proofs.Widening.{widest-narrow}
-
-module _ (wrap : Wrap) (width : ℕ) (text : List ℕ) (count : ℕ) where
-  pub unwrapped : (column : ℕ) → wrap ≡ Off column → count ≡ length (linesFrom 0 text) → count ≡ linesAt wrap width text
-  unfolding linesAt
-  unwrapped column e c = rw e c
-
-  pub wrapped : (trim : Bool) → wrap ≡ On trim → count ≡ length (lines (ruleOf width trim) Wrapped Left text) → count ≡ linesAt wrap width text
-  unfolding linesAt
-  wrapped trim e c = rw e c
-
-pub ruleset counted = (unwrapped, wrapped)
+use Rattle.wrapping.specs.Rule.{ruleOf}
+use Rattle.compose.specs.declared.Wrap.{Wrap}
+use Rattle.compose.specs.declared.Wrap.the-variants.{Off, On}
+use Rattle.compose.proofs.Bounds.{lines-short}
+use Rattle.measures.specs.Measures.{linesAt, both, widest}
+use Rattle.measures.proofs.Widening.{widest-narrow}
 
 -- records have no more text lines than there are of them
 pub text-lines-few : (i : ℕ) (rs : List ℕ) → length (linesFrom i rs) ≤ length rs
@@ -61,34 +46,19 @@ horizontal-small : (b : Block) → both (horizontalSpace b) ≤ 2 * 65535
 unfolding horizontalSpace
 horizontal-small b = omega arith
 
--- what `line_count` is: 0, or a sum
-module _ (b : Block) (titles : List ℕ) (wrap : Wrap) (width : ℕ) (text : List ℕ) where
-  pub count-none : width ≡ 0 → 0 ≡ lineCount b titles wrap width text
-  unfolding lineCount
-  count-none e = simp (eq-eqb width 0 e)
+-- the numbers of `line_count`
+module _ (b : Block) (titles : List ℕ) (wrap : Wrap) (width : ℕ) (text : List ℕ) (count : ℕ) (c : count ≡ linesAt wrap width text) where
+  pub count-fits : Sound text → Fits w32 count
+  count-fits sound = record { fits = omega (arith, sound .short, lines-few wrap width text) }
 
-  module _ (count : ℕ) (c : count ≡ linesAt wrap width text) where
-    pub count-fits : Sound mostAccepted text → Fits w32 count
-    count-fits sound = record { fits = omega (arith, sound .short, lines-few wrap width text) }
+  pub count-sum-fits : (taken : Space) (sum : ℕ) → taken ≡ verticalSpace b titles → sum ≡ both taken → Sound text → Fits w32 (count + sum)
+  count-sum-fits taken sum t s sound =
+      let few : sum ≤ 2 * 65535 = rw (s, t) (vertical-small b titles) in
+      record { fits = omega (arith, sound .short, lines-few wrap width text) }
 
-    module _ (taken : Space) (sum : ℕ) (t : taken ≡ verticalSpace b titles) (s : sum ≡ both taken) where
-      pub count-sum-fits : Sound mostAccepted text → Fits w32 (count + sum)
-      count-sum-fits sound =
-          let few : sum ≤ 2 * 65535 = rw (s, t) (vertical-small b titles) in
-          record { fits = omega (arith, sound .short, lines-few wrap width text) }
-
-      pub count-sum : (width ≡ 0 → ⊥) → count + sum ≡ lineCount b titles wrap width text
-      unfolding lineCount
-      count-sum n = rw (ne-eqb width 0 n, c, s, t)
-
--- what `line_width` is
-module _ (b : Block) (text : List ℕ) (line : ℕ) (taken : Space) (sum : ℕ)
-    (l : line ≡ widest (linesFrom 0 text)) (t : taken ≡ horizontalSpace b) (s : sum ≡ both taken) where
-  pub width-sum-fits : Sound mostAccepted text → Fits w32 (line + sum)
-  width-sum-fits sound =
-      let few : sum ≤ 2 * 65535 = rw (s, t) (horizontal-small b) in
-      record { fits = omega (arith, sound .short, widest-narrow text) }
-
-  pub width-sum : line + sum ≡ lineWidth b text
-  unfolding lineWidth
-  width-sum = rw (l, s, t)
+-- the number of `line_width`
+pub width-sum-fits : (b : Block) (text : List ℕ) (line : ℕ) (taken : Space) (sum : ℕ) → line ≡ widest (linesFrom 0 text) → taken ≡ horizontalSpace b → sum ≡ both taken
+    → Sound text → Fits w32 (line + sum)
+width-sum-fits b text line taken sum l t s sound =
+    let few : sum ≤ 2 * 65535 = rw (s, t) (horizontal-small b) in
+    record { fits = omega (arith, sound .short, widest-narrow text) }

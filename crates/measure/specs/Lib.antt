@@ -1,2 +1,3 @@
-pub mod Measures
-pub mod Calls
+pub mod Answers
+pub mod LineWidth
+pub mod LineCount

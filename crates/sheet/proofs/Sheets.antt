@@ -2,27 +2,23 @@
 use Prim.Native.Nat.{ℕ}
 use mathlib.Core.Path.{_≡_, refl}
 use mathlib.Core.List.{List, []}
-use lib.ListN.{length, replicate, length-replicate}
 use Rattle.layout.specs.declared.Rect.{Rect}
 use Rattle.layout.specs.Rect.{meet}
 use Rattle.buffer.specs.Drawing.{areaOf}
+use Rattle.buffer.specs.Screen.{screenOf}
 use Rattle.refuse.specs.declared.Refusal.{Refusal}
 use Rattle.refuse.specs.Refusal.{refusalNumber}
-use Rattle.refuse.specs.Causes.{mostAccepted}
 use Rattle.block.specs.declared.Block.{Block}
-use Rattle.block.specs.Inner.{innerOf}
 use Rattle.inner.specs.declared.InnerArea.{InnerArea}
 use Rattle.inner.specs.declared.InnerArea.the-variants.{Area, Refused as NoArea}
-use Rattle.inner.specs.Call.{innerVerdict, innerAnswer}
-use Rattle.measure.specs.declared.Wrap.{Wrap}
+use Rattle.inner.specs.Call.{callOf as innerCall, answerOf as innerAnswer}
+use Rattle.compose.specs.declared.Wrap.{Wrap}
 use Rattle.measure.specs.declared.Measured.{Measured}
 use Rattle.measure.specs.declared.Measured.the-variants.{Value, Refused as NoValue}
-use Rattle.measure.specs.Measures.{lineCount}
-use Rattle.measure.specs.Calls.{countVerdict, measuredAnswer}
+use Rattle.measure.specs.LineCount.{callOf as countCall, answerOf as countAnswer}
 use Rattle.paragraph.specs.declared.Notice.{Notice}
-use Rattle.paragraph.specs.Notice.{noticeCounts}
 use Rattle.draw_notice.specs.declared.Drawn.{Drawn}
-use Rattle.draw_notice.specs.Call.{screenOf, noticeVerdict, noticeAnswer, noticeCells}
+use Rattle.draw_notice.specs.Call.{callOf, answerOf, cellsAfter}
 use Rattle.pages.specs.Pages.{scrolledTo}
 use Rattle.flat.specs.declared.FlatArea.{FlatArea}
 use Rattle.flat.specs.declared.FlatBlock.{FlatBlock}
@@ -31,7 +27,7 @@ use Rattle.flat.specs.Flat.{areaFrom, blockFrom, noticeFrom, wrapNamed}
 use Rattle.noticefile.specs.declared.Opening.{Opening}
 use Rattle.sheet.specs.declared.Fitting.{Fitting}
 use Rattle.sheet.specs.declared.Fitting.the-variants.{Fits, Refused}
-use Rattle.sheet.specs.Sheet.{noticeAt, verdictOf, drawnOf, cellsOf, nothingSet, linesIn, fittingOf}
+use Rattle.sheet.specs.Sheet.{noticeAt, callAt, nothingSet, linesIn, metOf, fittingOf}
 
 pub area-met : (area : FlatArea) (columns rows : ℕ) (a s r : Rect)
     → a ≡ areaFrom area → s ≡ areaOf (screenOf columns rows) → r ≡ meet a s → r ≡ meet (areaFrom area) (areaOf (screenOf columns rows))
@@ -44,22 +40,17 @@ pub scrolled : (b : FlatBlock) (t : FlatText) (first : ℕ) (r : Notice)
 unfolding noticeFrom wrapNamed
 scrolled b t first r e = e
 
-module _ (o : Opening) (first blank : ℕ) (styles titles text old cells : List ℕ) (area : Rect) (n : Notice)
-    (in-area : area ≡ areaFrom (o .area)) (at-first : n ≡ noticeAt o first) (filled : cells ≡ replicate (length old) blank) where
-  pub drawn-answer : (r : Drawn)
-      → r ≡ noticeAnswer (noticeVerdict mostAccepted (o .columns) (o .rows) (length cells) styles text titles n) (noticeCounts (screenOf (o .columns) (o .rows)) text titles n area)
-      → r ≡ drawnOf o first (length old) styles titles text
-  unfolding drawnOf verdictOf
-  drawn-answer r e = rw (in-area, at-first, filled, length-replicate (length old) blank) at e
-
-  pub drawn-cells : (new : List ℕ)
-      → new ≡ noticeCells (noticeVerdict mostAccepted (o .columns) (o .rows) (length cells) styles text titles n) (o .columns) (o .rows) styles text titles area n cells
-      → new ≡ cellsOf o first styles titles text (replicate (length old) blank)
-  unfolding cellsOf verdictOf
-  drawn-cells new e = rw (in-area, at-first, filled) at e
+-- a page is a call of `draw_notice`
+pub drawn-notice : (o : Opening) (first : ℕ) (styles titles text cells blanks : List ℕ) (area : Rect) (n : Notice)
+    → area ≡ areaFrom (o .area) → n ≡ noticeAt o first → cells ≡ blanks → (r : Drawn) (new : List ℕ)
+    → let call = callOf (o .columns) (o .rows) cells styles text titles area n in
+    (r ≡ answerOf call) × (new ≡ cellsAfter call)
+    → let page = callAt o first styles titles text blanks in
+    (r ≡ answerOf page) × (new ≡ cellsAfter page)
+drawn-notice o first styles titles text cells blanks area n in-area at-first filled r new e = rw (in-area, at-first, filled) at e
 
 module _ (wrap : Wrap) (text : List ℕ) (inside : Rect) (b : Block) (nothing-set : b ≡ blockFrom nothingSet) (m : Measured)
-    (counted : m ≡ measuredAnswer (countVerdict mostAccepted text [] b (inside .width)) (lineCount b [] wrap (inside .width) text)) where
+    (counted : m ≡ countAnswer (countCall text [] b wrap (inside .width))) where
   pub lines-counted : (lines : ℕ) → m ≡ Value lines → Fits (record { width = inside .width; height = inside .height; lines = lines }) ≡ linesIn wrap text inside
   unfolding linesIn
   lines-counted lines e = rw (← nothing-set, ← counted, e) refl
@@ -69,8 +60,7 @@ module _ (wrap : Wrap) (text : List ℕ) (inside : Rect) (b : Block) (nothing-se
   lines-refused why number e f = rw (← nothing-set, ← counted, e, f) refl
 
 module _ (o : Opening) (titles text : List ℕ) (b : Block) (met : Rect) (a : InnerArea) (of-block : b ≡ blockFrom (o .block))
-    (shared : met ≡ meet (areaFrom (o .area)) (areaOf (screenOf (o .columns) (o .rows))))
-    (inner : a ≡ innerAnswer (innerVerdict mostAccepted titles b) (innerOf b titles met)) where
+    (shared : met ≡ metOf o) (inner : a ≡ innerAnswer (innerCall b titles met)) where
   pub area-measured : (inside : Rect) (wrap : Wrap) (r : Fitting) → a ≡ Area inside → wrap ≡ wrapNamed (o .text) → r ≡ linesIn wrap text inside → r ≡ fittingOf o titles text
   unfolding fittingOf
   area-measured inside wrap r e f g = rw (← of-block, ← shared, ← inner, e, ← f) g
@@ -79,4 +69,4 @@ module _ (o : Opening) (titles text : List ℕ) (b : Block) (met : Rect) (a : In
   unfolding fittingOf
   area-refused why number e f = rw (← of-block, ← shared, ← inner, e, f) refl
 
-pub ruleset sheets = (area-met, scrolled, drawn-answer, drawn-cells, lines-counted, lines-refused, area-measured, area-refused)
+pub ruleset sheets = (area-met, scrolled, lines-counted, lines-refused, area-measured, area-refused)

@@ -14,9 +14,10 @@ ghost use mathlib.Core.Path.{_≡_};
 ghost use lib.ListN.{length, replicate};
 ghost use Rattle.layout.specs.Rect.{meet};
 ghost use Rattle.buffer.specs.Drawing.{areaOf};
-ghost use Rattle.draw_notice.specs.Call.{screenOf};
+ghost use Rattle.buffer.specs.Screen.{screenOf};
+ghost use Rattle.draw_notice.specs.Call.{answerOf, cellsAfter};
 ghost use Rattle.flat.specs.Flat.{areaFrom, blockFrom};
-ghost use Rattle.sheet.specs.Sheet.{noticeAt, drawnOf, cellsOf, widenedOpening, nothingSet, linesIn, fittingOf};
+ghost use Rattle.sheet.specs.Sheet.{noticeAt, callAt, widenedOpening, nothingSet, linesIn, fittingOf};
 
 // Where the lines of a notice go, and how many there are.
 pub struct Measure {
@@ -61,8 +62,10 @@ pub fn draw(
     text: &[u32],
     cells: &mut [u64],
 ) -> Drawn
-    ensures answer { λ r. ⌜ r ≡ drawnOf opening first (length (now (cells .entry))) (now (styles .entry)) (now (titles .entry)) (now (text .entry)) ⌝ }
-    ensures cells { λ r. ⌜ now (cells .exit) ≡ cellsOf opening first (now (styles .entry)) (now (titles .entry)) (now (text .entry)) (replicate (length (now (cells .entry))) blank) ⌝ }
+    ensures { λ r.
+        let blanks = replicate (length (now (cells .entry))) blank in
+        let call = callAt opening first (now (styles .entry)) (now (titles .entry)) (now (text .entry)) blanks in
+        ⌜ (r ≡ answerOf call) × (now (cells .exit) ≡ cellsAfter call) ⌝ }
 {
     let flat_area = opening.area;
     let area = flat_area.area();

@@ -1,34 +1,38 @@
--- What the answers of a tally say in document 01's numbers, and that its causes come lowest first.
-use Prim.Native.Nat.{ℕ, _<_, _≤_}
-use mathlib.Core.Path.{_≡_, refl}
-use mathlib.Core.List.{List}
+-- What the call `tally` answers; what its answers say in document 01's numbers; and that its causes come in order.
+use mathlib.Core.Path.{_≡_, refl, sym, _∙_}
 use Rattle.refuse.specs.declared.Ceilings.{Ceilings}
 use Rattle.refuse.specs.declared.Refusal.{Refusal}
 use Rattle.refuse.specs.declared.Verdict.{Verdict}
-use Rattle.refuse.specs.declared.Verdict.the-variants.{Accepted, Refused}
-use Rattle.refuse.specs.Refusal.{refusalNumber, verdictNumber}
-use Rattle.refuse.proofs.Lowest.{Holds, lowest, only}
-use Rattle.lines.specs.Causes.{textCauses, textVerdict}
+use Rattle.refuse.specs.declared.Verdict.the-variants.{Accepted, Refused as RefusedFor}
+use Rattle.refuse.specs.Refusal.{firstCause, verdictNumber}
+use Rattle.refuse.specs.Causes.{mostAccepted, textCauses, lineCauses}
+use Rattle.refuse.proofs.Calls.{answer-refused, answer-accepted, answered-number, answered-value}
+use Rattle.refuse.proofs.Lowest.{InOrder, in-order}
 use Rattle.tally.specs.declared.Counts.{Counts}
-use Rattle.tally.specs.Tally.{noCounts, tallyAnswer, talliedNumber, talliedCounts}
+use Rattle.tally.specs.declared.Tallied.the-variants.{Counted, Refused}
+use Rattle.tally.specs.Tally.{noCounts, tallyOf}
+use Rattle.tally.specs.Call.{Call, ruleIn, causesOf, verdictOf, answerOf, countsOf, talliedNumber, talliedCounts}
 
--- the answer's number is the verdict's
-pub tally-number : (verdict : Verdict) (counts : Counts) → talliedNumber (tallyAnswer verdict counts) ≡ verdictNumber verdict
-tally-number Accepted counts = refl
-tally-number (Refused why) counts = refl
+-- causes come lowest first, and at no other time
+pub lowest-first : (most : Ceilings) (call : Call) → InOrder (causesOf most call)
+unfolding causesOf lineCauses textCauses
+lowest-first most call = in-order (causesOf most call) refl
 
--- "number, counts 0"
-pub refused-counts : (why : Refusal) (counts : Counts) → talliedCounts (tallyAnswer (Refused why) counts) ≡ noCounts
-refused-counts why counts = refl
+-- the answer's number is the verdict's, and its counts are the call's
+pub answer-number : (call : Call) → talliedNumber (answerOf call) ≡ verdictNumber (verdictOf call)
+unfolding answerOf
+answer-number call = answered-number Counted Refused talliedNumber (λ counts. refl) (λ why. refl) (verdictOf call) (tallyOf (ruleIn call) (call .text))
 
-module _ (most : Ceilings) (limit : ℕ) (text : List ℕ) where
-  -- a cause that holds means a refusal, with its number or a lower one
-  pub tally-lowest : (why : Refusal) → Holds why (textCauses most limit text)
-      → (0 < verdictNumber (textVerdict most limit text)) × (verdictNumber (textVerdict most limit text) ≤ refusalNumber why)
-  unfolding textVerdict textCauses
-  tally-lowest why h = lowest 0 (textCauses most limit text) why refl h
+pub answer-counts : (call : Call) → talliedCounts (answerOf call) ≡ countsOf call
+unfolding answerOf countsOf
+answer-counts call = answered-value Counted Refused talliedCounts (λ counts. counts) noCounts (λ counts. refl) (λ why. refl) (verdictOf call) (tallyOf (ruleIn call) (call .text))
 
-  -- and a refusal is for a cause that holds
-  pub tally-only : (why : Refusal) → textVerdict most limit text ≡ Refused why → Holds why (textCauses most limit text)
-  unfolding textVerdict
-  tally-only why e = only (textCauses most limit text) why e
+-- v is what the checks answered
+module _ (call : Call) (v : Verdict) (e : v ≡ firstCause (lineCauses mostAccepted (call .text) (call .limit))) where
+  pub tally-refused : (why : Refusal) → v ≡ RefusedFor why → Refused why ≡ answerOf call
+  unfolding verdictOf causesOf answerOf
+  tally-refused why r = answer-refused Counted Refused (verdictOf call) (tallyOf (ruleIn call) (call .text)) why (sym e ∙ r)
+
+  pub tally-counted : v ≡ Accepted → (c : Counts) → c ≡ tallyOf (ruleIn call) (call .text) → Counted c ≡ answerOf call
+  unfolding verdictOf causesOf answerOf
+  tally-counted a c p = answer-accepted Counted Refused (verdictOf call) (tallyOf (ruleIn call) (call .text)) (sym e ∙ a) c p

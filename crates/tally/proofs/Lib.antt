@@ -1,9 +1,5 @@
-pub mod Verdicts
 pub mod Answers
-pub mod Ways
-pub mod Sums
-pub mod Emitted
-pub mod Summing
+pub mod Accounted
 pub mod Glyphs
 pub mod TallyCounts
 pub mod Rest

@@ -2,18 +2,18 @@
 -- for each of its differences.
 use Prim.Native.Nat.{ℕ, _+_, _-_, _≤_}
 use mathlib.Core.Path.{_≡_}
-use mathlib.Core.Bool.{false}
 use mathlib.Core.List.{List}
 use native.Mathlib.Omega.{arith}
 use borrow.Author.Tests.{eq-eqb, ne-eqb}
 use lib.ListN.{length}
-use Rattle.refuse.specs.Causes.{notOpening}
+use Rattle.text.specs.Line.{Opens}
 use Rattle.wrapping.specs.declared.Rule.{Rule}
 use Rattle.compose.specs.Lines.{dropped}
-use Rattle.tally.specs.declared.LineCounts.{LineCounts}
+use Rattle.line_counts.specs.declared.LineCounts.{LineCounts}
+use Rattle.line_counts.specs.Tallying.{lineCounts}
 use Rattle.tally.specs.declared.GlyphCounts.{GlyphCounts}
 use Rattle.tally.specs.Tally.{noCounts, composed, tallyOf}
-use Rattle.tally.specs.Tallying.{lineCounts, glyphCounts}
+use Rattle.tally.specs.Tallying.{glyphCounts}
 use Rattle.tally.proofs.TallyCounts.{skipped-glyphs, counts}
 
 module _ (u : Rule) (text : List ℕ) where
@@ -22,7 +22,7 @@ module _ (u : Rule) (text : List ℕ) where
   unfolding tallyOf
   limit-none e = simp (eq-eqb (u .limit) 0 e)
 
-  module _ (n : u .limit ≡ 0 → ⊥) (o : notOpening text ≡ false) (l : LineCounts) (g : GlyphCounts)
+  module _ (n : u .limit ≡ 0 → ⊥) (o : Opens text) (l : LineCounts) (g : GlyphCounts)
       (e : l ≡ lineCounts (u .limit) (composed u text)) (f : g ≡ glyphCounts u text) where
     -- what the lines and the glyphs came to, and those dropped, are all glyphs
     parts : l .placed + l .clipped + l .«zero_width» + g .«over_wide» + length (dropped u text) ≡ g .glyphs

@@ -6,16 +6,11 @@ use lib.Dec.{eqb}
 use lib.ListN.{length}
 use Rattle.text.specs.declared.Alignment.the-variants.{Left}
 use Rattle.text.specs.Lists.{countOf}
-use Rattle.refuse.specs.declared.Verdict.{Verdict}
-use Rattle.refuse.specs.declared.Verdict.the-variants.{Accepted, Refused as RefusedFor}
-use Rattle.refuse.specs.Refusal.{refusalNumber}
 use Rattle.wrapping.specs.declared.Rule.{Rule}
 use Rattle.compose.specs.declared.Method.the-variants.{Wrapped}
 use Rattle.compose.specs.Lines.{Line, lines, skipped, dropped}
 use Rattle.compose.specs.Places.{starts, placed, clipped, zeroWidth}
 use Rattle.tally.specs.declared.Counts.{Counts}
-use Rattle.tally.specs.declared.Tallied.{Tallied}
-use Rattle.tally.specs.declared.Tallied.the-variants.{Counted, Refused}
 
 abbrev pub noCounts : Counts
 noCounts = record { lines = 0; placed = 0; clipped = 0; «zero_width» = 0; «over_wide» = 0; dropped = 0 }
@@ -39,17 +34,3 @@ tallyOf u text =
       «over_wide» = length (skipped u text);
       dropped = length (dropped u text);
     })
-
--- the answer: the counts, or why nothing was counted
-abbrev pub tallyAnswer : Verdict → Counts → Tallied
-tallyAnswer Accepted counts = Counted counts
-tallyAnswer (RefusedFor why) counts = Refused why
-
--- what the answer says: the table's number, or 0 for none, and the counts, "number, counts 0" where the call is refused
-abbrev pub talliedNumber : Tallied → ℕ
-talliedNumber (Counted counts) = 0
-talliedNumber (Refused why) = refusalNumber why
-
-abbrev pub talliedCounts : Tallied → Counts
-talliedCounts (Counted counts) = counts
-talliedCounts (Refused why) = noCounts

@@ -1,49 +1,11 @@
--- What the tally's functions compute on the way. `Tally` has the rules.
-use Prim.Native.Nat.{ℕ, _+_}
-use mathlib.Core.Bool.{cond}
+-- What the tally's functions compute on the way; what lines count is in the crate `line_counts`. `Tally` has the rules.
+use Prim.Native.Nat.{ℕ}
 use mathlib.Core.List.{List}
-use lib.Dec.{eqb, ltb}
 use lib.ListN.{length}
-use Rattle.text.specs.Lists.{countOf}
 use Rattle.text.specs.Line.{glyphsFrom}
 use Rattle.wrapping.specs.declared.Rule.{Rule}
 use Rattle.wrapping.specs.Wrapping.{overWides}
-use Rattle.compose.specs.Lines.{Line}
-use Rattle.compose.specs.Places.{starts, placed, clipped, zeroWidth}
-use Rattle.tally.specs.declared.LineCounts.{LineCounts}
 use Rattle.tally.specs.declared.GlyphCounts.{GlyphCounts}
-
--- so many lines, without a glyph
-abbrev pub emptyLines : ℕ → LineCounts
-emptyLines n = record { lines = n; placed = 0; clipped = 0; «zero_width» = 0 }
-
--- one more glyph, of width w, that starts at `column`
-unfoldable pub withGlyph : ℕ → LineCounts → ℕ → ℕ → LineCounts
-withGlyph limit c column w =
-    cond (eqb w 0)
-    (record { lines = c .lines; placed = c .placed; clipped = c .clipped; «zero_width» = c .«zero_width» + 1 })
-    (cond (ltb column limit)
-    (record { lines = c .lines; placed = c .placed + 1; clipped = c .clipped; «zero_width» = c .«zero_width» })
-    (record { lines = c .lines; placed = c .placed; clipped = c .clipped + 1; «zero_width» = c .«zero_width» }))
-
-unfoldable pub sum : LineCounts → LineCounts → LineCounts
-sum a b =
-    record {
-      lines = a .lines + b .lines;
-      placed = a .placed + b .placed;
-      clipped = a .clipped + b .clipped;
-      «zero_width» = a .«zero_width» + b .«zero_width»;
-    }
-
--- the counts of composed lines
-unfoldable pub lineCounts : ℕ → List Line → LineCounts
-lineCounts limit lines =
-    record {
-      lines = length lines;
-      placed = countOf (placed limit) (starts lines);
-      clipped = countOf (clipped limit) (starts lines);
-      «zero_width» = countOf zeroWidth (starts lines);
-    }
 
 -- the counts of a text's glyphs
 unfoldable pub glyphCounts : Rule → List ℕ → GlyphCounts

@@ -1,17 +1,13 @@
-// The call that tallies a text, open to callers: what becomes of its glyphs.
+// The call `tally`: what becomes of a text's glyphs.
 
 mod tallying;
 
-use refuse::Ceilings;
+use refuse::ACCEPTED;
 use refuse::Refusal;
 use refuse::Verdict;
 use wrapping::Rule;
 ghost use mathlib.Core.Path.{_≡_};
-ghost use Rattle.refuse.specs.Refusal.{verdictNumber, unlessRefused};
-ghost use Rattle.refuse.specs.Causes.{mostAccepted};
-ghost use Rattle.lines.specs.List.{ruleOf};
-ghost use Rattle.lines.specs.Causes.{textVerdict};
-ghost use Rattle.tally.specs.Tally.{noCounts, tallyOf, tallyAnswer, talliedNumber, talliedCounts};
+ghost use Rattle.tally.specs.Call.{callOf, answerOf};
 
 // The tally of a text: its composed lines, and what becomes of its glyphs.
 pub struct Counts {
@@ -29,14 +25,6 @@ pub enum Tallied {
     Refused(Refusal),
 }
 
-// Composed lines, and what becomes of their glyphs.
-pub struct LineCounts {
-    pub lines: u32,
-    pub placed: u32,
-    pub clipped: u32,
-    pub zero_width: u32,
-}
-
 // The glyphs of a text, and how many of them are over-wide.
 pub struct GlyphCounts {
     pub glyphs: u32,
@@ -45,12 +33,9 @@ pub struct GlyphCounts {
 
 // Tallies a text at a limit: causes 3, 4, 8.
 pub fn tally(text: &[u32], limit: u16, trim: bool) -> Tallied
-    ensures answer { λ r. ⌜ r ≡ tallyAnswer (textVerdict mostAccepted limit (now (text .entry))) (tallyOf (ruleOf limit trim) (now (text .entry))) ⌝ }
-    ensures number { λ r. ⌜ talliedNumber r ≡ verdictNumber (textVerdict mostAccepted limit (now (text .entry))) ⌝ }
-    ensures counts { λ r. ⌜ talliedCounts r ≡ unlessRefused (textVerdict mostAccepted limit (now (text .entry))) (tallyOf (ruleOf limit trim) (now (text .entry))) noCounts ⌝ }
+    ensures { λ r. ⌜ r ≡ answerOf (callOf (now (text .entry)) limit trim) ⌝ }
 {
-    let most = Ceilings::accepted();
-    if let Verdict::Refused(why) = lines::check_text(most, limit, text) {
+    if let Verdict::Refused(why) = check_records::line_verdict(ACCEPTED, text, limit) {
         return Tallied::Refused(why);
     }
     let rule = Rule {

@@ -1,58 +1,38 @@
 -- `draw_block::draw_block` meets its contract.
-use Rattle.refuse.specs.Causes.{mostAccepted}
-use Rattle.draw_block.proofs.Verdicts.{block-refused, block-drawn}
-use Rattle.draw_block.proofs.Accepting.{columns-fit, rows-fit, drawable}
+use Rattle.draw_block.specs.Call.{drawingOf}
+use Rattle.draw_block.proofs.Answers.{block-refused, block-drawn, few-columns, few-rows, drawable}
 use borrow.Author.Needs.{needs}
 use Rattle.draw_block.proofs.draw_block.Statement.{statement}
 use Rattle.draw_block.proofs.draw_block.Tie as tie
 
-accepted-requires : tie.Need-accepted-requires
-accepted-requires c κs = search needs
-
-verdict-requires : tie.Need-verdict-requires
-verdict-requires c κs = search needs
-
-enum-known-why : tie.Need-enum-known-why
-enum-known-why c = search needs
-
 returns : tie.Need-returns
-returns c =
-    let asked = c .before .before .before in
-    block-refused mostAccepted _ _ _ _ _ _ _ _ _ (asked .before .accepted .ensures) (asked .verdict .ensures) _ (search needs)
-
-enum-told : tie.Need-enum-told
-enum-told c = search needs
+returns c = block-refused _ _ (c .before .before .before .verdict .ensures) _ (search needs)
 
 cast-t13 : tie.Need-cast-t13
-cast-t13 c = search (columns-fit, rows-fit)
+cast-t13 c = record { fits = few-columns _ _ (c .before .before .verdict .ensures) (search needs) }
 
 cast-t14 : tie.Need-cast-t14
-cast-t14 c = search (columns-fit, rows-fit)
+cast-t14 c = record { fits = few-rows _ _ (c .before .before .verdict .ensures) (search needs) }
 
 draw-on-requires : tie.Need-draw-on-requires
-draw-on-requires c κs =
-    let asked = c .before .before .before in
-    drawable _ _ _ _ _ _ _ _ (asked .before .accepted .ensures) (asked .verdict .ensures) (search needs)
-
-same-length : tie.Need-same-length
-same-length c = search needs
+draw-on-requires c κs = drawable _ _ (c .before .before .before .verdict .ensures) (search needs)
 
 returns-2 : tie.Need-returns-2
+unfolding drawingOf
 returns-2 c =
-    let asked = c .before .before .before .before .before .before in
-    block-drawn mostAccepted _ _ _ _ _ _ _ _ _ (asked .before .accepted .ensures) (asked .verdict .ensures) (search needs) _ (c .before .before .draw-on .ensures)
+    block-drawn _ _ (c .before .before .before .before .before .before .verdict .ensures) (search needs) _ (c .before .before .draw-on .ensures)
 
 pub draw-block-spec : {M : Type 1} → statement M
 draw-block-spec =
     tie.close
     (tie.spec
-    accepted-requires
-    verdict-requires
-    enum-known-why
+    (λ c κs. search needs)
+    (λ c. search needs)
+    (λ c. search needs)
     returns
-    enum-told
+    (λ c. search needs)
     cast-t13
     cast-t14
     draw-on-requires
-    same-length
+    (λ c. search needs)
     returns-2)

@@ -1,5 +1,5 @@
 -- `draw_notice::style_numbers_wrong` meets its contract.
-use Rattle.draw_notice.proofs.Verdicts.{style-numbers}
+use Rattle.draw_notice.proofs.Styles.{style-numbers}
 use borrow.Author.Needs.{needs}
 use Rattle.draw_notice.proofs.style_numbers_wrong.Statement.{statement}
 use Rattle.draw_notice.proofs.style_numbers_wrong.Tie as tie

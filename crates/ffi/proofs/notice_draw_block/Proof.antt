@@ -32,8 +32,8 @@ returns-2 c =
     let test = c .before .before .before .before .before .before .before .if1 .left in
     let settings = c .before .before .before .before .before .before .block .ensures in
     let call = c .before .before .before .draw-block .ensures in (
-      answered-known _ _ known _ _ test _ (rw settings at (c .framed-number .ensures ∙ call .1 .0)),
-      answered-known _ _ known _ _ test _ (rw (settings, c .before .before .before .before .area .ensures) at (call .1 .1)),
+      answered-known _ _ known _ _ test _ (rw (call .0, settings, c .before .before .before .before .area .ensures) at (c .framed-number .ensures)),
+      answered-known _ _ known _ _ test _ (rw (settings, c .before .before .before .before .area .ensures) at (call .1)),
     )
 
 pub notice-draw-block-spec : {M : Type 1} → statement M

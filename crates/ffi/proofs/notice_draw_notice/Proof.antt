@@ -33,7 +33,7 @@ returns-2 c =
     let area = c .before .before .before .before .area .ensures in
     let call = c .before .before .before .draw-notice .ensures in (
       answered-known _ _ known _ _ test _ (rw (call .0, settings, area) at (c .draw-answer .ensures)),
-      answered-known _ _ known _ _ test _ (rw (settings, area) at (call .1 .1 .1)),
+      answered-known _ _ known _ _ test _ (rw (settings, area) at (call .1)),
     )
 
 pub notice-draw-notice-spec : {M : Type 1} → statement M

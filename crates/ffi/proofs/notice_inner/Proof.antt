@@ -23,7 +23,7 @@ area-answer-requires : tie.Need-area-answer-requires
 area-answer-requires c κs = search needs
 
 returns-2 : tie.Need-returns-2
-returns-2 c = answered-known _ _ (c .before .before .before .before .before .is-known .ensures) _ _ (c .before .before .before .before .if1 .left) _ (rw (c .before .inner .ensures .0, c .before .before .before .block .ensures, c .before .before .area .ensures) at (c .area-answer .ensures))
+returns-2 c = answered-known _ _ (c .before .before .before .before .before .is-known .ensures) _ _ (c .before .before .before .before .if1 .left) _ (rw (c .before .inner .ensures, c .before .before .before .block .ensures, c .before .before .area .ensures) at (c .area-answer .ensures))
 
 pub notice-inner-spec : {M : Type 1} → statement M
 notice-inner-spec =

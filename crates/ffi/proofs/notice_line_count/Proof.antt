@@ -23,7 +23,7 @@ measure-answer-requires : tie.Need-measure-answer-requires
 measure-answer-requires c κs = search needs
 
 returns-2 : tie.Need-returns-2
-returns-2 c = answered-known _ _ (c .before .before .before .before .before .all-known .ensures) _ _ (c .before .before .before .before .if1 .left) _ (rw (c .before .line-count .ensures .0, c .before .before .block .ensures, c .before .before .before .named-wrap .ensures) at (c .measure-answer .ensures))
+returns-2 c = answered-known _ _ (c .before .before .before .before .before .all-known .ensures) _ _ (c .before .before .before .before .if1 .left) _ (rw (c .before .line-count .ensures, c .before .before .block .ensures, c .before .before .before .named-wrap .ensures) at (c .measure-answer .ensures))
 
 pub notice-line-count-spec : {M : Type 1} → statement M
 notice-line-count-spec =

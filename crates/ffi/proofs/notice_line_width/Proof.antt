@@ -20,7 +20,7 @@ measure-answer-requires : tie.Need-measure-answer-requires
 measure-answer-requires c κs = search needs
 
 returns-2 : tie.Need-returns-2
-returns-2 c = answered-known _ _ (c .before .before .before .before .is-known .ensures) _ _ (c .before .before .before .if1 .left) _ (rw (c .before .line-width .ensures .0, c .before .before .block .ensures) at (c .measure-answer .ensures))
+returns-2 c = answered-known _ _ (c .before .before .before .before .is-known .ensures) _ _ (c .before .before .before .if1 .left) _ (rw (c .before .line-width .ensures, c .before .before .block .ensures) at (c .measure-answer .ensures))
 
 pub notice-line-width-spec : {M : Type 1} → statement M
 notice-line-width-spec =

@@ -29,7 +29,7 @@ returns-3 c =
     let own = c .before .before .before .before .before .alignment-named .ensures in
     let call = c .before .before .before .list-lines .ensures in (
       list-known _ _ _ _ alignment trim _ (rw (call .0, own) at (c .list-answer .ensures)),
-      list-known _ _ _ _ alignment trim _ (rw own at (call .1 .1 .1)),
+      list-known _ _ _ _ alignment trim _ (rw own at (call .1)),
     )
 
 pub notice-list-lines-spec : {M : Type 1} → statement M

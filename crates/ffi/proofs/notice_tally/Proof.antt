@@ -14,7 +14,7 @@ tally-answer-requires : tie.Need-tally-answer-requires
 tally-answer-requires c κs = search needs
 
 returns-2 : tie.Need-returns-2
-returns-2 c = tally-known _ _ _ (c .before .before .if1 .left) _ (rw (c .before .tally .ensures .0) at (c .tally-answer .ensures))
+returns-2 c = tally-known _ _ _ (c .before .before .if1 .left) _ (rw (c .before .tally .ensures) at (c .tally-answer .ensures))
 
 pub notice-tally-spec : {M : Type 1} → statement M
 notice-tally-spec = tie.close (tie.spec returns tally-requires tally-answer-requires returns-2)

@@ -1,7 +1,7 @@
 -- `lines::write_lines` meets its contract.
 use lib.ListN.{length}
 use Rattle.compose.specs.Composing.{left}
-use Rattle.lines.proofs.Counting.{Writing, writing, first-fits, end-fits, width-fits}
+use Rattle.lines.proofs.Writing.{Writing, writing, first-fits, end-fits, width-fits}
 use borrow.Author.Needs.{needs}
 use Rattle.lines.proofs.write_lines.Statement.{statement}
 use Rattle.lines.proofs.write_lines.Tie as tie

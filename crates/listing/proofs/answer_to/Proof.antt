@@ -41,7 +41,7 @@ returns-2 : tie.Need-returns-2
 returns-2 c =
     let listed = c .before .before .before in
     let parsed = listed .before .before .before .before .before .before .before .before in
-    answer-listed _ _ (parsed .parse .ensures .0) _ _ _ (listed .before .before .before .before .limit .given .1) _ _ _ (search needs) (parsed .parse .ensures .1) _ _ _ (c .answer-for .ensures) (listed .list-lines .ensures .0) (listed .list-lines .ensures .1 .1 .1)
+    answer-listed _ _ (parsed .parse .ensures .0) _ _ _ (listed .before .before .before .before .limit .given .1) _ _ _ (parsed .parse .ensures .1) _ _ _ (c .answer-for .ensures) (listed .list-lines .ensures .0) (listed .list-lines .ensures .1)
 
 pub answer-to-spec : {M : Type 1} → statement M
 answer-to-spec =

@@ -1,14 +1,11 @@
 -- `measure::line_count` meets its contract.
-use Rattle.refuse.specs.Causes.{mostAccepted}
-use Rattle.measure.proofs.Verdicts.{count-refused, count-answered, count-sound}
-use Rattle.measure.proofs.Lines.{count-none, count-fits, count-sum-fits, count-sum}
+use Rattle.measures.proofs.Lines.{count-none, count-sum}
+use Rattle.measure.proofs.Answers.{count-refused, count-answered, count-sound}
+use Rattle.measure.proofs.Lines.{count-fits, count-sum-fits}
 use native.Mathlib.Omega.{arith}
 use borrow.Author.Needs.{needs}
 use Rattle.measure.proofs.line_count.Statement.{statement}
 use Rattle.measure.proofs.line_count.Tie as tie
-
-accepted-requires : tie.Need-accepted-requires
-accepted-requires c κs = search needs
 
 count-verdict-requires : tie.Need-count-verdict-requires
 count-verdict-requires c κs = search needs
@@ -18,27 +15,25 @@ enum-known-why c = search needs
 
 returns : tie.Need-returns
 returns c =
-    let checked = c .before .before .before in
-    count-refused mostAccepted _ _ _ _ _ (checked .before .accepted .ensures) _ (checked .count-verdict .ensures) _ _ (search needs)
+    count-refused _ _ (c .before .before .before .count-verdict .ensures) _ (search needs)
 
 enum-told : tie.Need-enum-told
 enum-told c = search needs
 
 returns-2 : tie.Need-returns-2
 returns-2 c =
-    let checked = c .before .before .before in
-    count-answered mostAccepted _ _ _ _ _ (checked .before .accepted .ensures) _ (checked .count-verdict .ensures) _ _ (search needs) (search count-none)
+    count-answered _ _ (c .before .before .before .count-verdict .ensures) (search needs) _ (search count-none)
 
 lines-at-requires : tie.Need-lines-at-requires
 lines-at-requires c κs =
     let checked = c .before .before .before in
-    let sound = count-sound mostAccepted _ _ _ _ _ (checked .before .accepted .ensures) _ (checked .count-verdict .ensures) (search needs) in
-    (omega (arith, sound .short), sound .opens)
+    let sound = count-sound _ _ (checked .count-verdict .ensures) (search needs) in
+    (sound .few, sound .opens)
 
-cast-t11 : tie.Need-cast-t11
-cast-t11 c =
+cast-t10 : tie.Need-cast-t10
+cast-t10 c =
     let checked = c .before .before .before .before in
-    let sound = count-sound mostAccepted _ _ _ _ _ (checked .before .accepted .ensures) _ (checked .count-verdict .ensures) (search needs) in
+    let sound = count-sound _ _ (checked .count-verdict .ensures) (search needs) in
     search count-fits
 
 vertical-space-requires : tie.Need-vertical-space-requires
@@ -47,30 +42,29 @@ vertical-space-requires c κs = search needs
 both-requires : tie.Need-both-requires
 both-requires c κs = search needs
 
-add-t14 : tie.Need-add-t14
-add-t14 c =
+add-t13 : tie.Need-add-t13
+add-t13 c =
     let checked = c .before .before .before .before .before .before in
-    let sound = count-sound mostAccepted _ _ _ _ _ (checked .before .accepted .ensures) _ (checked .count-verdict .ensures) (search needs) in
+    let sound = count-sound _ _ (checked .count-verdict .ensures) (search needs) in
     search count-sum-fits
 
 returns-3 : tie.Need-returns-3
 returns-3 c =
     let checked = c .before .before .before .before .before .before in
-    count-answered mostAccepted _ _ _ _ _ (checked .before .accepted .ensures) _ (checked .count-verdict .ensures) _ _ (search needs) (search count-sum)
+    count-answered _ _ (checked .count-verdict .ensures) (search needs) _ (search count-sum)
 
 pub line-count-spec : {M : Type 1} → statement M
 line-count-spec =
     tie.close
     (tie.spec
-    accepted-requires
     count-verdict-requires
     enum-known-why
     returns
     enum-told
     returns-2
     lines-at-requires
-    cast-t11
+    cast-t10
     vertical-space-requires
     both-requires
-    add-t14
+    add-t13
     returns-3)

@@ -1,5 +1,5 @@
 -- `sheet::draw` meets its contract.
-use Rattle.sheet.proofs.Sheets.{sheets}
+use Rattle.sheet.proofs.Sheets.{drawn-notice}
 use borrow.Author.Needs.{needs}
 use Rattle.sheet.proofs.draw.Statement.{statement}
 use Rattle.sheet.proofs.draw.Tie as tie
@@ -26,7 +26,9 @@ same-length : tie.Need-same-length
 same-length c = search needs
 
 returns : tie.Need-returns
-returns c = search (sheets, needs)
+returns c =
+    let placed = c .before .before .before .before .before .before .before .before .before .before in
+    drawn-notice (placed .before .before .before .before .before .before .before .args .opening) _ _ _ _ _ _ _ _ (placed .before .area .ensures) (placed .notice-at .ensures) (c .before .before .before .before .before .before .fill .ensures) _ _ (c .before .before .draw-notice .ensures)
 
 pub draw-spec : {M : Type 1} → statement M
 draw-spec =

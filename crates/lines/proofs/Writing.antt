@@ -1,4 +1,4 @@
--- Lines pulled and counted, and lines pulled and written.
+-- Lines pulled and written.
 use Prim.Native.Nat.{ℕ, _+_, _*_, _^_, _<_, _≤_}
 use mathlib.Core.Path.{_≡_, refl, sym, ap, _∙_}
 use mathlib.Core.List.{List, [], _∷_, _++_, map, append-nil, append-assoc}
@@ -16,40 +16,11 @@ use Rattle.compose.specs.declared.Pull.{Pull}
 use Rattle.compose.specs.declared.Pull.the-variants.{Line as PulledLine, Done}
 use Rattle.compose.specs.declared.Method.the-variants.{Wrapped}
 use Rattle.compose.specs.Lines.{lines, composedOf, lineAt}
-use Rattle.compose.specs.Composing.{left, Ready, Started, Told, Pulled}
-use Rattle.compose.proofs.Pulled.{pulled-left, pulled-ready, pulled-told, none-left}
-use Rattle.lines.specs.List.{packed, listed}
-use Rattle.lines.proofs.Bounds.{Narrow, narrow-lines, lines-short}
-
--- n lines were pulled, and the composer has the others
-pub record Counting (u : Rule) (own : Alignment) (text : List ℕ) (c : Composer) (n : ℕ) : Type 0 where
-  pub ready : Ready u text c
-  pub counted : n + length (left u own text c) ≡ length (lines u Wrapped own text)
-
-pub counting-starts : (u : Rule) (own : Alignment) (text : List ℕ) (c : Composer) → Started u Wrapped text c → Counting u own text c 0
-counting-starts u own text c s = record { ready = s .ready; counted = omega (arith, ap length (s .lines-left own)) }
-
-module _ (u : Rule) (own : Alignment) (text : List ℕ) (c : Composer) (n : ℕ) (k : Counting u own text c n) (o : Pull) (p : Pulled u own text c o) where
-  module _ (line : Composed) (d : Composer) (e : o ≡ PulledLine line d) where
-    one-fewer : length (left u own text c) ≡ 1 + length (left u own text d)
-    one-fewer = omega (arith, ap length (pulled-left u own text c o p line d e))
-
-    pub counting-goes : Counting u own text d (n + 1)
-    counting-goes = record { ready = pulled-ready u own text c o p line d e; counted = omega (arith, k .counted, one-fewer) }
-
-    pub counting-less : length (left u own text d) < length (left u own text c)
-    counting-less = omega (arith, one-fewer)
-
-    pub counting-more : n < length (lines u Wrapped own text)
-    counting-more = omega (arith, k .counted, one-fewer)
-
-    pub counting-fits : length text < 2 ^ 28 → Fits w64 (n + 1)
-    counting-fits h = record { fits = omega (arith, counting-more, lines-short u own text) }
-
-  pub counting-done : o ≡ Done → n ≡ length (lines u Wrapped own text)
-  counting-done e = omega (arith, k .counted, ap length (none-left u own text c o p e))
-
-pub ruleset counting = (counting-starts, counting-goes, counting-less, counting-fits, counting-done)
+use Rattle.compose.specs.Composing.{left, Started, Told, Pulled}
+use Rattle.compose.proofs.Pulled.{pulled-left, pulled-told}
+use Rattle.compose.proofs.Bounds.{Narrow, narrow-lines, lines-short}
+use Rattle.count_lines.proofs.Counting.{Counting, counting-starts, counting-goes, counting-less, counting-more, counting-done}
+use Rattle.entry.specs.Entry.{entryPacked, listed}
 
 -- n lines were pulled and written, later entries are as they were, and none of the lines left is too wide
 pub record Writing (u : Rule) (own : Alignment) (text old list : List ℕ) (c : Composer) (n : ℕ) : Type 0 where
@@ -107,10 +78,10 @@ module _ (u : Rule) (own : Alignment) (text old list : List ℕ) (c : Composer) 
     pub writing-less : length (left u own text d) < length (left u own text c)
     writing-less = counting-less u own text c n (w .counting-on) o p line d e
 
-    pub writing-goes : (v : ℕ) → v ≡ packed line → Writing u own text old (set list n v) d (n + 1)
+    pub writing-goes : (v : ℕ) → v ≡ entryPacked line → Writing u own text old (set list n v) d (n + 1)
     unfolding listed
     writing-goes v f =
-        let v-is : v ≡ listed (lineAt u text line) = f ∙ ap packed (is-told .is) in
+        let v-is : v ≡ listed (lineAt u text line) = f ∙ ap entryPacked (is-told .is) in
         record {
           counting-on = counting-goes u own text c n (w .counting-on) o p line d e;
           done = rw (add-one n, take-suc-set list n v writing-room, append-assoc, v-is) (rw left-is at (w .done));
