@@ -9,7 +9,7 @@ use Rattle.text.specs.declared.Alignment.the-variants.{Center}
 use Rattle.block.specs.declared.Block.{Block}
 use Rattle.padding.specs.Padding.{paddingOf}
 use Rattle.block.specs.Inner.{innerOf}
-use Rattle.wrapping.specs.Wrapping.{overWide, mustJoin, takesSpaces, gathered, joined, unjoined, full, emptied, drops, appended, emitting, filled, joining, step, lastLines, finish, wrap}
+use Rattle.wrapping.specs.Wrapping.{overWide, mustJoin, takesSpaces, gathered, joined, unjoined, full, emptied, drops, appended, _then_, joinStep, emitStep, appendStep, step, lastLines, wrap}
 use Rattle.compose.specs.Lines.{linesOf, lineLines, lines, composedOf}
 use Rattle.compose.specs.Places.{clipped}
 use Rattle.render_line.specs.RenderLine.{lineOffset}
@@ -37,7 +37,7 @@ pub record Examples : Type 0 where
   pub inner : (b : Block) (titles : List ℕ) → b .borders ≡ fourBorders → b .padding ≡ paddingOf 0 0 0 0 → innerOf b titles (rect 0 0 1 1) ≡ rect 1 1 0 0
 
 pub examples : Examples
-unfolding overWide mustJoin takesSpaces gathered joined unjoined full emptied drops appended emitting filled joining step lastLines finish wrap linesOf lineLines lines composedOf clipped lineOffset
+unfolding overWide mustJoin takesSpaces gathered joined unjoined full emptied drops appended _then_ joinStep emitStep appendStep step lastLines wrap linesOf lineLines lines composedOf clipped lineOffset
 examples =
     record {
       leading-trimmed = refl;

@@ -1,28 +1,31 @@
 -- A worked notice of demand 3: it meets what the theorem `pages` asks, so that the theorem speaks of something, and what the theorem
 -- says of it is what one writes down by hand.
-use Prim.Native.Nat.{ℕ, _+_, _*_, _^_}
+use Prim.Native.Nat.{ℕ}
 use Prim.Native.Char.{Char, code}
 use mathlib.Core.Path.{_≡_, refl, _∙_}
 use mathlib.Core.Bool.{true}
 use mathlib.Core.List.{[], _∷_}
+use lib.ListN.{replicate}
 use Rattle.text.specs.declared.Alignment.the-variants.{Left, Right}
 use Rattle.text.specs.declared.TitlePosition.the-variants.{Top}
+use Rattle.text.specs.Record.{headRecord}
 use Rattle.text.specs.Line.{glyphsFrom}
-use Rattle.refuse.specs.Causes.{screenWrong, stylesWrong, textHeadsWrong, titlesWrong}
+use Rattle.refuse.specs.Causes.{screenWrong, stylesWrong, textHeadsWrong, titlesWrong, screenCauses, textCauses}
 use Rattle.padding.specs.Padding.{paddingOf}
 use Rattle.block.specs.declared.Block.{Block}
 use Rattle.block.specs.declared.Shadow.the-variants.{Absent}
 use Rattle.block.specs.Causes.{blockStyles, borderSymbols, blockSymbols}
 use Rattle.block.specs.Inner.{hasTitleAt, innerOf}
 use Rattle.block.proofs.Examples.{rect, fourBorders}
-use Rattle.wrapping.specs.Wrapping.{overWide, mustJoin, takesSpaces, gathered, joined, unjoined, full, emptied, drops, appended, emitting, filled, joining, step, lastLines, finish, wrap}
+use Rattle.wrapping.specs.Wrapping.{overWide, mustJoin, takesSpaces, gathered, joined, unjoined, full, emptied, drops, appended, _then_, joinStep, emitStep, appendStep, step, lastLines, wrap}
 use Rattle.compose.specs.Lines.{linesOf, lineLines, lines}
 use Rattle.compose.specs.Places.{placed}
+use Rattle.check_block.specs.Styles.{frameStyles}
 use Rattle.render_line.specs.RenderLine.{lineOffset, drawnStarts}
-use Rattle.measure.specs.declared.Wrap.the-variants.{On}
+use Rattle.compose.specs.declared.Wrap.the-variants.{On}
 use Rattle.paragraph.specs.Notice.{noticeLines, innerAreaOf}
-use Rattle.draw_notice.specs.Call.{noticeStyles, noticeCauses, noticeVerdict}
-use Rattle.pages.specs.Pages.{Inputs, verdictAt, innerArea, composedLines, placementOf, placements}
+use Rattle.draw_notice.specs.Call.{Call, noticeStyles, causesOf, verdictOf}
+use Rattle.pages.specs.Pages.{innerArea, composedLines, placementOf, placements}
 use Rattle.pages.specs.Reading.{Seen, OneCell, WrappedNotice, pagesRead}
 use Rattle.pages.proofs.Pages.{pages}
 use Rattle.examples.specs.Notation.{packedGlyphs}
@@ -59,20 +62,21 @@ framed =
 --     xabx  xdex
 --     x cx  x  x
 --     xxxx  xxxx
-abbrev pub worked : Inputs
+abbrev pub worked : Call
 worked =
     record {
       columns = 4;
       rows = 4;
+      cells = replicate 16 0;
       styles = 0 ∷ [];
-      text = (2 ^ 31 + 3 * 2 ^ 29) ∷ packedGlyphs "ab_c_de";
+      text = headRecord 3 0 ∷ packedGlyphs "ab_c_de";
       titles = [];
       area = rect 0 0 4 4;
       notice = record { block = framed; style = 0; «text_style» = 0; alignment = Right; wrap = On true; scroll = 0 };
     }
 
 pub accepted : WrappedNotice worked
-unfolding screenWrong stylesWrong textHeadsWrong titlesWrong blockStyles borderSymbols blockSymbols hasTitleAt innerOf innerAreaOf noticeStyles noticeCauses noticeVerdict verdictAt innerArea
+unfolding screenWrong stylesWrong textHeadsWrong titlesWrong blockStyles borderSymbols blockSymbols hasTitleAt innerOf innerAreaOf frameStyles noticeStyles screenCauses textCauses causesOf verdictOf innerArea
 accepted = record { accepted = refl; trim = true; wrapped = refl; some-cell = refl }
 
 pub one-cell : OneCell (glyphsFrom 0 (worked .text))
@@ -83,5 +87,5 @@ on page row column symbol = record { page = page; row = row; column = column; sy
 
 -- each letter's page, row and column
 pub worked-pages : pagesRead worked ≡ on 0 1 1 "a" ∷ on 0 1 2 "b" ∷ on 0 2 2 "c" ∷ on 1 1 1 "d" ∷ on 1 1 2 "e" ∷ []
-unfolding overWide mustJoin takesSpaces gathered joined unjoined full emptied drops appended emitting filled joining step lastLines finish wrap linesOf lineLines lines placed lineOffset drawnStarts hasTitleAt innerOf noticeLines innerAreaOf innerArea composedLines placementOf placements
+unfolding overWide mustJoin takesSpaces gathered joined unjoined full emptied drops appended _then_ joinStep emitStep appendStep step lastLines wrap linesOf lineLines lines placed lineOffset drawnStarts hasTitleAt innerOf noticeLines innerAreaOf innerArea composedLines placementOf placements
 worked-pages = pages worked accepted one-cell .places ∙ refl

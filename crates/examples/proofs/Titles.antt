@@ -1,24 +1,26 @@
 -- Document 01, 'Small notices by hand': "centred titles abcd, efg in 5: "bcd_e". Centred a, bcdefg in 4: "_fg_"."
-use Prim.Native.Nat.{ℕ, _+_, _*_, _^_}
+use Prim.Native.Nat.{ℕ}
 use mathlib.Core.Path.{_≡_, refl}
 use mathlib.Core.Bool.{false}
 use mathlib.Core.List.{List, [], _∷_, map}
 use lib.ListN.{replicate}
 use Rattle.text.specs.declared.Alignment.the-variants.{Left}
 use Rattle.text.specs.declared.TitlePosition.the-variants.{Top}
+use Rattle.text.specs.Record.{glyphRecord, headRecord}
 use Rattle.cell.specs.Cell.{cellFrom, blankCell, withSymbol, styled}
 use Rattle.buffer.specs.Drawing.{drawn, over, inside}
 use Rattle.block.specs.declared.Block.{Block}
 use Rattle.block.specs.declared.Shadow.the-variants.{Absent}
-use Rattle.title.specs.Title.{titleLineWidth, isDrawn, titleGlyphOn, titleLine, titleIn}
+use Rattle.title_glyphs.specs.TitleGlyphs.{isDrawn, titleGlyphOn}
+use Rattle.title.specs.Title.{titleLineWidth, titleLine, titleIn}
 use Rattle.titles.specs.Titles.{isChosen, centerTitles, groupsIn, titlesOn}
 
 -- a letter of one cell in style 0, and the head of a centred title at the top
 abbrev pub letter : ℕ → ℕ
-letter symbol = symbol * 2 ^ 10 + 2 ^ 7
+letter symbol = glyphRecord symbol 1 false 0
 
 abbrev pub centred : ℕ
-centred = 2 ^ 31 + 2 ^ 29
+centred = headRecord 1 0
 
 -- a block without borders whose titles have style 0
 abbrev pub bare : Block

@@ -1,27 +1,30 @@
 -- Document 01, 'Small notices by hand': "`_` space, W width 2, Z zero-width solid, z zero-width space, other letters one cell".
-use Prim.Native.Nat.{ℕ, _+_, _*_, _^_}
+use Prim.Native.Nat.{ℕ}
 use Prim.Native.Char.{Char, code}
 use Prim.Native.String.{String, [], _∷_}
 use mathlib.Core.Bool.{Bool, cond, _||_}
 use mathlib.Core.List.{List, [], _∷_, map}
 use lib.Dec.{eqb}
 use Rattle.text.specs.declared.Alignment.the-variants.{Left}
+use Rattle.text.specs.Record.{glyphRecord, headRecord}
 use Rattle.text.specs.Line.{Glyph, numbered, startsFrom}
 use Rattle.cell.specs.Cell.{blankSymbol}
 use Rattle.compose.specs.declared.Method.the-variants.{Wrapped}
 use Rattle.compose.specs.Lines.{Line, lines, composedOf}
 use Rattle.compose.specs.Places.{clipped}
-use Rattle.lines.specs.List.{ruleOf}
+use Rattle.wrapping.specs.Rule.{ruleOf}
 
 abbrev pub is : Char → Char → Bool
 is a b = eqb (code a) (code b)
 
--- a glyph's packed record: symbol 21 | width 3 | whitespace 1 | style 6
+-- a glyph's packed record: its symbol, its width, whether it is whitespace, and style 0
 abbrev pub packedGlyph : Char → ℕ
 packedGlyph c =
-    cond (is c "_" || is c "z") blankSymbol (code c) * 2 ^ 10
-    + cond (is c "W") 2 (cond (is c "Z" || is c "z") 0 1) * 2 ^ 7
-    + cond (is c "_" || is c "z") 1 0 * 2 ^ 6
+    glyphRecord
+    (cond (is c "_" || is c "z") blankSymbol (code c))
+    (cond (is c "W") 2 (cond (is c "Z" || is c "z") 0 1))
+    (is c "_" || is c "z")
+    0
 
 abbrev pub packedGlyphs : String → List ℕ
 packedGlyphs [] = []
@@ -29,7 +32,7 @@ packedGlyphs (c ∷ letters) = packedGlyph c ∷ packedGlyphs letters
 
 -- a text of one line, its head of alignment 0: the head is record 0, and the first letter record 1
 abbrev pub textOf : String → List ℕ
-textOf letters = 2 ^ 31 ∷ packedGlyphs letters
+textOf letters = headRecord 0 0 ∷ packedGlyphs letters
 
 -- letters as the glyphs of a text's line, the first being the record of the number given
 abbrev pub glyphs : ℕ → String → List Glyph

@@ -18,48 +18,48 @@ use Rattle.frame.proofs.Keeps.{block-keeps}
 use Rattle.compose.specs.Lines.{Line}
 use Rattle.render_line.specs.RenderLine.{lineOn}
 use Rattle.rows.specs.Rows.{noLine, textOn}
-use Rattle.rows.proofs.RowDrawn.{right-is, bottom-is, row-end}
+use Rattle.draw_row.proofs.RowDrawn.{right-is, bottom-is, row-end}
 use Rattle.paragraph.specs.Notice.{noticeLines, innerAreaOf, insideOf, noticeOf}
-use Rattle.draw_notice.specs.Call.{noticeCells}
-use Rattle.pages.specs.Pages.{Inputs, scrolledTo, blankCells, cellsAt, innerArea, composedLines}
+use Rattle.draw_notice.specs.Call.{Call, screenIn, drawingOf, cellsAfter}
+use Rattle.pages.specs.Pages.{scrolledTo, blankCells, callAt, innerArea, composedLines}
 use Rattle.pages.specs.Reading.{WrappedNotice}
-use Rattle.pages.proofs.Screen.{screen, met, accepted-at, met-some, inner-there}
+use Rattle.pages.proofs.Screen.{met, accepted-at, met-some, inner-there}
 
 -- what a notice draws before its lines
-abbrev beforeLines : Inputs → List Drawing
+abbrev beforeLines : Call → List Drawing
 beforeLines i =
     over (met i) (styled (styleAt (i .styles) (i .notice .style)))
-    ∷ frame (i .styles) (screen i) (i .titles) (i .notice .block) (met i)
+    ∷ frame (i .styles) (screenIn i) (i .titles) (i .notice .block) (met i)
     ∷ over (innerArea i) (styled (styleAt (i .styles) (i .notice .style)))
     ∷ []
 
 -- what that leaves of a blank cell, in a row and a column counted from the inner area's first ones
-unfoldable pub cellBefore : Inputs → ℕ → ℕ → ℕ
+unfoldable pub cellBefore : Call → ℕ → ℕ → ℕ
 cellBefore i row column = inOrder (beforeLines i) (innerArea i .x + column) (innerArea i .y + row) blankCell
 
 -- the composed line of a number; past the last there is none
-unfoldable pub lineNumbered : Inputs → ℕ → Line
+unfoldable pub lineNumbered : Call → ℕ → Line
 lineNumbered i number = getD (composedLines i) number noLine
 
-module _ (i : Inputs) (w : WrappedNotice i) where
+module _ (i : Call) (w : WrappedNotice i) where
   abbrev count : ℕ
   count = length (blankCells i)
 
   -- the frame keeps the symbols of the inner area
   frame-keeps : (column row : ℕ) → contains (innerArea i) column row ≡ true
-      → KeepsSymbol (frame (i .styles) (screen i) (i .titles) (i .notice .block) (met i)) column row
+      → KeepsSymbol (frame (i .styles) (screenIn i) (i .titles) (i .notice .block) (met i)) column row
   unfolding innerArea innerAreaOf blockOf
   frame-keeps column row h cell =
-      rw (met-some i w) at (block-keeps (i .styles) (screen i) (i .notice .block) (i .titles) (i .area) column row h cell)
+      rw (met-some i w) at (block-keeps (i .styles) (screenIn i) (i .notice .block) (i .titles) (i .area) column row h cell)
 
   -- the cells of an accepted page
-  cells-are : (scroll : ℕ) → cellsAt i scroll
-      ≡ drawn (i .columns) (noticeOf (i .styles) (screen i) (i .text) (i .titles) (scrolledTo scroll (i .notice)) (i .area)) (blankCells i)
-  unfolding cellsAt noticeCells
+  cells-are : (scroll : ℕ) → cellsAfter (callAt i scroll)
+      ≡ drawn (i .columns) (noticeOf (i .styles) (screenIn i) (i .text) (i .titles) (scrolledTo scroll (i .notice)) (i .area)) (blankCells i)
+  unfolding cellsAfter drawingOf
   cells-are scroll = rw (accepted-at i w scroll)
 
   -- a notice with a cell inside draws its lines last
-  notice-is : (scroll column row cell : ℕ) → noticeOf (i .styles) (screen i) (i .text) (i .titles) (scrolledTo scroll (i .notice)) (i .area) column row cell
+  notice-is : (scroll column row cell : ℕ) → noticeOf (i .styles) (screenIn i) (i .text) (i .titles) (scrolledTo scroll (i .notice)) (i .area) column row cell
       ≡ textOn (i .styles) (i .notice .«text_style») (composedLines i) (innerArea i) scroll column row (inOrder (beforeLines i) column row cell)
   unfolding noticeOf insideOf innerArea innerAreaOf composedLines noticeLines
   notice-is scroll column row cell = rw (met-some i w, w .some-cell)
@@ -67,8 +67,8 @@ module _ (i : Inputs) (w : WrappedNotice i) where
   module _ (row column : ℕ) (down : row < innerArea i .height) (across : column < innerArea i .width) where
     is-inside : contains (innerArea i) (innerArea i .x + column) (innerArea i .y + row) ≡ true
     is-inside =
-        let right = right-is (screen i) count (innerArea i) (inner-there i w) in
-        let bottom = bottom-is (screen i) count (innerArea i) (inner-there i w) in
+        let right = right-is (screenIn i) count (innerArea i) (inner-there i w) in
+        let bottom = bottom-is (screenIn i) count (innerArea i) (inner-there i w) in
         cell-inside _ _ _ _ (innerArea i .x + column) (innerArea i .y + row) (omega arith) (omega (arith, right)) (omega arith) (omega (arith, bottom))
 
     -- before its line is drawn it has the blank symbol
@@ -79,21 +79,21 @@ module _ (i : Inputs) (w : WrappedNotice i) where
         (style-keeps (met i) _ _ _, (frame-keeps _ _ is-inside, (style-keeps (innerArea i) _ _ _, tt))) blankCell
 
     -- and its line is drawn on it
-    pub cell-there : (scroll : ℕ) → getD (cellsAt i scroll) ((innerArea i .y + row) * i .columns + (innerArea i .x + column)) 0
+    pub cell-there : (scroll : ℕ) → getD (cellsAfter (callAt i scroll)) ((innerArea i .y + row) * i .columns + (innerArea i .x + column)) 0
         ≡ lineOn (i .styles) (i .notice .«text_style») (innerArea i .width) (lineNumbered i (scroll + row)) column (cellBefore i row column)
     unfolding cellBefore lineNumbered textOn
     cell-there scroll =
         let a = inner-there i w in
-        let right = right-is (screen i) count (innerArea i) a in
+        let right = right-is (screenIn i) count (innerArea i) a in
         let x : ℕ = innerArea i .x + column in
         let y : ℕ = innerArea i .y + row in
-        let there : y * i .columns + x < count = omega (arith, right, row-end (screen i) count (innerArea i) a row down) in
+        let there : y * i .columns + x < count = omega (arith, right, row-end (screenIn i) count (innerArea i) a row down) in
         let few : y * i .columns + x < i .columns * i .rows = omega (arith, there, length-replicate (i .columns * i .rows) blankCell) in
         let own-row : y - innerArea i .y ≡ row = omega arith in
         let own-column : x - innerArea i .x ≡ column = omega arith in
         ap (λ (cells : List ℕ). getD cells (y * i .columns + x) 0) (cells-are scroll)
         ∙ drawn-at (i .columns) _ (blankCells i) x y (omega (arith, right, a .on-screen .right)) there
-        ∙ ap (noticeOf (i .styles) (screen i) (i .text) (i .titles) (scrolledTo scroll (i .notice)) (i .area) x y)
+        ∙ ap (noticeOf (i .styles) (screenIn i) (i .text) (i .titles) (scrolledTo scroll (i .notice)) (i .area) x y)
         (getD-replicate (i .columns * i .rows) (y * i .columns + x) blankCell 0 few)
         ∙ notice-is scroll x y blankCell
         ∙ inside-there (innerArea i) _ x y _ is-inside

@@ -16,9 +16,9 @@ use Rattle.text.specs.Line.{Glyph, Start, total, startsFrom}
 use Rattle.text.specs.Lists.{countOf}
 use Rattle.text.proofs.Lists.{count-append}
 use Rattle.refuse.specs.declared.Verdict.the-variants.{Accepted}
-use Rattle.refuse.specs.Causes.{mostAccepted}
 use Rattle.wrapping.specs.declared.Rule.{Rule}
-use Rattle.nothing_lost.proofs.Lists.{cases}
+use Rattle.wrapping.specs.Rule.{ruleOf}
+use Rattle.text.proofs.Bools.{cases}
 use Rattle.compose.specs.declared.Method.the-variants.{Wrapped}
 use Rattle.compose.specs.Lines.{Line, lines}
 use Rattle.compose.specs.Places.{starts, placed, clipped}
@@ -26,19 +26,18 @@ use Rattle.render_line.specs.RenderLine.{lineOffset, drawnStarts, placedIn, cli
 use Rattle.rows.specs.declared.Rows.{Rows}
 use Rattle.rows.specs.Rows.{linesDrawn, rowsDrawn, sumOf, placedOn, clippedOn}
 use Rattle.rows.proofs.Bounds.{sum-append}
-use Rattle.lines.specs.Causes.{textVerdict}
-use Rattle.lines.specs.List.{ruleOf}
-use Rattle.tally.specs.declared.LineCounts.{LineCounts}
+use Rattle.line_counts.specs.declared.LineCounts.{LineCounts}
+use Rattle.line_counts.specs.Tallying.{lineCounts}
+use Rattle.tally.specs.Call as tally
 use Rattle.tally.specs.Tally.{tallyOf}
-use Rattle.tally.specs.Tallying.{lineCounts}
-use Rattle.tally.proofs.TallyCounts.{own-alignment, counts, all-whitespace}
+use Rattle.tally.proofs.TallyCounts.{own-alignment}
 use Rattle.paragraph.specs.Notice.{noticeLines, innerAreaOf, insideCounts, noticeCounts}
-use Rattle.pages.specs.Pages.{Inputs, verdictAt, countsAt, innerArea, composedLines, pageCount, pagesOf, scrollOf}
-use Rattle.pages.specs.Reading.{summed, WrappedNotice, Reached, SameCounts}
+use Rattle.draw_notice.specs.Call.{Call, verdictOf, rowsOf, countsOf}
+use Rattle.pages.specs.Pages.{callAt, pageCall, innerArea, composedLines, pageCount, pagesOf, scrollOf}
+use Rattle.pages.specs.Reading.{summed, WrappedNotice, Reached, pagesTally, SameCounts}
 use Rattle.pages.proofs.Offset.{offset-fits, offset-none}
 use Rattle.pages.proofs.Reached.{wrapped-lines}
-use Rattle.draw_notice.proofs.Accepting.{text-opens}
-use Rattle.pages.proofs.Screen.{no-causes, inner-some}
+use Rattle.pages.proofs.Screen.{inner-some}
 
 -- ---- where a line starts
 
@@ -133,19 +132,19 @@ unfolding tallyOf lineCounts
 tally-own u own text some =
     rw (ne-eqb (u .limit) 0 (λ (e : u .limit ≡ 0). omega arith)) (own-alignment u text Left own)
 
-module _ (i : Inputs) (w : WrappedNotice i) (accepted : (scroll : ℕ) → verdictAt i scroll ≡ Accepted) where
+module _ (i : Call) (w : WrappedNotice i) (accepted : (scroll : ℕ) → verdictOf (callAt i scroll) ≡ Accepted) where
   -- what a page counts
   page-counts : (page : ℕ)
       → let here = take (innerArea i .height) (drop (scrollOf i page) (composedLines i)) in
-      countsAt i (scrollOf i page) ≡ record { rows = length here; placed = sumOf (placedIn (innerArea i .width)) here; clipped = sumOf (clippedIn (innerArea i .width)) here }
-  unfolding countsAt noticeCounts insideCounts innerArea composedLines innerAreaOf noticeLines rowsDrawn placedOn clippedOn linesDrawn
+      countsOf (pageCall i page) ≡ record { rows = length here; placed = sumOf (placedIn (innerArea i .width)) here; clipped = sumOf (clippedIn (innerArea i .width)) here }
+  unfolding countsOf rowsOf noticeCounts insideCounts innerArea composedLines innerAreaOf noticeLines rowsDrawn placedOn clippedOn linesDrawn
   page-counts page = rw (accepted (scrollOf i page), w .some-cell)
 
   -- a count of the lines' glyphs, added up over the pages
   pages-count : (part : Rows → ℕ) (count : Line → ℕ) (test : Start → Bool)
-      → ((page : ℕ) → part (countsAt i (scrollOf i page)) ≡ sumOf count (take (innerArea i .height) (drop (scrollOf i page) (composedLines i))))
+      → ((page : ℕ) → part (countsOf (pageCall i page)) ≡ sumOf count (take (innerArea i .height) (drop (scrollOf i page) (composedLines i))))
       → ((line : Line) → count line ≡ countOf test (startsFrom 0 (line .glyphs)))
-      → summed 0 (pagesOf i) (λ page. part (countsAt i (scrollOf i page)))
+      → summed 0 (pagesOf i) (λ page. part (countsOf (pageCall i page)))
       ≡ countOf test (starts (lines (ruleOf (innerArea i .width) (w .trim)) Wrapped (i .notice .alignment) (i .text)))
   unfolding pagesOf
   pages-count part count test on-page of-line =
@@ -154,8 +153,8 @@ module _ (i : Inputs) (w : WrappedNotice i) (accepted : (scroll : ℕ) → verdi
       ∙ sum-starts test count of-line (composedLines i)
       ∙ ap (λ (ls : List Line). countOf test (starts ls)) (wrapped-lines i w)
 
-  pub same-counts : Reached i → textVerdict mostAccepted (innerArea i .width) (i .text) ≡ Accepted → SameCounts i (w .trim)
-  unfolding pagesOf lineCounts
+  pub same-counts : Reached i → tally.verdictOf (pagesTally i (w .trim)) ≡ Accepted → SameCounts i (w .trim)
+  unfolding pagesOf lineCounts tally.countsOf
   same-counts reached answered =
       let width : ℕ = innerArea i .width in
       let tally = tally-own (ruleOf width (w .trim)) (i .notice .alignment) (i .text) (inner-some i w .0) in
@@ -163,18 +162,19 @@ module _ (i : Inputs) (w : WrappedNotice i) (accepted : (scroll : ℕ) → verdi
         reached = reached;
         answered = answered;
         rows =
-            summed-same 0 (pagesOf i) _ _ (λ page. ap (λ (c : Rows). c .rows) (page-counts page))
+            rw answered
+            (summed-same 0 (pagesOf i) _ _ (λ page. ap (λ (c : Rows). c .rows) (page-counts page))
             ∙ pages-length (innerArea i .height) (composedLines i) (inner-some i w .1)
             ∙ ap length (wrapped-lines i w)
-            ∙ sym (ap (λ (c : LineCounts). c .lines) tally);
+            ∙ sym (ap (λ (c : LineCounts). c .lines) tally));
         placed =
-            pages-count (λ c. c .placed) (placedIn width) (placed width)
+            rw answered
+            (pages-count (λ c. c .placed) (placedIn width) (placed width)
             (λ page. ap (λ (c : Rows). c .placed) (page-counts page)) (λ line. drawn-counts width line .0)
-            ∙ sym (ap (λ (c : LineCounts). c .placed) tally);
+            ∙ sym (ap (λ (c : LineCounts). c .placed) tally));
         clipped =
-            pages-count (λ c. c .clipped) (clippedIn width) (clipped width)
+            rw answered
+            (pages-count (λ c. c .clipped) (clippedIn width) (clipped width)
             (λ page. ap (λ (c : Rows). c .clipped) (page-counts page)) (λ line. drawn-counts width line .1)
-            ∙ sym (ap (λ (c : LineCounts). c .clipped) tally);
-        all-glyphs = counts (ruleOf width (w .trim)) (i .text) (text-opens (i .text) (no-causes i w .heads-right)) (inner-some i w .0);
-        all-whitespace = all-whitespace (ruleOf width (w .trim)) (i .text);
+            ∙ sym (ap (λ (c : LineCounts). c .clipped) tally));
       }

@@ -1,47 +1,54 @@
 -- Demand 3. Theorem `pages`: what is read over all the pages of a wrapped notice of one-cell glyphs. Theorem `page-counts`: what the
--- pages' answers count, for glyphs of any widths.
+-- pages' answers count, for glyphs of any widths. Theorem `demand-three`: both, and the tally of every accepted text.
 use mathlib.Core.Path.{_≡_, refl, sym, ap, _∙_}
 use mathlib.Core.List.{map, map-map}
 use Rattle.text.specs.Line.{Glyph, glyphsFrom}
+use Rattle.wrapping.specs.Rule.{ruleOf}
 use Rattle.nothing_lost.specs.Glyphs.{solids}
-use Rattle.lines.specs.List.{ruleOf}
-use Rattle.draw_notice.proofs.Accepting.{text-opens}
-use Rattle.pages.specs.Pages.{Inputs, innerArea, composedLines, scrollOf, Placement, placements}
-use Rattle.pages.specs.Reading.{Seen, seen, pagesRead, OneCell, WrappedNotice, Reached, NothingLost, SameCounts}
+use Rattle.tally.proofs.TallyCounts.{tally-counts}
+use Rattle.draw_notice.specs.Call.{Call}
+use Rattle.draw_notice.proofs.Answers.{text-sound}
+use Rattle.pages.specs.Pages.{innerArea, composedLines, scrollOf, Placement, placements}
+use Rattle.pages.specs.Reading.{Seen, seen, OneCell, WrappedNotice, Reached, NothingLost, AllCounted, SameCounts, DemandThree}
 use Rattle.pages.proofs.Fit.{Fit}
-use Rattle.pages.proofs.Screen.{no-causes, accepted-at, inner-some}
+use Rattle.pages.proofs.Screen.{accepted-at, inner-some}
 use Rattle.pages.proofs.Read.{pages-read}
 use Rattle.pages.proofs.Reached.{wrapped-lines, reached-16, text-accepted}
 use Rattle.pages.proofs.Text.{fit-text, placed-glyphs}
 use Rattle.pages.proofs.Counts.{same-counts}
 
 -- every page can be asked for, whatever the glyphs' widths
-pages-reached : (i : Inputs) → WrappedNotice i → Reached i
+pages-reached : (i : Call) → WrappedNotice i → Reached i
 pages-reached i w page there = (reached-16 i w page there, accepted-at i w (scrollOf i page))
 
-pub pages : (i : Inputs) → WrappedNotice i → OneCell (glyphsFrom 0 (i .text)) → NothingLost i
+pub pages : (i : Call) → WrappedNotice i → OneCell (glyphsFrom 0 (i .text)) → NothingLost i
 unfolding placements
 pages i w cells =
     let inner = innerArea i in
     let own = i .notice .alignment in
     let rule = ruleOf (inner .width) (w .trim) in
-    let opens = text-opens (i .text) (no-causes i w .heads-right) in
+    let opens = text-sound i (w .accepted) .opens in
     let fit : Fit (inner .width) (composedLines i) = rw (wrapped-lines i w) (fit-text rule own (i .text) (inner-some i w .0) opens cells) in
+    let places = pages-read i w fit in
+    let glyphs : map (λ (p : Placement). p .glyph) (placements i) ≡ solids (glyphsFrom 0 (i .text)) = rw (wrapped-lines i w) (placed-glyphs inner rule own (i .text) refl (inner-some i w .0) opens cells) in
     record {
       reached = pages-reached i w;
-      places = pages-read i w fit;
-      glyphs = rw (wrapped-lines i w) (placed-glyphs inner rule own (i .text) refl (inner-some i w .0) opens cells);
+      symbols =
+          ap (map (λ (s : Seen). s .symbol)) places
+          ∙ map-map (λ (s : Seen). s .symbol) seen (placements i)
+          ∙ sym (map-map (λ (g : Glyph). g .symbol) (λ (q : Placement). q .glyph) (placements i))
+          ∙ ap (map (λ (g : Glyph). g .symbol)) glyphs;
+      places = places;
+      glyphs = glyphs;
     }
 
--- so the symbols read are those of the text's glyphs that aren't whitespace, in text order
-pub symbols-read : (i : Inputs) → WrappedNotice i → OneCell (glyphsFrom 0 (i .text))
-    → map (λ (s : Seen). s .symbol) (pagesRead i) ≡ map (λ (g : Glyph). g .symbol) (solids (glyphsFrom 0 (i .text)))
-symbols-read i w cells =
-    let p = pages i w cells in
-    ap (map (λ (s : Seen). s .symbol)) (p .places)
-    ∙ map-map (λ (s : Seen). s .symbol) seen (placements i)
-    ∙ sym (map-map (λ (g : Glyph). g .symbol) (λ (q : Placement). q .glyph) (placements i))
-    ∙ ap (map (λ (g : Glyph). g .symbol)) (p .glyphs)
-
-pub page-counts : (i : Inputs) (w : WrappedNotice i) → SameCounts i (w .trim)
+pub page-counts : (i : Call) (w : WrappedNotice i) → SameCounts i (w .trim)
 page-counts i w = same-counts i w (accepted-at i w) (pages-reached i w) (text-accepted i w)
+
+pub demand-three : DemandThree
+demand-three =
+    record {
+      nothing-lost = pages;
+      all-counted = λ call a h. let both = tally-counts call a h in record { all-glyphs = both .0; all-whitespace = both .1 };
+      same-counts = page-counts;
+    }

@@ -5,25 +5,28 @@ use mathlib.Core.Path.{_≡_}
 use mathlib.Core.List.{List}
 use native.Mathlib.Nat.{div-add-mod', mod-lt, mul-le-mul-right}
 use native.Mathlib.Omega.{arith}
-use borrow.Author.Tests.{ltb-false, le-ltb}
+use borrow.Author.Tests.{le-ltb}
 use lib.ListN.{length}
 use Rattle.layout.specs.declared.Rect.{Rect}
 use Rattle.layout.specs.Rect.{meet}
 use Rattle.buffer.specs.Drawing.{areaOf}
+use Rattle.refuse.specs.declared.Refusal.the-variants.{TextLength, TextHeads}
 use Rattle.refuse.specs.declared.Verdict.the-variants.{Accepted}
-use Rattle.refuse.specs.Causes.{mostAccepted}
+use Rattle.refuse.specs.Causes.{mostAccepted, screenCauses, textCauses, lineCauses}
+use Rattle.refuse.proofs.Calls.{no-cause}
 use Rattle.block.specs.declared.Block.{Block}
 use Rattle.block.specs.Inner.{innerOf}
+use Rattle.wrapping.specs.Rule.{ruleOf}
 use Rattle.compose.specs.declared.Method.the-variants.{Wrapped}
 use Rattle.compose.specs.Lines.{lines}
-use Rattle.lines.specs.Causes.{textCauses, textVerdict}
-use Rattle.lines.specs.List.{ruleOf}
-use Rattle.lines.proofs.Bounds.{lines-short}
+use Rattle.compose.proofs.Bounds.{lines-short}
+use Rattle.tally.specs.Call as tally
 use Rattle.paragraph.specs.Notice.{noticeLines, innerAreaOf}
-use Rattle.draw_notice.specs.Call.{screenOf}
-use Rattle.pages.specs.Pages.{Inputs, innerArea, composedLines, pageCount, pagesOf, scrollOf}
-use Rattle.pages.specs.Reading.{WrappedNotice}
-use Rattle.pages.proofs.Screen.{no-causes, screen-sized, inner-some}
+use Rattle.draw_notice.specs.Call.{Call, causesOf, verdictOf, screenIn}
+use Rattle.draw_notice.proofs.Answers.{text-sound}
+use Rattle.pages.specs.Pages.{innerArea, composedLines, pageCount, pagesOf, scrollOf}
+use Rattle.pages.specs.Reading.{WrappedNotice, pagesTally}
+use Rattle.pages.proofs.Screen.{screen-sized, inner-some}
 
 -- a page that is there starts with a line
 pub page-starts : (n h page : ℕ) → page < pageCount n h → 0 < h → page * h < n
@@ -35,22 +38,24 @@ inner-narrow : (b : Block) (titles : List ℕ) (area : Rect) → innerOf b title
 unfolding innerOf
 inner-narrow b titles area = omega arith
 
-module _ (i : Inputs) (w : WrappedNotice i) where
+module _ (i : Call) (w : WrappedNotice i) where
   pub text-short : length (i .text) ≤ 16384
-  text-short = ltb-false 16384 (length (i .text)) (no-causes i w .text-short)
+  text-short = text-sound i (w .accepted) .short
 
   few-columns : innerArea i .width ≤ 512
   unfolding innerArea innerAreaOf
   few-columns =
       omega (
         arith,
-        inner-narrow (i .notice .block) (i .titles) (meet (i .area) (areaOf (screenOf (i .columns) (i .rows)))),
+        inner-narrow (i .notice .block) (i .titles) (meet (i .area) (areaOf (screenIn i))),
         screen-sized i w .most-columns,
       )
 
-  pub text-accepted : textVerdict mostAccepted (innerArea i .width) (i .text) ≡ Accepted
-  unfolding textVerdict textCauses
-  text-accepted = rw (no-causes i w .text-short, no-causes i w .heads-right, le-ltb 4096 (innerArea i .width) (omega (arith, few-columns)))
+  pub text-accepted : tally.verdictOf (pagesTally i (w .trim)) ≡ Accepted
+  unfolding verdictOf causesOf screenCauses textCauses lineCauses tally.verdictOf tally.causesOf
+  text-accepted =
+      let causes = causesOf mostAccepted i in
+      rw (no-cause causes TextLength (w .accepted), no-cause causes TextHeads (w .accepted), le-ltb 4096 (innerArea i .width) (omega (arith, few-columns)))
 
   -- its lines are wrapped ones, and no more than the text's records
   pub wrapped-lines : composedLines i ≡ lines (ruleOf (innerArea i .width) (w .trim)) Wrapped (i .notice .alignment) (i .text)

@@ -12,7 +12,8 @@ use Rattle.layout.specs.declared.Rect.{Rect}
 use Rattle.compose.specs.Lines.{Line}
 use Rattle.render_line.specs.RenderLine.{drawnStarts, lineOn}
 use Rattle.rows.specs.Rows.{noLine}
-use Rattle.pages.specs.Pages.{Inputs, cellsAt, innerArea, composedLines, pageCount, pagesOf, scrollOf, Placement, placementOf, solidPlaced, placementsFrom, placements}
+use Rattle.draw_notice.specs.Call.{Call, cellsAfter}
+use Rattle.pages.specs.Pages.{pageCall, innerArea, composedLines, pageCount, pagesOf, scrollOf, Placement, placementOf, solidPlaced, placementsFrom, placements}
 use Rattle.pages.specs.Reading.{Seen, seen, each, look, pagesRead, OneCell, WrappedNotice}
 use Rattle.pages.proofs.Fit.{Fit}
 use Rattle.pages.proofs.Each.{each-same, each-none, each-add, each-shift, each-pages}
@@ -68,13 +69,13 @@ fit-at width (line ∷ rest) (suc number) fit = fit-at width rest number (fit .1
 pages-enough : (n h : ℕ) → 0 < h → n ≤ pageCount n h * h
 pages-enough n h some = omega (arith, div-add-mod' (n + (h - 1)) h, mod-lt (n + (h - 1)) some)
 
-module _ (i : Inputs) (w : WrappedNotice i) (fit : Fit (innerArea i .width) (composedLines i)) where
+module _ (i : Call) (w : WrappedNotice i) (fit : Fit (innerArea i .width) (composedLines i)) where
   abbrev inner : Rect
   inner = innerArea i
 
   -- what is seen of a cell of the screen on a page
   abbrev lookAt : ℕ → ℕ → ℕ → List Seen
-  lookAt page row column = look page row column (getD (cellsAt i (scrollOf i page)) (row * i .columns + column) 0)
+  lookAt page row column = look page row column (getD (cellsAfter (pageCall i page)) (row * i .columns + column) 0)
 
   -- a row of a page reads as its line
   row-there : (page j : ℕ) → j < inner .height
@@ -104,7 +105,7 @@ module _ (i : Inputs) (w : WrappedNotice i) (fit : Fit (innerArea i .width) (com
   past-lines number h = ap (lineSeen inner number) (List·getD-eq-default (composedLines i) noLine h) ∙ no-line inner number
 
 -- All pages together show the lines' solid glyphs in their places, and nothing else.
-pub pages-read : (i : Inputs) → WrappedNotice i → Fit (innerArea i .width) (composedLines i) → pagesRead i ≡ map seen (placements i)
+pub pages-read : (i : Call) → WrappedNotice i → Fit (innerArea i .width) (composedLines i) → pagesRead i ≡ map seen (placements i)
 unfolding pagesRead pagesOf placements lineNumbered
 pages-read i w fit =
     let n : ℕ = length (composedLines i) in

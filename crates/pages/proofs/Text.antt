@@ -9,13 +9,12 @@ use native.Mathlib.Omega.{arith}
 use borrow.Author.Tests.{lt-ltb, le-ltb, eq-eqb, eqb-true}
 use lib.Dec.{eqb}
 use Rattle.text.specs.declared.Alignment.{Alignment}
-use Rattle.text.specs.Line.{Glyph, TextLine, linesFrom, glyphsOf, glyphsFrom, total, Start, startsFrom}
+use Rattle.text.specs.Line.{Glyph, TextLine, linesFrom, glyphsOf, glyphsFrom, total, Start, startsFrom, Opens}
 use Rattle.text.specs.Lists.{countOf}
 use Rattle.text.proofs.Lists.{count-append}
 use Rattle.text.proofs.LineGlyphs.{lineGlyphs, all-glyphs}
 use Rattle.cell.specs.Cell.{blankSymbol}
 use Rattle.layout.specs.declared.Rect.{Rect}
-use Rattle.refuse.specs.Causes.{notOpening}
 use Rattle.wrapping.specs.declared.Rule.{Rule}
 use Rattle.wrapping.specs.Wrapping.{overWide, notOverWide}
 use Rattle.nothing_lost.specs.Glyphs.{solids, glyphsOfAll, Widths, NoWider, none, one}
@@ -27,8 +26,8 @@ use Rattle.compose.specs.declared.Method.the-variants.{Wrapped}
 use Rattle.compose.specs.Lines.{Line, lines}
 use Rattle.compose.specs.Places.{placed}
 use Rattle.render_line.specs.RenderLine.{drawnStarts}
-use Rattle.lines.proofs.Verdicts.{opens-none}
-use Rattle.tally.proofs.Emitted.{lists, wrapped, lines-wrapped}
+use Rattle.text.proofs.TextLines.{opens-none}
+use Rattle.line_counts.proofs.Emitted.{lists, wrapped, lines-wrapped}
 use Rattle.pages.specs.Pages.{Placement, placementOf, solidPlaced, placementsFrom}
 use Rattle.pages.specs.Reading.{OneCell}
 use Rattle.pages.proofs.Fit.{Fit}
@@ -135,14 +134,14 @@ all-placed inner number (line ∷ rest) f =
 
 -- ---- the text
 
-module _ (text : List ℕ) (opens : notOpening text ≡ false) where
+module _ (text : List ℕ) (opens : Opens text) where
   same-glyphs : lineGlyphs (linesFrom 0 text) ≡ glyphsFrom 0 text
   same-glyphs = all-glyphs 0 text (opens-none text opens)
 
   lines-fit : OneCell (glyphsFrom 0 text) → countOf unfit (lineGlyphs (linesFrom 0 text)) ≡ 0
   lines-fit cells = ap (countOf unfit) same-glyphs ∙ none-unfit (glyphsFrom 0 text) cells
 
-pub fit-text : (u : Rule) (own : Alignment) (text : List ℕ) → 0 < u .limit → notOpening text ≡ false → OneCell (glyphsFrom 0 text)
+pub fit-text : (u : Rule) (own : Alignment) (text : List ℕ) → 0 < u .limit → Opens text → OneCell (glyphsFrom 0 text)
     → Fit (u .limit) (lines u Wrapped own text)
 fit-text u own text some opens cells =
     let fit = lines-fit text opens cells in
@@ -150,7 +149,7 @@ fit-text u own text some opens cells =
     (rw (lines-wrapped u own text) (omega (arith, wrapped-fit u some (linesFrom 0 text))))
     (rw (lines-wrapped u own text) (wrapped-narrow u some (linesFrom 0 text) fit))
 
-pub placed-glyphs : (inner : Rect) (u : Rule) (own : Alignment) (text : List ℕ) → u .limit ≡ inner .width → 0 < u .limit → notOpening text ≡ false
+pub placed-glyphs : (inner : Rect) (u : Rule) (own : Alignment) (text : List ℕ) → u .limit ≡ inner .width → 0 < u .limit → Opens text
     → OneCell (glyphsFrom 0 text)
     → map (λ (p : Placement). p .glyph) (placementsFrom inner 0 (lines u Wrapped own text)) ≡ solids (glyphsFrom 0 text)
 placed-glyphs inner u own text limit some opens cells =

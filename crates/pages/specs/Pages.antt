@@ -1,4 +1,5 @@
--- Document 01, 'Rows, pages, tally': "Demand 3's pages", and where they have each glyph.
+-- Document 01, 'Rows, pages, tally': "Demand 3's pages", and where they have each glyph. A notice is given by a call of `draw_notice`, and
+-- its pages are calls of it: their verdict, cells and counts are the call's own.
 use Prim.Native.Nat.{ℕ, suc, _+_, _-_, _*_, _/_}
 use mathlib.Core.Bool.{cond, not, _&&_}
 use mathlib.Core.List.{List, [], _∷_, _++_, map}
@@ -6,26 +7,12 @@ use lib.ListN.{length, replicate}
 use Rattle.text.specs.Line.{Glyph, Start}
 use Rattle.cell.specs.Cell.{blankCell}
 use Rattle.layout.specs.declared.Rect.{Rect}
-use Rattle.refuse.specs.declared.Verdict.{Verdict}
-use Rattle.refuse.specs.Refusal.{unlessRefused}
-use Rattle.refuse.specs.Causes.{mostAccepted}
 use Rattle.compose.specs.Lines.{Line}
 use Rattle.compose.specs.Places.{placed}
 use Rattle.render_line.specs.RenderLine.{drawnStarts}
-use Rattle.rows.specs.declared.Rows.{Rows}
 use Rattle.paragraph.specs.declared.Notice.{Notice}
-use Rattle.paragraph.specs.Notice.{noticeLines, innerAreaOf, noRows, noticeCounts}
-use Rattle.draw_notice.specs.Call.{screenOf, noticeVerdict, noticeCells}
-
--- what the call `draw_notice` gets beside the cells
-pub record Inputs : Type 0 where
-  pub columns : ℕ
-  pub rows : ℕ
-  pub styles : List ℕ
-  pub text : List ℕ
-  pub titles : List ℕ
-  pub area : Rect
-  pub notice : Notice
+use Rattle.paragraph.specs.Notice.{noticeLines, innerAreaOf}
+use Rattle.draw_notice.specs.Call.{Call, screenIn}
 
 -- the same notice, scrolled to another row: "Their drawings differ in the scroll row alone"
 abbrev pub scrolledTo : ℕ → Notice → Notice
@@ -40,40 +27,44 @@ scrolledTo scroll n =
     }
 
 -- "each starts on blank cells"
-abbrev pub blankCells : Inputs → List ℕ
+abbrev pub blankCells : Call → List ℕ
 blankCells i = replicate (i .columns * i .rows) blankCell
 
--- what the contract of `draw_notice` says of this notice on blank cells, at a scroll row: what is found wrong, the cells that are left,
--- and the counts of the answer
-unfoldable pub verdictAt : Inputs → ℕ → Verdict
-verdictAt i scroll =
-    noticeVerdict mostAccepted (i .columns) (i .rows) (length (blankCells i)) (i .styles) (i .text) (i .titles) (scrolledTo scroll (i .notice))
-
-unfoldable pub cellsAt : Inputs → ℕ → List ℕ
-cellsAt i scroll =
-    noticeCells (verdictAt i scroll) (i .columns) (i .rows) (i .styles) (i .text) (i .titles) (i .area) (scrolledTo scroll (i .notice)) (blankCells i)
-
-unfoldable pub countsAt : Inputs → ℕ → Rows
-countsAt i scroll =
-    unlessRefused (verdictAt i scroll) (noticeCounts (screenOf (i .columns) (i .rows)) (i .text) (i .titles) (scrolledTo scroll (i .notice)) (i .area)) noRows
+-- the notice drawn on blank cells, from a scroll row on
+abbrev pub callAt : Call → ℕ → Call
+callAt i scroll =
+    record {
+      columns = i .columns;
+      rows = i .rows;
+      cells = blankCells i;
+      styles = i .styles;
+      text = i .text;
+      titles = i .titles;
+      area = i .area;
+      notice = scrolledTo scroll (i .notice);
+    }
 
 -- the inner area, and the "lines, composed with the inner width as the limit"
-unfoldable pub innerArea : Inputs → Rect
-innerArea i = innerAreaOf (screenOf (i .columns) (i .rows)) (i .titles) (i .notice) (i .area)
+unfoldable pub innerArea : Call → Rect
+innerArea i = innerAreaOf (screenIn i) (i .titles) (i .notice) (i .area)
 
-unfoldable pub composedLines : Inputs → List Line
+unfoldable pub composedLines : Call → List Line
 composedLines i = noticeLines (i .notice) (i .text) (innerArea i .width)
 
 -- "n lines … make n / h pages at inner height h, rounded up"
 abbrev pub pageCount : ℕ → ℕ → ℕ
 pageCount n h = (n + (h - 1)) / h
 
-unfoldable pub pagesOf : Inputs → ℕ
+unfoldable pub pagesOf : Call → ℕ
 pagesOf i = pageCount (length (composedLines i)) (innerArea i .height)
 
 -- "page p scrolled down p times the inner height"
-abbrev pub scrollOf : Inputs → ℕ → ℕ
+abbrev pub scrollOf : Call → ℕ → ℕ
 scrollOf i page = page * innerArea i .height
+
+-- the call that draws a page
+abbrev pub pageCall : Call → ℕ → Call
+pageCall i page = callAt i (scrollOf i page)
 
 -- "Line i, from 0, is on page i / h, rounded down, in the inner area's row i less page × h. A glyph's column is the inner area's left
 -- edge plus its start as drawn." Row and column are the screen's here.
@@ -104,5 +95,5 @@ placementsFrom inner number [] = []
 placementsFrom inner number (line ∷ rest) =
     map (placementOf inner number) (solidPlaced (inner .width) (drawnStarts (inner .width) line)) ++ placementsFrom inner (suc number) rest
 
-unfoldable pub placements : Inputs → List Placement
+unfoldable pub placements : Call → List Placement
 placements i = placementsFrom (innerArea i) 0 (composedLines i)

@@ -9,15 +9,12 @@ use Rattle.text.specs.Line.{Glyph, glyphsFrom}
 use Rattle.cell.specs.Cell.{cellFrom, blankSymbol}
 use Rattle.layout.specs.Rect.{isEmpty}
 use Rattle.refuse.specs.declared.Verdict.the-variants.{Accepted}
-use Rattle.measure.specs.declared.Wrap.the-variants.{On}
-use Rattle.refuse.specs.Causes.{mostAccepted}
 use Rattle.nothing_lost.specs.Glyphs.{solids}
+use Rattle.compose.specs.declared.Wrap.the-variants.{On}
 use Rattle.compose.specs.Lines.{dropped}
-use Rattle.lines.specs.Causes.{textVerdict}
-use Rattle.lines.specs.List.{ruleOf}
-use Rattle.tally.specs.declared.Counts.{Counts}
-use Rattle.tally.specs.Tally.{tallyOf}
-use Rattle.pages.specs.Pages.{Inputs, Placement, verdictAt, cellsAt, countsAt, innerArea, pagesOf, scrollOf, placements}
+use Rattle.tally.specs.Call as tally
+use Rattle.draw_notice.specs.Call.{Call, verdictOf, countsOf, cellsAfter}
+use Rattle.pages.specs.Pages.{Placement, innerArea, pagesOf, scrollOf, pageCall, placements}
 
 -- a symbol read on a page, in a row and a column of the screen
 pub record Seen : Type 0 where
@@ -41,13 +38,13 @@ look page row column cell =
     cond (eqb (cellFrom cell .symbol) blankSymbol) [] (record { page = page; row = row; column = column; symbol = cellFrom cell .symbol } ∷ [])
 
 -- "the symbols in the inner area other than the blank one, read over all these pages in order, row by row, left to right"
-unfoldable pub pagesRead : Inputs → List Seen
+unfoldable pub pagesRead : Call → List Seen
 pagesRead i =
     let inner = innerArea i in
     each 0 (pagesOf i) (λ page.
     each (inner .y) (inner .height) (λ row.
     each (inner .x) (inner .width) (λ column.
-    look page row column (getD (cellsAt i (scrollOf i page)) (row * i .columns + column) 0))))
+    look page row column (getD (cellsAfter (pageCall i page)) (row * i .columns + column) 0))))
 
 -- the sum of a count over all the pages
 abbrev pub summed : ℕ → ℕ → (ℕ → ℕ) → ℕ
@@ -59,40 +56,52 @@ abbrev pub OneCell : List Glyph → Type 0
 OneCell [] = Unit {0}
 OneCell (g ∷ gs) = ((g .width ≡ 1) × (g .whitespace ≡ eqb (g .symbol) blankSymbol)) × OneCell gs
 
--- "any accepted notice that is drawn wrapped, trimmed or not", with "an inner area of one cell or more". No cause looks at the scroll
--- row, so being accepted at row 0 is all that is asked.
-pub record WrappedNotice (i : Inputs) : Type 0 where
-  pub accepted : verdictAt i 0 ≡ Accepted
+-- "any accepted notice that is drawn wrapped, trimmed or not", with "an inner area of one cell or more"
+pub record WrappedNotice (i : Call) : Type 0 where
+  pub accepted : verdictOf i ≡ Accepted
   pub trim : Bool
   pub wrapped : i .notice .wrap ≡ On trim
   pub some-cell : isEmpty (innerArea i) ≡ false
 
--- Each page's scroll row fits in 16 bits, and "None is refused".
-abbrev pub Reached : Inputs → Type 0
-Reached i = (page : ℕ) → page < pagesOf i → (scrollOf i page < 65536) × (verdictAt i (scrollOf i page) ≡ Accepted)
+-- Each page's scroll row fits in 16 bits, and "None is refused, as no cause looks at the scroll row".
+abbrev pub Reached : Call → Type 0
+Reached i = (page : ℕ) → page < pagesOf i → (scrollOf i page < 65536) × (verdictOf (pageCall i page) ≡ Accepted)
 
 -- Demand 3, the pages: all together they show each glyph of the text that isn't whitespace once, in text order, in its place, and
 -- nothing else. So "Inner cells without a glyph hold the blank symbol": any other symbol would be read.
-pub record NothingLost (i : Inputs) : Type 0 where
+pub record NothingLost (i : Call) : Type 0 where
   pub reached : Reached i
+  -- "the symbols … are exactly those of its text's non-whitespace glyphs"
+  pub symbols : map (λ (s : Seen). s .symbol) (pagesRead i) ≡ map (λ (g : Glyph). g .symbol) (solids (glyphsFrom 0 (i .text)))
+  -- "on the page and in the cell document 01 gives it, and nothing else is"
   pub places : pagesRead i ≡ map seen (placements i)
+  -- "Each is there once, in text order"
   pub glyphs : map (λ (p : Placement). p .glyph) (placements i) ≡ solids (glyphsFrom 0 (i .text))
 
--- the tally of the text at the inner width
-abbrev pub pagesTally : Inputs → Bool → Counts
-pagesTally i trim = tallyOf (ruleOf (innerArea i .width) trim) (i .text)
-
--- Demand 3, the counts, for glyphs of any widths: "placed + clipped + zero-width + over-wide + dropped = glyphs", "and every dropped glyph
--- is whitespace". Beyond its words, and tying its pages to its counts: the tally of the text at the inner width is answered, and what the
--- pages' answers count adds up to it. `tally-counts` in `tally` says the first two of every text that the tally accepts, at every limit
--- above 0.
-pub record SameCounts (i : Inputs) (trim : Bool) : Type 0 where
-  pub reached : Reached i
-  pub answered : textVerdict mostAccepted (innerArea i .width) (i .text) ≡ Accepted
-  pub rows : summed 0 (pagesOf i) (λ page. countsAt i (scrollOf i page) .rows) ≡ pagesTally i trim .lines
-  pub placed : summed 0 (pagesOf i) (λ page. countsAt i (scrollOf i page) .placed) ≡ pagesTally i trim .placed
-  pub clipped : summed 0 (pagesOf i) (λ page. countsAt i (scrollOf i page) .clipped) ≡ pagesTally i trim .clipped
+-- Demand 3, the counts of a tally call, for glyphs of any widths: "placed + clipped + zero-width + over-wide + dropped = glyphs", "and
+-- every dropped glyph is whitespace".
+pub record AllCounted (call : tally.Call) : Type 0 where
   pub all-glyphs :
-      let t = pagesTally i trim in
-      t .placed + t .clipped + t .«zero_width» + t .«over_wide» + t .dropped ≡ length (glyphsFrom 0 (i .text))
-  pub all-whitespace : solids (dropped (ruleOf (innerArea i .width) trim) (i .text)) ≡ []
+      let c = tally.countsOf call in
+      c .placed + c .clipped + c .«zero_width» + c .«over_wide» + c .dropped ≡ length (glyphsFrom 0 (call .text))
+  pub all-whitespace : solids (dropped (tally.ruleIn call) (call .text)) ≡ []
+
+-- the tally of a notice's text at the inner width
+abbrev pub pagesTally : Call → Bool → tally.Call
+pagesTally i trim = tally.callOf (i .text) (innerArea i .width) trim
+
+-- Beyond demand 3's words, and tying its pages to its counts, for glyphs of any widths: the tally of the text at the inner width is
+-- answered, and what the pages' answers count adds up to it.
+pub record SameCounts (i : Call) (trim : Bool) : Type 0 where
+  pub reached : Reached i
+  pub answered : tally.verdictOf (pagesTally i trim) ≡ Accepted
+  pub rows : summed 0 (pagesOf i) (λ page. countsOf (pageCall i page) .rows) ≡ tally.countsOf (pagesTally i trim) .lines
+  pub placed : summed 0 (pagesOf i) (λ page. countsOf (pageCall i page) .placed) ≡ tally.countsOf (pagesTally i trim) .placed
+  pub clipped : summed 0 (pagesOf i) (λ page. countsOf (pageCall i page) .clipped) ≡ tally.countsOf (pagesTally i trim) .clipped
+
+-- Demand 3, all of it: the pages of every such notice whose glyphs are one cell wide; the tally of every accepted text at every limit
+-- above 0, whatever its glyphs' widths; and the pages' counts, which are the tally's.
+pub record DemandThree : Type 0 where
+  pub nothing-lost : (i : Call) → WrappedNotice i → OneCell (glyphsFrom 0 (i .text)) → NothingLost i
+  pub all-counted : (call : tally.Call) → tally.verdictOf call ≡ Accepted → 0 < call .limit → AllCounted call
+  pub same-counts : (i : Call) (w : WrappedNotice i) → SameCounts i (w .trim)
