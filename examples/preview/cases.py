@@ -1,5 +1,5 @@
 #!/usr/bin/env python3
-"""Makes the inputs of crates/previewcases again. Outside the proved part, as pack.py is."""
+"""Makes the inputs of crates/trials/data/preview again. Outside the proved part, as pack.py is."""
 import argparse
 import os
 import struct
@@ -8,7 +8,7 @@ import sys
 import pack
 
 HERE = os.path.dirname(os.path.abspath(__file__))
-DATA = os.path.join(HERE, "..", "..", "crates", "previewcases", "data")
+DATA = os.path.join(HERE, "..", "..", "crates", "trials", "data", "preview")
 
 # Where fields stand.
 COLUMNS, BLOCK_STYLE, SHADOW, WRAP, STYLES, TITLES, TEXT, RECORDS = 4, 73, 77, 86, 87, 89, 91, 93

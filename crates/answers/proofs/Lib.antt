@@ -1,4 +1,3 @@
 pub mod Few
 pub mod Pulling
 pub mod Telling
-pub mod Accepting

@@ -4,7 +4,8 @@ mod sums;
 
 use cases::Case;
 use lines::Listed;
-use refuse::Ceilings;
+use refuse::ACCEPTED;
+use refuse::Verdict;
 use tally::Tallied;
 use wrapping::Rule;
 
@@ -42,10 +43,7 @@ fn counts(case: Case, text: &[u32]) -> Answer {
 
 // No call of ours lists truncated lines, so they are pulled, and a text that a call would refuse is refused here.
 fn truncated_lines(case: Case, text: &[u32]) -> Answer {
-    if check_records::text_too_long(Ceilings::accepted(), text) {
-        return Answer::Refused;
-    }
-    if check_records::text_heads_wrong(text) {
+    if let Verdict::Refused(_) = check_records::line_verdict(ACCEPTED, text, case.limit) {
         return Answer::Refused;
     }
     let own = case.own;

@@ -6,8 +6,8 @@ use blockcases::parts;
 use blockcases::parts::Part;
 use blocksettings::titles;
 use cases::Case;
+use compose::Wrap;
 use measure::Measured;
-use measure::Wrap;
 ghost use Prim.Native.Nat.{_≤_};
 ghost use lib.ListN.{length};
 

@@ -8,10 +8,8 @@ use tally::Counts;
 use text::Alignment;
 use wrapping::Rule;
 ghost use mathlib.Core.Path.{_≡_};
-ghost use mathlib.Core.Bool.{false};
 ghost use Prim.Native.Nat.{_^_, _<_};
-ghost use lib.ListN.{length};
-ghost use Rattle.refuse.specs.Causes.{notOpening};
+ghost use Rattle.text.specs.Line.{Opens, FewRecords};
 ghost use Rattle.compose.specs.declared.Method.the-variants.{Truncated};
 ghost use Rattle.compose.specs.Lines.{lines};
 ghost use Rattle.answers.specs.Sums.{countsSum, withLine, linesSum, measuresSum};
@@ -42,7 +40,7 @@ fn with_line(sum: u32, line: Composed) -> u32
 
 // The sum of a text's truncated lines, scrolled to the right by `column`: of each, then of their number.
 pub fn sum_truncated(rule: Rule, column: u32, own: Alignment, text: &[u32]) -> u32
-    requires { ⌜ (length (now text) < 2 ^ 28) × (notOpening (now text) ≡ false) ⌝ }
+    requires { ⌜ FewRecords (now text) × Opens (now text) ⌝ }
     ensures { λ r. ⌜ r ≡ linesSum (lines rule (Truncated column) own (now (text .entry))) ⌝ }
 {
     let mut composer = Composer::start(rule, Method::Truncated(column), text);

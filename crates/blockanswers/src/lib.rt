@@ -118,7 +118,7 @@ fn drawn_with(case: Case, styles: &mut [u64], cells: &mut [u64]) -> Answer
     if cells.len() < size {
         return Answer::Refused;
     }
-    write_words(styles, count, 268435456, seed(case.seed));
+    write_words(styles, count, style::REMOVE_PLACE, seed(case.seed));
     write_words(cells, size, 1, seed(next(case.seed)));
     titled(case, &styles[..count], &mut cells[..size])
 }

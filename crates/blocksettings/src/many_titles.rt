@@ -60,7 +60,7 @@ fn glyph(x: u32, styles: u32) -> u32
 {
     let y = next(x);
     let z = next(next(y));
-    symbol(x) * 1024 + width(y) * 128 + below(z, 2) * 64 + below(z, styles)
+    text::glyph::pack(symbol(x), width(y), below(z, 2) == 1, below(z, styles))
 }
 
 // Writes glyphs from a place up to an end, each made of four numbers.

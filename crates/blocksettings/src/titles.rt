@@ -27,7 +27,7 @@ pub fn position_of(number: u32) -> TitlePosition {
 pub fn head(position: u32, x: u32) -> u32
     requires { ⌜ position < 4 ⌝ }
 {
-    2147483648 + below(x, 4) * 536870912 + position * 134217728
+    text::head::pack(below(x, 4), position)
 }
 
 // The record at a place: the first title stands at the top, at the bottom or at the block's own position, the second at the bottom.

@@ -1,44 +1,34 @@
 -- The fields of the records that cases are made of.
-use Prim.Native.Nat.{ℕ, _+_, _*_, _/_, _%_, _^_, _<_}
+use Prim.Native.Nat.{ℕ, _%_, _^_, _<_}
 use mathlib.Core.Path.{_≡_}
-use mathlib.Core.Bool.{true, false}
+use mathlib.Core.Bool.{Bool, true, false}
 use native.Mathlib.Omega.{arith}
-use borrow.Author.Tests.{eq-eqb, ne-eqb}
-use lib.Dec.{eqb}
-use Rattle.text.specs.Record.{isHead, alignmentOf, positionOf, zerosOf, widthOf, whitespaceOf}
+use Rattle.text.specs.Record.{isHead, alignmentOf, positionOf, zerosOf, headRecord, widthOf, whitespaceOf, glyphRecord}
+use Rattle.text.proofs.Fields as fields
 
-abbrev headOf : ℕ → ℕ
-headOf alignment = 2147483648 + alignment * 536870912
+module _ (r a : ℕ) (h : a < 4) (e : r ≡ headRecord a 0) where
+  pub head-is : isHead r ≡ true
+  head-is = rw e (fields.head-is a 0 h (omega arith))
 
-module _ (a : ℕ) (h : a < 4) where
-  pub head-is : isHead (headOf a) ≡ true
-  head-is = eq-eqb (headOf a / 2 ^ 31) 1 (omega arith)
+  pub head-alignment : alignmentOf r ≡ a
+  head-alignment = rw e (fields.head-alignment a 0 h (omega arith))
 
-  pub head-alignment : alignmentOf (headOf a) ≡ a
-  head-alignment = omega arith
+  pub head-position : positionOf r ≡ 0
+  head-position = rw e (fields.head-position a 0 h (omega arith))
 
-  pub head-position : positionOf (headOf a) ≡ 0
-  head-position = omega arith
-
-  pub head-zeros : zerosOf (headOf a) ≡ 0
-  head-zeros = omega arith
+  pub head-zeros : zerosOf r ≡ 0
+  head-zeros = rw e (fields.head-zeros a 0 h (omega arith))
 
 pub ruleset head-fields = (head-is, head-alignment, head-position, head-zeros)
 
-abbrev glyphOf : ℕ → ℕ → ℕ → ℕ
-glyphOf width space x = x % 2097152 * 1024 + width * 128 + space * 64 + x % 64
+module _ (r x width : ℕ) (space : Bool) (w : width < 8) (e : r ≡ glyphRecord (x % 2 ^ 21) width space (x % 2 ^ 6)) where
+  pub glyph-is : isHead r ≡ false
+  glyph-is = rw e (fields.glyph-is (x % 2 ^ 21) width space (x % 2 ^ 6) (omega arith) w (omega arith))
 
-module _ (width space x : ℕ) (w : width < 8) (s : space < 2) where
-  pub glyph-is : isHead (glyphOf width space x) ≡ false
-  glyph-is = ne-eqb (glyphOf width space x / 2 ^ 31) 1 (λ (e : glyphOf width space x / 2 ^ 31 ≡ 1). omega arith)
+  pub glyph-width : widthOf r ≡ width
+  glyph-width = rw e (fields.glyph-width (x % 2 ^ 21) width space (x % 2 ^ 6) (omega arith) w (omega arith))
 
-  pub glyph-width : widthOf (glyphOf width space x) ≡ width
-  glyph-width = let q : glyphOf width space x / 2 ^ 7 ≡ x % 2097152 * 8 + width = omega arith in rw q (omega arith)
-
-  pub glyph-whitespace : whitespaceOf (glyphOf width space x) ≡ eqb space 1
-  glyph-whitespace =
-      let q : glyphOf width space x / 2 ^ 6 ≡ x % 2097152 * 16 + width * 2 + space = omega arith in
-      let m : (x % 2097152 * 16 + width * 2 + space) % 2 ≡ space = omega arith in
-      rw (q, m)
+  pub glyph-whitespace : whitespaceOf r ≡ space
+  glyph-whitespace = rw e (fields.glyph-whitespace (x % 2 ^ 21) width space (x % 2 ^ 6) (omega arith) w (omega arith))
 
 pub ruleset glyph-fields = (glyph-is, glyph-width, glyph-whitespace)

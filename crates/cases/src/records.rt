@@ -1,4 +1,6 @@
 // The records of the cases' texts.
+use text::glyph::STYLES;
+use text::glyph::SYMBOLS;
 ghost use mathlib.Core.Path.{_≡_};
 ghost use mathlib.Core.Bool.{true, false};
 ghost use Prim.Native.Nat.{_<_};
@@ -13,7 +15,7 @@ pub fn head(alignment: u32) -> u32
     ensures { λ r. ⌜ positionOf r ≡ 0 ⌝ }
     ensures { λ r. ⌜ zerosOf r ≡ 0 ⌝ }
 {
-    2147483648 + alignment * 536870912
+    text::head::pack(alignment, 0)
 }
 
 // A glyph. Its symbol and its style are any that x gives.
@@ -24,5 +26,5 @@ pub fn glyph(width: u32, space: u32, x: u32) -> u32
     ensures { λ r. ⌜ widthOf r ≡ width ⌝ }
     ensures { λ r. ⌜ whitespaceOf r ≡ eqb space 1 ⌝ }
 {
-    x % 2097152 * 1024 + width * 128 + space * 64 + x % 64
+    text::glyph::pack(x % SYMBOLS, width, space == 1, x % STYLES)
 }

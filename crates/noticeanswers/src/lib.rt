@@ -107,7 +107,7 @@ fn drawn_with(case: Case, cells: &mut [u64], styles: &mut [u64]) -> Answer
     if cells.len() < size {
         return Answer::Refused;
     }
-    write_words(styles, styles.len(), 268435456, seed(case.seed));
+    write_words(styles, styles.len(), style::REMOVE_PLACE, seed(case.seed));
     write_words(cells, size, 1, seed(next(case.seed)));
     worded(case, &mut cells[..size], styles)
 }

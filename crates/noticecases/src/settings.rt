@@ -4,7 +4,7 @@ use blocksettings::titles::alignment_of;
 use blocksettings::words::four_on;
 use cases::random::below;
 use cases::random::next;
-use measure::Wrap;
+use compose::Wrap;
 use padding::Padding;
 use paragraph::Notice;
 ghost use Prim.Native.Nat.{_<_, _≤_};

@@ -22,7 +22,7 @@ struct Page {
 
 // A blank cell among those that tell widths: 1 for its symbol.
 fn blank_width() -> u64 {
-    8796093022208
+    cell::set_symbol(1, cell::blank())
 }
 
 // Prints a page that is drawn, its cells marked with the widths.
@@ -40,11 +40,11 @@ fn print_page(
     messages::counts(rows);
 }
 
-// Draws a page and prints it.
+// Draws a page and prints it, if it is asked for.
 fn show_page(
     opening: Opening,
     page: Page,
-    ansi: bool,
+    asked: Asked,
     styles: &[u64],
     titles: &[u32],
     text: &[u32],
@@ -53,6 +53,10 @@ fn show_page(
     cells: &mut [u64],
     wide_cells: &mut [u64],
 ) {
+    let shown = asked.pages;
+    if !shown.has(page.number) {
+        return;
+    }
     let first = page.first;
     let wide = sheet::widened(opening);
     sheet::draw(
@@ -66,37 +70,9 @@ fn show_page(
     );
     match sheet::draw(opening, first, cell::blank(), styles, titles, text, cells) {
         Drawn::Refused(why) => messages::refused(why.number()),
-        Drawn::Shown(rows) => { print_page(page, opening.columns, ansi, rows, cells, wide_cells) }
-    }
-}
-
-// Shows a page, if it is asked for.
-fn show_asked(
-    opening: Opening,
-    page: Page,
-    asked: Asked,
-    styles: &[u64],
-    titles: &[u32],
-    text: &[u32],
-    wide_titles: &[u32],
-    wide_text: &[u32],
-    cells: &mut [u64],
-    wide_cells: &mut [u64],
-) {
-    let pages = asked.pages;
-    if pages.has(page.number) {
-        show_page(
-            opening,
-            page,
-            asked.ansi,
-            styles,
-            titles,
-            text,
-            wide_titles,
-            wide_text,
-            cells,
-            wide_cells,
-        );
+        Drawn::Shown(rows) => {
+            print_page(page, opening.columns, asked.ansi, rows, cells, wide_cells)
+        }
     }
 }
 
@@ -123,7 +99,7 @@ fn show_pages(
             pages,
             first,
         };
-        show_asked(
+        show_page(
             opening,
             page,
             asked,

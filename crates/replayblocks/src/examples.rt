@@ -3,15 +3,17 @@ use blocksettings::plain;
 use layout::Rect;
 use libc::STDOUT_FILENO;
 use num::wide;
+use text::glyph;
+use text::head;
 ghost use Prim.Native.Nat.{_<_, _≤_};
 ghost use lib.ListN.{length};
 
 // A centred title's head for a bar, or a letter one column wide.
 fn record(byte: u8) -> u32 {
     if byte == 124 {
-        return 2684354560;
+        return head::pack(1, 0);
     }
-    wide(byte) * 1024 + 128
+    glyph::pack(wide(byte), 1, false, 0)
 }
 
 fn write_titles(titles: &mut [u32], text: &[u8])

@@ -1,10 +1,13 @@
 // Document 01's worked examples of unwrapped lines, drawn by us and printed: "Wabc" in 4 columns.
 use blocksettings::plain;
+use compose::Wrap;
 use layout::Rect;
 use libc::STDOUT_FILENO;
-use measure::Wrap;
 use paragraph::Notice;
 use text::Alignment;
+use text::glyph;
+use text::head;
+ghost use Prim.Native.Nat.{_<_, _^_};
 
 // The notice, scrolled to the right.
 fn notice(column: u16) -> Notice {
@@ -18,10 +21,18 @@ fn notice(column: u16) -> Notice {
     }
 }
 
+// A letter one column wide.
+fn letter(symbol: u32) -> u32
+    requires { ⌜ symbol < 2 ^ 21 ⌝ }
+{
+    glyph::pack(symbol, 1, false, 0)
+}
+
 // Draws and prints the line that a head opens.
 fn print_line(head: u32, column: u16) {
     let styles = [0u64; 1];
-    let text = [head, 89344, 99456, 100480, 101504];
+    let wide = glyph::pack(87, 2, false, 0);
+    let text = [head, wide, letter(97), letter(98), letter(99)];
     let mut cells = [cell::blank(); 4];
     let area = Rect {
         x: 0,
@@ -39,15 +50,15 @@ pub fn print_all() {
         STDOUT_FILENO,
         b"unwrapped Wabc in 4, left, scrolled right by 1: ",
     );
-    print_line(2147483648, 1);
+    print_line(head::pack(0, 0), 1);
     io::write_all(
         STDOUT_FILENO,
         b"unwrapped Wabc in 4, left, scrolled right by 2: ",
     );
-    print_line(2147483648, 2);
+    print_line(head::pack(0, 0), 2);
     io::write_all(
         STDOUT_FILENO,
         b"unwrapped Wabc in 4, right, scrolled right by 1: ",
     );
-    print_line(3221225472, 1);
+    print_line(head::pack(2, 0), 1);
 }

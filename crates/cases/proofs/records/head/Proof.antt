@@ -4,14 +4,8 @@ use Rattle.cases.proofs.Fields.{head-fields}
 use Rattle.cases.proofs.records.head.Statement.{statement}
 use Rattle.cases.proofs.records.head.Tie as tie
 
-mul-result : tie.Need-mul-result
-mul-result c = search needs
-
-add-result : tie.Need-add-result
-add-result c = search needs
-
 returns : tie.Need-returns
 returns c = search head-fields
 
 pub head-spec : {M : Type 1} → statement M
-head-spec = tie.close (tie.spec mul-result add-result returns)
+head-spec = tie.close (tie.spec (search needs) returns)

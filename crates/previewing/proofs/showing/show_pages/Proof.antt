@@ -16,8 +16,8 @@ abbrev μ-loop : tie.MeasureT-loop
 loop-holds : tie.Need-loop-holds Inv-loop μ-loop
 loop-holds c = search needs
 
-show-asked-requires : tie.Need-show-asked-requires Inv-loop μ-loop
-show-asked-requires c κs = search needs
+show-page-requires : tie.Need-show-page-requires Inv-loop μ-loop
+show-page-requires c κs = search needs
 
 next-first-requires : tie.Need-next-first-requires Inv-loop μ-loop
 next-first-requires c κs = search needs
@@ -47,7 +47,7 @@ show-pages-spec =
     Inv-loop
     μ-loop
     loop-holds
-    show-asked-requires
+    show-page-requires
     next-first-requires
     add-number
     loop-less
