@@ -1,4 +1,4 @@
-//! Brings reflow.rs here, unchanged, from where the oracle takes it.
+//! Copies reflow.rs, unchanged, into the build, from the same folder as the oracle.
 
 use std::path::{Path, PathBuf};
 use std::{env, fs, process};

@@ -1,4 +1,4 @@
-//! The rows of `list_lines` and `tally`.
+//! Table rows for `list_lines` and `tally`.
 
 use std::hint::black_box;
 
@@ -9,15 +9,15 @@ use crate::original::{over_lean, over_oracle};
 use crate::raw;
 use crate::sides::Sides;
 
-/// The number of the alignment left.
+/// Number of the left alignment.
 const LEFT: u8 = 0;
 
-/// The symbols of a text for the oracle's stand-ins, one after the other.
+/// Returns the symbols of a text for the oracle's stand-ins, concatenated.
 fn symbols(text: &[u32]) -> String {
     (0..).zip(text).map(|(number, &record)| Glyph { record, number }.encode()).collect()
 }
 
-/// The oracle's answer, which must not be a panic.
+/// Returns the oracle's answer, which must not be a panic.
 pub fn answered<T>(answer: Outcome<T>) -> T {
     match answer {
         Outcome::Value(value) => value,
@@ -35,13 +35,13 @@ fn plain_list(text: &[u32], limit: u16, trim: bool, list: &mut [u64]) -> usize {
     plain::list_lines(text, plain::Alignment::Left, limit, trim, list).expect("no refusal")
 }
 
-/// The texts made ready for the crate's wrapper.
+/// Texts prepared for the crate's `WordWrapper`.
 struct Originals<'a> {
     over_oracle: Vec<over_oracle::Text<'a>>,
     over_lean: Vec<over_lean::Text<'a>>,
 }
 
-/// Makes texts ready for the crate's wrapper, and hands them on.
+/// Prepares texts for the crate's `WordWrapper` and passes them to `work`.
 fn with_originals<T>(texts: &[Vec<u32>], work: impl FnOnce(Originals) -> T) -> T {
     let oracle: Vec<String> = texts.iter().map(|text| symbols(text)).collect();
     let lean: Vec<String> = texts.iter().map(|text| lean::symbols(text)).collect();
@@ -51,7 +51,7 @@ fn with_originals<T>(texts: &[Vec<u32>], work: impl FnOnce(Originals) -> T) -> T
     })
 }
 
-/// Compares the entries of every side, those after the last line too.
+/// Compares the entries of every side, including those after the last line.
 fn compare_lists(texts: &[Vec<u32>], originals: &Originals, limit: u16, trim: bool) {
     for (number, text) in texts.iter().enumerate() {
         let lines = answered(oracle::wrapped_lines(text, Alignment::Left, limit, trim));
@@ -101,12 +101,12 @@ fn proved_tally(text: &[u32], limit: u16, trim: bool) -> [u32; 6] {
 }
 
 fn plain_tally(text: &[u32], limit: u16, trim: bool) -> [u32; 6] {
-    let plain::Counts { lines, placed, clipped, zero_width, over_wide, dropped } =
+    let plain::TallyCounts { lines, placed, clipped, zero_width, over_wide, dropped } =
         plain::tally(text, limit, trim).expect("no refusal");
     [lines, placed, clipped, zero_width, over_wide, dropped]
 }
 
-/// Compares the counts of every side. The crate's lines don't tell the last two.
+/// Compares the counts of every side. The last two can't be computed from the crate's lines.
 fn compare_tallies(texts: &[Vec<u32>], originals: &Originals, limit: u16, trim: bool) {
     for (number, text) in texts.iter().enumerate() {
         let oracle::Tally { lines, placed, clipped, zero_width, over_wide, dropped } =

@@ -1,4 +1,4 @@
-//! The rows of `draw_notice` and `draw_block`.
+//! Table rows for `draw_notice` and `draw_block`.
 
 use std::hint::black_box;
 
@@ -25,7 +25,7 @@ const STYLES: [u64; inputs::STYLES as usize] = [
     1 << 63 | 11 << 55 | 1 << 54 | 2 << 46 | 1 << 37 | 2 << 28,
 ];
 
-/// A block without a frame, with the style of a number.
+/// Returns a block without a frame, with a style number.
 fn bare_block(style: u8) -> raw::Block {
     raw::Block {
         top_left: 0,
@@ -57,7 +57,7 @@ fn bare_block(style: u8) -> raw::Block {
     }
 }
 
-/// A block with all borders, a column of padding at each side, and a shadow with a symbol.
+/// Returns a block with all borders, a column of padding on each side, and a shadow with a symbol.
 fn framed_block() -> raw::Block {
     raw::Block {
         top_left: 0x250c,
@@ -85,7 +85,7 @@ fn framed_block() -> raw::Block {
     }
 }
 
-/// All that is drawn with, beside the text.
+/// Inputs of a drawing, without the text.
 struct Scene {
     size: [u32; 2],
     titles: Vec<u32>,
@@ -94,14 +94,14 @@ struct Scene {
 }
 
 impl Scene {
-    /// A framed notice with room for its shadow.
+    /// Returns a framed notice with room for its shadow.
     fn framed([columns, rows]: [u16; 2]) -> Self {
         let area = raw::Area { x: 1, y: 1, width: columns - 4, height: rows - 3 };
         let size = [columns, rows].map(u32::from);
         Self { size, titles: inputs::titles(), area, block: framed_block() }
     }
 
-    /// A block on the whole screen that has nothing but a style.
+    /// Returns a block over the whole screen that has only a style.
     fn bare([columns, rows]: [u16; 2]) -> Self {
         let area = raw::Area { x: 0, y: 0, width: columns, height: rows };
         let size = [columns, rows].map(u32::from);
@@ -117,7 +117,8 @@ impl Scene {
         Buffer::from_packed(Rect::new(0, 0, columns, rows), &self.cells())
     }
 
-    /// The settings of a page of a text. The last page has as many rows as the first, or all lines.
+    /// Returns the settings of a page of a text. The last page has as many rows as the first, or
+    /// all lines.
     fn settings(&self, text: &[u32], method: Method, page: Page) -> raw::Text {
         let wrap = if method == Method::Wrapped { 1 } else { 0 };
         let still = raw::Text { scroll: 0, column: 0, style: 1, text_style: 2, alignment: 0, wrap };
@@ -145,13 +146,13 @@ impl Scene {
         let [columns, rows] = self.size;
         let area = translated::rect(flat::rect(self.area));
         let titles = &self.titles;
-        let plain::Rows { rows, placed, clipped } =
+        let plain::DrawCounts { rows, placed, clipped } =
             plain::draw_notice(columns, rows, cells, &STYLES, text, titles, area, settings)
                 .expect("no refusal");
         [rows, placed, clipped]
     }
 
-    /// The oracle's cells and counts.
+    /// Returns the oracle's cells and counts.
     fn oracle_notice(&self, text: &[u32], settings: Notice) -> (Vec<u64>, [u32; 3]) {
         let [columns, rows] = self.size;
         let mut cells = self.cells();
@@ -176,14 +177,14 @@ impl Scene {
     }
 }
 
-/// Whether two screens are the same; the first cell that isn't ends the program.
+/// Panics at the first cell in which two screens differ.
 fn compare(cells: &[u64], expected: &[u64]) {
     assert_eq!(cells.len(), expected.len());
     let differs = cells.iter().zip(expected).position(|(cell, expected)| cell != expected);
     assert_eq!(differs, None, "a cell differs");
 }
 
-/// A page of a text, with the settings of every side.
+/// A page of a text, with the settings for every side.
 struct Shown<'a> {
     text: &'a [u32],
     settings: raw::Text,
@@ -198,7 +199,7 @@ impl<'a> Shown<'a> {
         Self { text, settings, original, translated: translated::notice(original) }
     }
 
-    /// The crate's widget.
+    /// Returns the crate's widget.
     fn paragraph<'r>(&self, text: &'r Records, titles: &'r Records) -> Paragraph<'r> {
         let block = widgets::block(self.original.block, titles, Some(&STYLES));
         widgets::paragraph(self.original, text, Some(&STYLES)).block(block)

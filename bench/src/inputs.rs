@@ -1,4 +1,4 @@
-//! The texts and titles: packed records as document 01 defines them, all glyphs of width 1.
+//! Texts and titles: packed records as document 01 defines them, all glyphs of width 1.
 
 /// A head: "1 | alignment 2 | position 2 | 27 zeros"; left, top.
 const HEAD: u32 = 1 << 31;
@@ -6,35 +6,35 @@ const HEAD: u32 = 1 << 31;
 const LETTER: u32 = 97 << 10 | 1 << 7;
 const BLANK: u32 = 32 << 10 | 1 << 7 | 1 << 6;
 
-/// How many styles the calls that draw are lent.
+/// Number of styles passed to the drawing calls.
 pub const STYLES: u32 = 4;
 
-/// One text line of words of 1 to 8 letters with single blanks.
+/// Returns one text line of words of 1 to 8 letters, separated by single blanks.
 pub fn words(records: usize, number: u32) -> Vec<u32> {
     opened(worded(1 + number).take(records - 1))
 }
 
-/// One text line of blanks.
+/// Returns one text line of blanks.
 pub fn blanks(records: usize, _: u32) -> Vec<u32> {
     opened(std::iter::repeat_n(BLANK, records - 1))
 }
 
-/// One text line of one letter and then blanks, which wait behind it.
+/// Returns one text line of one letter and then blanks, which stay pending.
 pub fn letter_and_blanks(records: usize, _: u32) -> Vec<u32> {
     opened(std::iter::once(LETTER).chain(std::iter::repeat_n(BLANK, records - 2)))
 }
 
-/// One text line of one word.
+/// Returns one text line of one word.
 pub fn one_word(records: usize, _: u32) -> Vec<u32> {
     opened(std::iter::repeat_n(LETTER, records - 1))
 }
 
-/// Text lines of 31 glyphs in words.
+/// Returns text lines of 31 glyphs in words.
 pub fn short_lines(records: usize, number: u32) -> Vec<u32> {
     (1 + 1_000 * number..).flat_map(|seed| opened(worded(seed).take(31))).take(records).collect()
 }
 
-/// The same text, its glyphs in all styles: sixteen records have the same.
+/// Returns the text with its glyphs in all styles, changing every sixteen records.
 pub fn styled(text: &[u32]) -> Vec<u32> {
     let style = |number: u32, record: u32| {
         if record == HEAD { record } else { record | (number / 16 % STYLES) }
@@ -42,7 +42,7 @@ pub fn styled(text: &[u32]) -> Vec<u32> {
     (0..).zip(text).map(|(number, &record)| style(number, record)).collect()
 }
 
-/// Four titles of 12 glyphs: left, centre and right at the top, and right at the bottom.
+/// Returns four titles of 12 glyphs: left, centre and right at the top, and right at the bottom.
 pub fn titles() -> Vec<u32> {
     let heads = [HEAD, HEAD | 1 << 29, HEAD | 2 << 29, HEAD | 2 << 29 | 1 << 27];
     let title = |head| std::iter::once(head).chain(worded(7).take(12));

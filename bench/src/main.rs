@@ -1,9 +1,8 @@
-//! How long the proved archive takes, and beside it, on the same inputs, a plain Rust translation
-//! and the original Rust.
+//! Times the proved archive, a plain Rust translation and the original Rust on the same inputs.
 //!
 //! Usage: `bench` for the tables; `bench ROW` for the times of one row (from 0, in the order of the
-//! table), a list of the sides for each size; `bench ROW SIDE TIMES` to make so many calls of one
-//! side of a row at the largest size, for a tool that counts instructions.
+//! table), a list of the sides for each size; `bench ROW SIDE TIMES` to run one side of a row TIMES
+//! times at the largest size, for a tool that counts instructions.
 #![deny(unsafe_code)]
 
 mod composing;
@@ -23,7 +22,7 @@ mod raw;
 #[allow(dead_code, reason = "what the oracle's tally needs of it isn't needed here")]
 #[path = "../../oracle/oracle/src/records.rs"]
 mod records;
-/// Under the name by which the oracle's modules here ask for them.
+/// Under the name that the oracle's modules included here use.
 mod settings {
     pub use oracle::{Block, BorderSet, Borders, Effect, Notice, Shadow, TitlePosition, Wrap};
 }
@@ -35,10 +34,10 @@ use std::env;
 use report::Found;
 use rows::{ROWS, Row};
 
-/// A busy minute spoils no row: each is timed in so many rounds.
+/// Number of rounds in which each row is timed, so that a busy minute spoils none.
 const ROUNDS: usize = 6;
 
-/// The least that any round found, of each row at every size.
+/// Returns the minimum over all rounds, for each row and size.
 fn all_rounds(rows: &[Row]) -> Vec<Found> {
     let round = |_| -> Vec<Found> {
         let sizes = |row: &Row| {

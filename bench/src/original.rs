@@ -1,5 +1,5 @@
-//! The crate's `WordWrapper`, over the oracle's stand-ins and over lean ones. The types differ and
-//! the text of the functions doesn't.
+//! The crate's `WordWrapper`, over the oracle's stand-ins and over lean ones. Only the types
+//! differ, not the source of the functions.
 
 macro_rules! original {
     ($name:ident, $widgets:ident, $core:ident) => {
@@ -11,7 +11,7 @@ macro_rules! original {
             use $core::text::StyledGrapheme;
             use $widgets::reflow::{LineComposer, WordWrapper};
 
-            /// A text made ready: the graphemes of each text line.
+            /// A prepared text: the graphemes of each text line.
             pub struct Text<'a> {
                 symbols: &'a str,
                 symbol_length: usize,
@@ -19,7 +19,7 @@ macro_rules! original {
             }
 
             impl<'a> Text<'a> {
-                /// The text of some records, whose symbols stand one after the other.
+                /// Prepares the text of records, whose symbols are concatenated.
                 pub fn new(records: &[u32], symbols: &'a str) -> Self {
                     let symbol_length = symbols.len() / records.len();
                     let mut lines: Vec<Vec<StyledGrapheme>> = Vec::new();
@@ -41,7 +41,7 @@ macro_rules! original {
                     WordWrapper::new(given, limit, trim)
                 }
 
-                /// What is timed: all lines are composed and none is looked at.
+                /// Composes all lines without reading them; this is timed.
                 #[inline(never)]
                 pub fn compose(&self, limit: u16, trim: bool) {
                     let mut composer = self.composer(limit, trim);
@@ -50,8 +50,8 @@ macro_rules! original {
                     }
                 }
 
-                /// What is timed of the tally: all lines are composed, and their glyphs counted by
-                /// width and start. The counts are lines, placed, clipped and zero-width.
+                /// Composes all lines and counts their glyphs by width and start; this is timed for
+                /// the tally. Returns lines, placed, clipped and zero-width.
                 #[inline(never)]
                 pub fn counts(&self, limit: u16, trim: bool) -> [u32; 4] {
                     let mut counts = [0; 4];
@@ -69,7 +69,7 @@ macro_rules! original {
                     counts
                 }
 
-                /// The entries that the lines come to, for comparison.
+                /// Returns the entries of the lines, for comparison.
                 pub fn entries(&self, limit: u16, trim: bool) -> Vec<u64> {
                     let number = |grapheme: &StyledGrapheme| {
                         let start = self.symbols.as_ptr().addr();

@@ -1,14 +1,14 @@
-//! The tables.
+//! Prints the tables.
 
 use crate::rows::{ROWS, Row};
 
-/// The goals: at most so many times as long as the plain translation, faster than the crate, and
-/// the cost of a record at the largest size at most so many times that at the smallest.
+/// The goals: maximum ratios of the time to that of the plain translation and of the crate, and of
+/// the cost per record at the largest size to that at the smallest.
 const MOST_OF_PLAIN: f64 = 1.1;
 const MOST_OF_CRATE: f64 = 1.0;
 const MOST_GROWTH: f64 = 1.3;
 
-/// What was found of a row: of each size, the time of each side.
+/// Times of a row: for each size, the time of each side.
 pub type Found = [Vec<f64>; 3];
 
 fn grouped(number: usize) -> String {
@@ -56,7 +56,7 @@ pub fn print_growth(found: &[Found]) {
     }
 }
 
-/// The rows that miss a goal, by the value that misses it.
+/// Prints the rows that miss a goal, with the value that misses it.
 fn print_missed(goal: &str, found: &[Found], missed: impl Fn(&Found) -> Option<f64>) {
     let rows = ROWS.iter().zip(found);
     let named = |(row, sizes): (&Row, &Found)| {
@@ -69,7 +69,7 @@ fn print_missed(goal: &str, found: &[Found], missed: impl Fn(&Found) -> Option<f
     }
 }
 
-/// The largest of the sizes' ratios of the proved side to another.
+/// Returns the largest ratio, over all sizes, of the proved side to another.
 fn most(sizes: &Found, side: usize) -> f64 {
     sizes.iter().map(|times| times[0] / times[side]).fold(0.0, f64::max)
 }

@@ -1,19 +1,19 @@
-//! The rows of the tables: which call, on which input.
+//! The rows of the tables: a call and its input.
 
 use crate::inputs;
 use crate::sides::Sides;
 use crate::{composing, drawing};
 
-/// What a row does.
+/// The call that a row times.
 #[derive(Clone, Copy)]
 pub enum Call {
-    /// `list_lines` at a limit, trimmed or not.
+    /// `list_lines` at a limit, trimmed or untrimmed.
     List { limit: u16, trim: bool },
-    /// `tally` at a limit, trimmed or not.
+    /// `tally` at a limit, trimmed or untrimmed.
     Tally { limit: u16, trim: bool },
     /// `draw_notice` of a framed notice on a screen.
     Notice { screen: [u16; 2], method: Method, page: Page },
-    /// `draw_block` of a block that has a style and nothing else, on a whole screen.
+    /// `draw_block` of a block that has only a style, on a whole screen.
     Style,
 }
 
@@ -22,7 +22,7 @@ pub enum Call {
 pub enum Method {
     Wrapped,
     Truncated,
-    /// Truncated, and scrolled to the right as far as glyphs are shown.
+    /// Truncated, and scrolled right as far as glyphs are shown.
     TruncatedAtEnd,
 }
 
@@ -38,18 +38,18 @@ pub struct Row {
     call: Call,
 }
 
-/// Makes a text of so many records; texts with other numbers are other texts, where there are such.
+/// Generates the text with a size in records and a number; some kinds have only one text of a size.
 type Making = fn(usize, u32) -> Vec<u32>;
 
-/// The screens of the row without a text, by the place of a size among the sizes.
+/// The screens of the row without a text, one for each size.
 const SCREENS: [[u16; 2]; 3] = [[80, 24], [200, 60], [512, 256]];
 const SIZES: [usize; 3] = [1_000, 4_000, 16_384];
-/// There are as many texts of a size as make up the largest: with one text over and over the
-/// processor predicts its branches from the time before.
+/// Total records of the texts of each size. With a single small text, the processor would predict
+/// its branches from the previous run.
 const RECORDS: usize = SIZES[2];
 
 impl Row {
-    /// How many records all texts of a size have, or how many cells the screen has.
+    /// Returns the total records of the texts of a size, or the number of cells of the screen.
     pub fn units(&self, size: usize) -> usize {
         match self.call {
             Call::Style => SCREENS[size].map(usize::from).iter().product(),
@@ -57,7 +57,7 @@ impl Row {
         }
     }
 
-    /// The size as it is printed: of one text, or of the screen.
+    /// Returns the size to print: of one text, or of the screen.
     pub fn size(&self, size: usize) -> usize {
         match self.call {
             Call::Style => self.units(size),
@@ -65,7 +65,7 @@ impl Row {
         }
     }
 
-    /// Makes a size of the row ready for every side, and hands the sides on.
+    /// Prepares a size of the row for every side and passes the sides to `work`.
     pub fn with_sides<T>(&self, size: usize, work: impl FnOnce(&mut Sides) -> T) -> T {
         let numbers = 0..(RECORDS / SIZES[size]) as u32;
         let texts: Vec<Vec<u32>> = numbers.map(|number| (self.text)(SIZES[size], number)).collect();

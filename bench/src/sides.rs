@@ -1,15 +1,15 @@
-//! The sides of a row, made ready, and how long they take.
+//! The prepared sides of a row, and their timing.
 
 use std::time::{Duration, Instant};
 
 /// The sides in the order of the columns: the proved archive, the plain translation, the crate over
-/// the oracle's stand-ins, and for lists the crate's wrapper over lean ones.
+/// the oracle's stand-ins, and for lists the crate's `WordWrapper` over lean ones.
 pub const NAMES: [&str; 4] = ["proved", "plain", "crate", "lean"];
 
-/// How long all sides of a row are run in a round.
+/// Total time of all sides of a row in a round.
 const ROUND: Duration = Duration::from_millis(220);
 
-/// What each side does: a call for every text of a size.
+/// The work of each side: a call for every text of a size.
 pub struct Sides<'a> {
     works: Vec<Box<dyn FnMut() + 'a>>,
 }
@@ -19,7 +19,7 @@ impl<'a> Sides<'a> {
         Self { works: works.into() }
     }
 
-    /// Runs one side some times over, for a tool that counts instructions.
+    /// Runs one side `times` times, for a tool that counts instructions.
     pub fn only(&mut self, name: &str, times: usize) {
         let side = NAMES.iter().position(|side| *side == name).expect("a side");
         for _ in 0..times {
@@ -27,8 +27,8 @@ impl<'a> Sides<'a> {
         }
     }
 
-    /// Nanoseconds that each side takes, divided by the units of the row: the least of what was taken
-    /// in a round. The sides take turns, so that a busy machine is busy for all.
+    /// Returns the nanoseconds per unit of each side, the minimum over a round. The sides take
+    /// turns, so that a busy machine affects all.
     pub fn least(&mut self, units: usize) -> Vec<f64> {
         let mut least = vec![f64::MAX; self.works.len()];
         let end = Instant::now() + ROUND;

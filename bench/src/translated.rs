@@ -1,4 +1,4 @@
-//! The oracle's settings as those of the plain translation, which has types of its own.
+//! Converts the oracle's settings to those of the plain translation, which has its own types.
 
 use oracle::{Alignment, Block, Effect, Notice, Rect, Shadow, TitlePosition, Wrap};
 use plain::block;

@@ -1,5 +1,5 @@
-/* Draws a framed notice of two pages on blank cells, prints the screens and the tally under them, and
-   tries what is refused. It ends in `all as promised`, or in the check that failed and exit status 1. */
+/* Draws a framed notice of two pages on blank cells, prints the screens and then the tally, and tries
+   calls that are refused. Ends with `all as promised`, or with the failed check and exit status 1. */
 #include "notice.h"
 
 #include <stdbool.h>
@@ -9,10 +9,10 @@
 
 enum { COLUMNS = 34, ROWS = 9, CELLS = COLUMNS * ROWS, MOST_RECORDS = 256 };
 
-/* Numbers of the styles in the table. */
+/* Style numbers: indices into the style table. */
 enum { PLAIN, FRAME, HEADLINE, SHADE, BADGE };
 
-/* What the numbers of settings name. */
+/* Numbers of the settings. */
 enum { LEFT, CENTRE, RIGHT, OWN };
 enum { TOP, BOTTOM };
 enum { NO_SHADOW, OVERLAY, SYMBOL };
@@ -46,7 +46,7 @@ static uint32_t glyph(uint32_t symbol, uint32_t style) {
     return symbol << 10 | width << 7 | whitespace << 6 | style;
 }
 
-/* A style that gives a foreground and adds modifiers. */
+/* Returns a style that sets a foreground and adds modifiers. */
 static uint64_t style(uint64_t foreground, uint64_t add) {
     return UINT64_C(1) << 63 | foreground << 55 | add << 37;
 }
@@ -54,14 +54,14 @@ static uint64_t style(uint64_t foreground, uint64_t add) {
 static uint32_t cell_symbol(uint64_t cell) { return (uint32_t)(cell >> 43); }
 static unsigned cell_foreground(uint64_t cell) { return cell >> 35 & 255; }
 
-/* Records in memory of just their size, so that a read past them is noticed. */
+/* Records in an allocation of exactly their size, so that a read past them is detected. */
 
 typedef struct records {
     uint32_t *at;
     size_t count;
 } records;
 
-/* The records of some lines of plain letters; digits have a style of their own. */
+/* Returns the records of lines of plain text; digits have a separate style. */
 static records packed(uint32_t opening, const char *lines, uint32_t letters, uint32_t digits) {
     uint32_t all[MOST_RECORDS];
     size_t count = 0;
@@ -78,7 +78,7 @@ static records packed(uint32_t opening, const char *lines, uint32_t letters, uin
 
 /* Printing. */
 
-/* In UTF-8, a symbol of at most 16 bits, as all are here. */
+/* Prints a symbol in UTF-8. All symbols here have at most 16 bits. */
 static void print_symbol(uint32_t symbol) {
     if (symbol < 0x80) {
         putchar((int)symbol);
@@ -89,7 +89,7 @@ static void print_symbol(uint32_t symbol) {
     }
 }
 
-/* Each row's symbols, and beside them its foregrounds, a dot for none. */
+/* Prints each row's symbols and, next to them, its foregrounds, a dot for none. */
 static void print_screen(const uint64_t *cells) {
     for (size_t row = 0; row < ROWS; row++) {
         const uint64_t *at = cells + row * COLUMNS;
@@ -111,7 +111,7 @@ static void clear(uint64_t *cells) {
     }
 }
 
-/* What is drawn. */
+/* The notice. */
 
 static const notice_area AREA = {.x = 1, .y = 1, .width = 30, .height = 7};
 
@@ -164,7 +164,7 @@ static notice_draw_answer drawn(lent all, notice_block block, notice_text settin
                               block, settings);
 }
 
-/* The pages, and beneath them the tally, whose glyphs are all on them. */
+/* Draws and prints the pages, then the tally, and checks that the pages have all its glyphs. */
 static void draw_pages(lent all, notice_area_answer inner) {
     notice_tally_answer tally = notice_tally(all.text.at, all.text.count, inner.width, 1);
     check(tally.number == 0, "tally accepted");
@@ -189,7 +189,7 @@ static void draw_pages(lent all, notice_area_answer inner) {
     check(rows == tally.lines && placed == tally.placed, "every line and glyph on the pages");
 }
 
-/* The list's entries, one for each line, and none written past them. */
+/* Lists the lines, one entry each, and checks that a shorter list is refused and unchanged. */
 static void list_lines(records text, uint16_t limit, uint32_t lines) {
     uint64_t *list = allocated(lines * sizeof *list);
     notice_list_answer answer =
@@ -207,7 +207,7 @@ static void list_lines(records text, uint16_t limit, uint32_t lines) {
     free(list);
 }
 
-/* The frame alone, without titles and in a corner; then a screen of no cells. */
+/* Draws only the frame, without titles and in a corner; then tries a screen without cells. */
 static void draw_frames(lent all) {
     notice_area corner = {.x = 28, .y = 6, .width = 20, .height = 20};
     clear(all.cells);
@@ -222,7 +222,7 @@ static void draw_frames(lent all) {
     check(none.number == 0 && none.lines == 0, "no text and no list, null");
 }
 
-/* A style number too high, and settings that name no case: nothing is drawn. */
+/* Tries a style number out of range and invalid settings: nothing is drawn. */
 static void draw_refused(lent all) {
     uint64_t *before = allocated(CELLS * sizeof *before);
     memcpy(before, all.cells, CELLS * sizeof *before);

@@ -1,5 +1,5 @@
 #!/usr/bin/env python3
-"""Makes the inputs of crates/trials/data/preview again. Outside the proved part, as pack.py is."""
+"""Makes the inputs of crates/test_trials/data/preview again. Outside the proved part, as pack.py is."""
 import argparse
 import os
 import struct
@@ -8,9 +8,9 @@ import sys
 import pack
 
 HERE = os.path.dirname(os.path.abspath(__file__))
-DATA = os.path.join(HERE, "..", "..", "crates", "trials", "data", "preview")
+DATA = os.path.join(HERE, "..", "..", "crates", "test_trials", "data", "preview")
 
-# Where fields stand.
+# Byte offsets of fields.
 COLUMNS, BLOCK_STYLE, SHADOW, WRAP, STYLES, TITLES, TEXT, RECORDS = 4, 73, 77, 86, 87, 89, 91, 93
 
 
@@ -26,7 +26,7 @@ def with_bytes(packed, at, changed):
 
 
 def opening(packed, styles, titles, text):
-    """The opening of a notice, with other counts, styles, titles' records and text's records."""
+    """Returns the notice with other styles, title records and text records, and their counts."""
     counts = struct.pack(">3H", len(styles), len(titles), len(text))
     return (
         bytes(packed[:STYLES])

@@ -8,9 +8,9 @@ import argparse
 import struct
 import sys
 
-EPILOGUE = """Outside the proved part: nothing proves this script. crates/noticefile says the packed form."""
+EPILOGUE = """Outside the proved part: nothing proves this script. crates/preview_file says the packed form."""
 
-# Symbols: top left, top right, bottom left, bottom right, left, right, top, bottom.
+# Border symbols: top left, top right, bottom left, bottom right, left, right, top, bottom.
 BORDERS = {
     "none": None,
     "plain": "┌┐└┘││──",
@@ -24,12 +24,12 @@ WRAPS = {"off": 0, "on": 1, "trim": 2}
 SHADOWS = {"none": 0, "overlay": 1, "symbol": 2}
 MODIFIERS = ["bold", "dim", "italic", "underlined", "slow-blink", "rapid-blink", "reversed", "hidden", "crossed-out"]
 
-# Numbers of the styles in the table.
+# Style numbers: indices into the style table.
 PLAIN, FRAME, TITLE, SHADE, DIGIT = range(5)
 
 
 def style(words):
-    """A style of 64 bits from words: a colour 1 to 255, `on` and a background, names of modifiers."""
+    """Packs a style from words: a foreground 1 to 255, `on` and a background, names of modifiers."""
     packed, background = 0, False
     for word in words.split():
         if word == "on":

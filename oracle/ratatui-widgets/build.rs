@@ -1,4 +1,4 @@
-//! Brings the Rust files here, unchanged, each time the crate is built.
+//! Copies the Rust files, unchanged, into the build each time the crate is built.
 
 use std::path::{Path, PathBuf};
 use std::{env, fs, process};
@@ -6,7 +6,7 @@ use std::{env, fs, process};
 const FILES: [&str; 6] =
     ["reflow.rs", "paragraph.rs", "borders.rs", "block.rs", "block/padding.rs", "block/shadow.rs"];
 
-/// Declares the files as modules of this crate's root, which is where they look for one another.
+/// Declares the files as modules of the crate root, where they refer to one another.
 const MODULES: &str = "pub mod block;\npub mod borders;\npub mod paragraph;\npub mod reflow;\n";
 
 fn main() {
@@ -32,8 +32,8 @@ fn main() {
     fs::write(target.join("modules.rs"), MODULES).expect("a file of modules");
 }
 
-/// ORACLE_SRC, or else the documents' folder beside the repository. A relative path starts at the
-/// repository's root.
+/// Returns ORACLE_SRC, or else the documents' folder beside the repository. A relative path is
+/// relative to the repository's root.
 fn source_folder() -> PathBuf {
     let named = env::var_os("ORACLE_SRC").unwrap_or_else(|| "../shared/docs/src/src".into());
     let package = env::var_os("CARGO_MANIFEST_DIR").expect("cargo sets CARGO_MANIFEST_DIR");

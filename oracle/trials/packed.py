@@ -1,19 +1,20 @@
-"""The packed form of a notice (crates/noticefile says it), and the files of crates/trials/data: calls, each 40 bytes and then a notice.
+"""The packed form of a notice (defined in crates/preview_file), and the files of crates/test_trials/data: calls, each a header of
+40 bytes and then a notice. The header's fields, with their sizes in bytes:
 
-  which call (0 draws the block, 1 the notice, 2 all of its pages) 1 | the number that it is to answer (0: it draws) 1
-  cells lent 2 | records of text lent 2 | bytes of the notice 2 | what it is about, filled up with blanks 32
+  kind (0 draws the block, 1 the notice, 2 all pages of the notice) 1 | expected number (0: it draws) 1
+  cells to pass 2 | text records to pass 2 | bytes of the notice 2 | description, padded with blanks 32
 
-Numbers stand high byte first. The text that is lent starts with the notice's own records; all after them are A in one cell.
-Outside the proved part."""
+Numbers are high byte first. The text passed starts with the notice's records; all later ones are the glyph A of width 1.
+Nothing is proved about this script."""
 import os
 import struct
 
-DATA = os.path.join(os.path.dirname(os.path.abspath(__file__)), "..", "..", "crates", "trials", "data")
+DATA = os.path.join(os.path.dirname(os.path.abspath(__file__)), "..", "..", "crates", "test_trials", "data")
 
 
 def notice(columns, rows, area, symbols, offsets, padding, borders, numbers, alignment, position, shadow, text_alignment, trim, styles, titles, text):
-    """The symbols are the eight of the borders and the shadow's; the borders are top, right, bottom, left; the style numbers are those
-    of the border, the block, the titles, the shadow, the notice and its text."""
+    """Packs a notice. `symbols`: the eight border symbols, then the shadow's; `borders`: top, right, bottom, left; `numbers`: the
+    style numbers of border, block, titles, shadow, notice and text."""
     border, block, titles_style, shadow_style, own, text_style = numbers
     return b"".join([
         b"NTC1", struct.pack(">6H", columns, rows, *area),

@@ -1,19 +1,19 @@
 #!/usr/bin/env python3
-"""Makes the notices that crates/trials draws page after page and reads back: 768 of them, with every set of borders, with and without a
-shadow and titles, trimmed and not, of each alignment, on 40 × 20 cells. Every glyph of a text is one cell wide; the whitespace ones have
-the blank symbol, and no other glyph has it. Outside the proved part."""
+"""Writes the 768 notices that crates/test_trials draws page by page and reads back: with every set of borders, with and without a
+shadow and titles, trimmed and untrimmed, of each alignment, on 40 × 20 cells. Every text glyph has width 1; whitespace glyphs
+have the blank symbol, and no other glyph has it. Nothing is proved about this script."""
 import struct
 
 import packed
 
 
-# Numbers modulo 2^32 that look random and come again, as crates/cases has them.
+# Reproducible pseudo-random numbers modulo 2^32, the same as in crates/test_texts.
 def seed(number):
     return (number * 2654435769 + 1) % 2**32
 
 
 def on(x, times=1):
-    """The number that comes so many after x."""
+    """Returns the random number `times` after x."""
     for _ in range(times):
         x = (x * 1664525 + 1013904223) % 2**32
     return x
@@ -36,12 +36,12 @@ def style_words(count, unit, x):
 
 
 def head(x, position=0):
-    """A head of any alignment."""
+    """Returns a head of random alignment."""
     return 2147483648 + below(x, 4) * 536870912 + position * 134217728
 
 
 def text_of(length, heads, blanks, x):
-    """One record in `heads` is a head, and one glyph in `blanks` is whitespace."""
+    """Yields text records: one in `heads` is a head, and one glyph in `blanks` is whitespace."""
     for place in range(length):
         y, z = on(x), on(x, 2)
         if place == 0 or below(x, heads) == 0:
@@ -70,7 +70,7 @@ def title_glyph(x):
 
 
 def titles_of(count, most, x):
-    """Titles of at most so many glyphs. About half of them have the same head."""
+    """Returns titles of at most `most` glyphs. About half of them share a head."""
     common, y, records = title_head(x), on(x, 2), []
     for _ in range(count):
         z = on(y, 4)
@@ -81,14 +81,14 @@ def titles_of(count, most, x):
 
 
 def offset(x, reach):
-    """How far a shadow is moved: to the ends of 32 or of 16 bits, not at all, or up to `reach`."""
+    """Returns a shadow's offset: at the ends of the 32-bit or 16-bit range, 0, or at most `reach` either way."""
     ends = [-(2**31), 2**31 - 1, -65535, 65535, 0]
     kind = below(x, 16)
     return ends[kind] if kind < 5 else below(on(x), 2 * reach + 1) - reach
 
 
 def size(x, most):
-    """An inner size: often small, and up to more than the screen has."""
+    """Returns an inner size: often small, sometimes larger than the screen."""
     return 1 + below(on(x), 3 if below(x, 4) == 0 else most)
 
 
@@ -107,9 +107,9 @@ def notice_of(number):
     padding = [below(on(b, k), 3) for k in range(4)]  # left, right, top, bottom
     places = [record >> 27 & 3 for record in titles if record >> 31]
     position = number % 2
-    stands = [place in places or (2 in places and position == place) for place in range(2)]
+    has_title = [place in places or (2 in places and position == place) for place in range(2)]
     across = borders[3] + borders[1] + padding[0] + padding[1]
-    down = max(borders[0], stands[0]) + max(borders[2], stands[1]) + padding[2] + padding[3]
+    down = max(borders[0], has_title[0]) + max(borders[2], has_title[1]) + padding[2] + padding[3]
     shadow = number // 16 % 4
     return text, packed.notice(
         columns=40, rows=20,

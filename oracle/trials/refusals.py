@@ -1,15 +1,15 @@
 #!/usr/bin/env python3
-"""Makes what the calls of crates/trials are given with causes to refuse. Outside the proved part.
+"""Writes the inputs of crates/test_trials with refusal causes. Nothing is proved about this script.
 
-  blocks   `draw_block` with every set of its five causes
-  sets     `draw_notice` with every set of its seven causes
-  ways     `draw_notice` with each single way in which a cause comes, and with each ceiling that is still accepted"""
+  blocks   `draw_block` with every subset of its five causes
+  sets     `draw_notice` with every subset of its seven causes
+  ways     `draw_notice` with each single way to trigger a cause, and with each maximum that is still accepted"""
 import packed
 
 STYLE = 9313655135634718720  # a foreground and a background
-HEAD = 2147483648  # of a text
+HEAD = 2147483648  # of a text line
 TITLE = 2415919104  # the head of a title, of position 2
-GLYPH = 66689  # A in one cell, of the last of two styles
+GLYPH = 66689  # A of width 1, with the last of two styles
 STYLE_NUMBER = 1  # the last of two styles
 SYMBOL = 2097151  # the largest
 
@@ -18,14 +18,14 @@ ACCEPTED = dict(
     columns=4, rows=3, cells=12, styles=[STYLE, STYLE], titles=[TITLE, GLYPH], text=[HEAD, GLYPH], records=None,
     symbols=[SYMBOL] * 9, numbers=[STYLE_NUMBER] * 6,
 )
-# The same in all calls: four borders and a shadow with a symbol.
+# Common to all calls: four borders and a shadow with a symbol.
 COMMON = dict(
     area=(0, 0, 4, 3), offsets=(1, 1), padding=(0, 0, 0, 0), borders=(1, 1, 1, 1), alignment=0, position=0, shadow=2, text_alignment=0, trim=True,
 )
 
 
 def call(which, name, answer, **other):
-    """A call that is accepted, but for what is other in it."""
+    """Returns an accepted call, changed by `other`."""
     given = {**ACCEPTED, **COMMON, **other}
     cells, records = given.pop("cells"), given.pop("records")
     if records is None:
@@ -43,7 +43,7 @@ def with_symbol(place):
 
 
 def of_causes(which, causes, number):
-    """The call in which those of the causes hold whose bits are set in a number, each input just past its ceiling."""
+    """Returns the call with the causes whose bits are set in `number`, each input just past its maximum."""
     held = [cause for bit, cause in enumerate(causes) if number >> bit & 1]
     wrong = lambda cause: cause in held
     text_head = HEAD + wrong(4)
@@ -61,8 +61,8 @@ def of_causes(which, causes, number):
 
 
 def ways():
-    """Each way with its name and answer. Columns and rows have their cells, `cells` are those of 4 columns and 3 rows; a head
-    comes after the first line; style numbers and symbols are told by their places."""
+    """Yields each way with its name and expected number. Columns and rows come with matching cells, `cells` with 4 columns and 3
+    rows; `head` is after the first line; style numbers and symbols are named by their index."""
     for n in (0, 513):
         yield f"columns {n}", 1, dict(columns=n, cells=n * 3)
     for n in (0, 257):
@@ -75,7 +75,7 @@ def ways():
     yield "text records 16385", 3, dict(records=16385)
     for first in (GLYPH, HEAD + 1, 2281701376):
         yield f"text opening with {first}", 4, dict(text=[first, GLYPH])
-    for head in (HEAD + 1, 2214592512, 2281701376, 2415919104, 2550136832):  # the zeros, then each position that isn't 0
+    for head in (HEAD + 1, 2214592512, 2281701376, 2415919104, 2550136832):  # the zeros, then each nonzero position
         yield f"text head {head}", 4, dict(text=[HEAD, GLYPH, head])
     yield "titles 17", 5, dict(titles=[TITLE] * 17)
     yield "title glyphs 257", 5, dict(titles=[TITLE] + [GLYPH] * 257)

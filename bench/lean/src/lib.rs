@@ -1,8 +1,8 @@
-//! The unchanged reflow.rs over stand-ins that cost it next to nothing.
+//! The unchanged reflow.rs over stand-ins that cost almost nothing.
 //!
-//! The oracle's symbols are strings of sixteen digits, which are parsed whenever a width is asked
-//! for. Here a symbol is a string of one byte, the width and the whitespace bit, so that what is
-//! timed is the Rust's own work. No real text is read as cheaply.
+//! The oracle's symbols are strings of sixteen digits, which are parsed for every width. Here a
+//! symbol is a string of one byte, the width and the whitespace bit, so that only the Rust's own
+//! work is timed. No real text is this cheap to read.
 
 extern crate alloc;
 extern crate self as ratatui_core;
@@ -12,7 +12,7 @@ include!(concat!(env!("OUT_DIR"), "/modules.rs"));
 pub use stand_ins::{layout, style};
 
 pub mod buffer {
-    /// The width of a symbol.
+    /// Width of a symbol.
     pub trait CellWidth {
         fn cell_width(&self) -> u16;
     }
@@ -28,7 +28,7 @@ pub mod buffer {
 pub mod text {
     use crate::style::Style;
 
-    /// A symbol and the style it is to be drawn with.
+    /// A symbol and the style to draw it with.
     #[derive(Debug, Clone, PartialEq, Eq, Hash)]
     pub struct StyledGrapheme<'a> {
         pub symbol: &'a str,
@@ -43,7 +43,7 @@ pub mod text {
     }
 }
 
-/// The symbols of some records, a byte each: "width 3 | whitespace 1" of the record, turned round.
+/// Returns the symbols of records, one byte each: "width 3 | whitespace 1" of the record, swapped.
 pub fn symbols(records: &[u32]) -> String {
     let byte = |record: &u32| (record >> 7 & 0b111 | (record >> 6 & 1) << 3) as u8;
     records.iter().map(|record| char::from(byte(record))).collect()

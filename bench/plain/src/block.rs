@@ -1,4 +1,4 @@
-//! A block's settings, and what its frame leaves inside.
+//! A block's settings and its inner area.
 
 use crate::layout::Rect;
 use crate::refuse;
@@ -32,7 +32,7 @@ pub struct Padding {
     pub bottom: u16,
 }
 
-/// What a shadow's cells get beside its style: nothing, or a symbol.
+/// What a shadow's cells get after its style: nothing, or a symbol.
 #[derive(Clone, Copy)]
 pub enum Effect {
     Overlay,
@@ -61,13 +61,13 @@ pub struct Block {
 }
 
 impl Block {
-    /// Cause 6, of the settings.
+    /// Checks cause 6 for the settings.
     pub fn style_numbers_wrong(&self, count: usize) -> bool {
         refuse::style_numbers_wrong(count, &[self.border_style, self.style, self.titles_style])
             || self.shadow.is_some_and(|shadow| refuse::style_numbers_wrong(count, &[shadow.style]))
     }
 
-    /// Cause 7, also of sides that aren't drawn.
+    /// Checks cause 7, including sides that aren't drawn.
     pub fn symbols_wrong(&self) -> bool {
         let set = &self.border_set;
         refuse::symbols_wrong(&[
@@ -92,7 +92,7 @@ impl Block {
         })
     }
 
-    /// What the frame leaves of a rectangle.
+    /// Returns the inner area of a rectangle.
     pub fn inner_area(&self, titles: &[u32], area: Rect) -> Rect {
         let (borders, padding) = (self.borders, self.padding);
         let top = borders.top || self.has_title_at_position(titles, TitlePosition::Top);
@@ -106,8 +106,8 @@ impl Block {
     }
 }
 
-fn inner_start(stands: bool, place: u16, end: u16, padding: u16) -> u16 {
-    let start = if stands { place.saturating_add(1).min(end) } else { place };
+fn inner_start(present: bool, place: u16, end: u16, padding: u16) -> u16 {
+    let start = if present { place.saturating_add(1).min(end) } else { place };
     start.saturating_add(padding)
 }
 

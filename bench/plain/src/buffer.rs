@@ -1,4 +1,4 @@
-//! A screen's cells, and putting a style or a symbol on the cells of a rectangle.
+//! A screen's cells, and painting a style or a symbol on the cells of a rectangle.
 
 use crate::cell;
 use crate::layout::Rect;
@@ -14,14 +14,14 @@ impl Screen {
         Rect { x: 0, y: 0, width: self.columns, height: self.rows }
     }
 
-    /// The cells of row y from one column up to another.
+    /// Returns the cells of row y from column `left` up to `right`.
     pub fn row_part(self, cells: &mut [u64], y: usize, left: u16, right: u16) -> &mut [u64] {
         let row = y * usize::from(self.columns);
         &mut cells[row + usize::from(left)..row + usize::from(right)]
     }
 }
 
-/// What is put on a cell: a style, a symbol, or a symbol and then a style.
+/// What is painted on a cell: a style, a symbol, or a symbol and then a style.
 #[derive(Clone, Copy)]
 pub enum Ink {
     Style(u64),
@@ -32,14 +32,14 @@ pub enum Ink {
 impl Ink {
     pub fn on(self, cell: u64) -> u64 {
         match self {
-            Self::Style(style) => cell::apply_style(style, cell),
+            Self::Style(style) => cell::set_style(style, cell),
             Self::Symbol(symbol) => cell::set_symbol(symbol, cell),
-            Self::Both(symbol, style) => cell::apply_style(style, cell::set_symbol(symbol, cell)),
+            Self::Both(symbol, style) => cell::set_style(style, cell::set_symbol(symbol, cell)),
         }
     }
 }
 
-/// Puts an ink on every cell of a rectangle that lies on the screen.
+/// Paints every cell of a rectangle inside the screen.
 pub fn paint_area(screen: Screen, cells: &mut [u64], area: Rect, ink: Ink) {
     for y in area.y..area.bottom() {
         for cell in screen.row_part(cells, y.into(), area.x, area.right()) {
@@ -48,7 +48,7 @@ pub fn paint_area(screen: Screen, cells: &mut [u64], area: Rect, ink: Ink) {
     }
 }
 
-/// The style of a number, 0 where there is none.
+/// Returns the style with a number, or 0 if there is none.
 pub fn style_at(styles: &[u64], number: u8) -> u64 {
     styles.get(usize::from(number)).copied().unwrap_or(0)
 }

@@ -30,14 +30,14 @@ pub mod style {
     }
 }
 
-/// The cell with another symbol.
+/// Returns the cell with another symbol.
 pub fn set_symbol(symbol: u32, cell: u64) -> u64 {
     u64::from(symbol) << SYMBOL | cell & ((1 << SYMBOL) - 1)
 }
 
-/// The cell with a style applied: the given colours, then the add bits set, then the remove bits
-/// cleared.
-pub fn apply_style(style: u64, cell: u64) -> u64 {
+/// Applies a style to a cell: sets the given colours, then sets the add bits, then clears the
+/// remove bits.
+pub fn set_style(style: u64, cell: u64) -> u64 {
     let symbol = cell >> SYMBOL;
     let foreground = style::foreground(style).unwrap_or(cell >> FOREGROUND & 0xff);
     let background = style::background(style).unwrap_or(cell >> BACKGROUND & 0xff);

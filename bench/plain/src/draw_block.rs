@@ -2,11 +2,11 @@
 
 use crate::block::Block;
 use crate::buffer::Screen;
-use crate::frame::draw_frame;
 use crate::layout::Rect;
 use crate::refuse::{self, Refusal, unless};
+use crate::render_block::render_frame;
 
-/// Cause 6.
+/// Checks cause 6.
 pub fn style_numbers_wrong(count: usize, titles: &[u32], block: &Block) -> bool {
     block.style_numbers_wrong(count) || refuse::glyph_styles_wrong(count, titles)
 }
@@ -29,7 +29,7 @@ pub fn draw_block(
     let screen = Screen { columns: columns as u16, rows: rows as u16 };
     let met = area.intersection(screen.area());
     if !met.is_empty() {
-        draw_frame(screen, cells, styles, titles, block, met);
+        render_frame(screen, cells, styles, titles, block, met);
     }
     Ok(())
 }

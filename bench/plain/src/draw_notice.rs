@@ -3,11 +3,11 @@
 use crate::buffer::Screen;
 use crate::draw_block;
 use crate::layout::Rect;
-use crate::paragraph::{Notice, draw_on};
+use crate::paragraph::{self, Notice};
 use crate::refuse::{self, Refusal, unless};
-use crate::rows::Rows;
+use crate::render_lines::DrawCounts;
 
-/// Cause 6.
+/// Checks cause 6.
 fn style_numbers_wrong(count: usize, text: &[u32], titles: &[u32], notice: &Notice) -> bool {
     refuse::style_numbers_wrong(count, &[notice.style, notice.text_style])
         || refuse::glyph_styles_wrong(count, text)
@@ -25,7 +25,7 @@ pub fn draw_notice(
     titles: &[u32],
     area: Rect,
     notice: &Notice,
-) -> Result<Rows, Refusal> {
+) -> Result<DrawCounts, Refusal> {
     unless(refuse::screen_wrong(columns, rows, cells.len()), Refusal::Screen)?;
     unless(refuse::styles_wrong(styles), Refusal::Styles)?;
     unless(refuse::text_too_long(text), Refusal::TextLength)?;
@@ -35,5 +35,5 @@ pub fn draw_notice(
     unless(style_numbers_wrong(count, text, titles, notice), Refusal::StyleNumber)?;
     unless(notice.block.symbols_wrong(), Refusal::Symbol)?;
     let screen = Screen { columns: columns as u16, rows: rows as u16 };
-    Ok(draw_on(screen, cells, styles, text, titles, area, notice))
+    Ok(paragraph::render(screen, cells, styles, text, titles, area, notice))
 }

@@ -9,7 +9,7 @@ pub struct Rect {
 }
 
 impl Rect {
-    /// From one column up to another, and from one row up to another.
+    /// Returns the rectangle from `left` up to `right` and from `top` up to `bottom`.
     pub fn between(left: u16, top: u16, right: u16, bottom: u16) -> Self {
         let (width, height) = (right.saturating_sub(left), bottom.saturating_sub(top));
         Self { x: left, y: top, width, height }
@@ -36,7 +36,7 @@ impl Rect {
         self.width == 0 || self.height == 0
     }
 
-    /// Moved by two signed numbers, and kept from 0 to 65,535 less its size.
+    /// Returns the rectangle moved by a signed offset, clamped to 0 to 65,535 less its size.
     pub fn offset(self, x: i32, y: i32) -> Self {
         let moved = |place: u16, by: i32, size: u16| {
             (i64::from(place) + i64::from(by)).clamp(0, i64::from(u16::MAX - size)) as u16

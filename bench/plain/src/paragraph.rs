@@ -1,13 +1,13 @@
-//! What a notice draws.
+//! Draws a notice.
 
 use crate::block::Block;
 use crate::buffer::{Ink, Screen, paint_area, style_at};
-use crate::compose::Method;
-use crate::frame::draw_frame;
 use crate::layout::Rect;
-use crate::reflow::Rule;
-use crate::rows::{Rows, Setting, draw_text};
+use crate::line_composer::Method;
+use crate::render_block::render_frame;
+use crate::render_lines::{DrawCounts, TextOptions, render_lines};
 use crate::text::Alignment;
+use crate::word_wrapper::Rule;
 
 #[derive(Clone, Copy)]
 pub enum Wrap {
@@ -15,8 +15,8 @@ pub enum Wrap {
     On { trim: bool },
 }
 
-/// A notice: its block, its style and its text's, its own alignment, how its lines are composed,
-/// and the first line drawn.
+/// A notice: its block, its style, its text style, its default alignment, how its lines are
+/// composed, and the first line drawn.
 #[derive(Clone, Copy)]
 pub struct Notice {
     pub block: Block,
@@ -28,24 +28,24 @@ pub struct Notice {
 }
 
 impl Notice {
-    /// How its lines are composed and drawn in so many columns.
-    fn setting(&self, width: u16) -> Setting {
+    /// Returns the settings for composing and drawing its lines in `width` columns.
+    fn text_options(&self, width: u16) -> TextOptions {
         let (trim, method) = match self.wrap {
-            Wrap::On { trim } => (trim, Method::Wrapped),
-            Wrap::Off { column } => (false, Method::Truncated(column.into())),
+            Wrap::On { trim } => (trim, Method::WordWrap),
+            Wrap::Off { column } => (false, Method::Truncate(column.into())),
         };
-        Setting {
+        TextOptions {
             rule: Rule { limit: width.into(), trim },
             method,
-            own: self.alignment,
+            default_alignment: self.alignment,
             style: self.text_style,
             scroll: self.scroll,
         }
     }
 }
 
-/// Draws a notice over what its area and the screen share, and its shadow beside it.
-pub fn draw_on(
+/// Draws a notice over the intersection of its area and the screen, with its shadow.
+pub fn render(
     screen: Screen,
     cells: &mut [u64],
     styles: &[u64],
@@ -53,18 +53,18 @@ pub fn draw_on(
     titles: &[u32],
     area: Rect,
     notice: &Notice,
-) -> Rows {
+) -> DrawCounts {
     let met = area.intersection(screen.area());
     if met.is_empty() {
-        return Rows::default();
+        return DrawCounts::default();
     }
     let ink = Ink::Style(style_at(styles, notice.style));
     paint_area(screen, cells, met, ink);
-    draw_frame(screen, cells, styles, titles, &notice.block, met);
+    render_frame(screen, cells, styles, titles, &notice.block, met);
     let inner = notice.block.inner_area(titles, met);
     if inner.is_empty() {
-        return Rows::default();
+        return DrawCounts::default();
     }
     paint_area(screen, cells, inner, ink);
-    draw_text(screen, cells, styles, text, inner, notice.setting(inner.width))
+    render_lines(screen, cells, styles, text, inner, notice.text_options(inner.width))
 }

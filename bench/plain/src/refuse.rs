@@ -25,24 +25,24 @@ const TITLES: usize = 16;
 const TITLE_GLYPHS: usize = 256;
 const LIMIT: u16 = 4_096;
 
-/// `Ok`, or a refusal where something is wrong.
+/// Returns the refusal if something is wrong, else `Ok`.
 pub fn unless(wrong: bool, why: Refusal) -> Result<(), Refusal> {
     if wrong { Err(why) } else { Ok(()) }
 }
 
-/// Cause 1.
+/// Checks cause 1.
 pub fn screen_wrong(columns: u32, rows: u32, cells: usize) -> bool {
     !(1..=COLUMNS).contains(&columns)
         || !(1..=ROWS).contains(&rows)
         || cells != columns as usize * rows as usize
 }
 
-/// Cause 2.
+/// Checks cause 2.
 pub fn styles_wrong(styles: &[u64]) -> bool {
     styles.len() > STYLES || styles.iter().any(|&style| style::zeros(style) != 0)
 }
 
-/// Cause 3.
+/// Checks cause 3.
 pub fn text_too_long(text: &[u32]) -> bool {
     text.len() > RECORDS
 }
@@ -51,14 +51,14 @@ fn opens_without_head(records: &[u32]) -> bool {
     records.first().is_some_and(|&record| !head::is_head(record))
 }
 
-/// Cause 4.
+/// Checks cause 4.
 pub fn text_heads_wrong(text: &[u32]) -> bool {
     let wrong =
         |record| head::is_head(record) && (head::zeros(record) != 0 || head::position(record) != 0);
     opens_without_head(text) || text.iter().any(|&record| wrong(record))
 }
 
-/// Cause 5.
+/// Checks cause 5.
 pub fn titles_wrong(titles: &[u32]) -> bool {
     let wrong = |head, glyphs: &[u32]| {
         glyphs.len() > TITLE_GLYPHS || head::position(head) == 3 || head::zeros(head) != 0
@@ -69,29 +69,29 @@ pub fn titles_wrong(titles: &[u32]) -> bool {
             .any(|(count, (head, glyphs))| count >= TITLES || wrong(head, glyphs))
 }
 
-/// Cause 6, of settings.
+/// Checks cause 6 for settings.
 pub fn style_numbers_wrong(count: usize, numbers: &[u8]) -> bool {
     numbers.iter().any(|&number| usize::from(number) >= count)
 }
 
-/// Cause 6, of a text or of titles.
+/// Checks cause 6 for a text or titles.
 pub fn glyph_styles_wrong(count: usize, records: &[u32]) -> bool {
     records
         .iter()
         .any(|&record| !head::is_head(record) && usize::from(glyph::style(record)) >= count)
 }
 
-/// Cause 7.
+/// Checks cause 7.
 pub fn symbols_wrong(symbols: &[u32]) -> bool {
     symbols.iter().any(|&symbol| symbol >= 1 << 21)
 }
 
-/// Cause 8.
+/// Checks cause 8.
 pub fn limit_wrong(limit: u16) -> bool {
     limit > LIMIT
 }
 
-/// Cause 9.
+/// Checks cause 9.
 pub fn list_too_short(entries: usize, lines: usize) -> bool {
     entries < lines
 }

@@ -1,18 +1,18 @@
-//! One composed line on a row of the text's area.
+//! Draws one composed line on a row of the text's area.
 
 use crate::buffer::style_at;
 use crate::cell;
-use crate::compose::Composed;
-use crate::reflow::Rule;
+use crate::line_composer::WrappedLine;
 use crate::text::{Alignment, glyph};
+use crate::word_wrapper::Rule;
 
-/// How many glyphs are placed, and how many are clipped.
-pub struct Glyphs {
+/// Counts of the glyphs placed and clipped.
+pub struct GlyphCounts {
     pub placed: u32,
     pub clipped: u32,
 }
 
-fn line_offset(alignment: Alignment, area: usize, line: usize) -> usize {
+fn get_line_offset(alignment: Alignment, area: usize, line: usize) -> usize {
     match alignment {
         Alignment::Left => 0,
         Alignment::Center => (area / 2).saturating_sub(line / 2),
@@ -20,24 +20,24 @@ fn line_offset(alignment: Alignment, area: usize, line: usize) -> usize {
     }
 }
 
-/// The cell with a glyph written in it: the symbol, then the text style, then its own style.
+/// Writes a glyph in a cell: the symbol, then the text style, then its own style.
 fn write_glyph(styles: &[u64], style: u8, word: u32, cell: u64) -> u64 {
     let written = cell::set_symbol(glyph::symbol(word), cell);
-    let text_styled = cell::apply_style(style_at(styles, style), written);
-    cell::apply_style(style_at(styles, glyph::style(word)), text_styled)
+    let text_styled = cell::set_style(style_at(styles, style), written);
+    cell::set_style(style_at(styles, glyph::style(word)), text_styled)
 }
 
 /// Draws a composed line on a row of the area.
-pub fn draw_line(
+pub fn render_line(
     row: &mut [u64],
     styles: &[u64],
     style: u8,
     rule: Rule,
     text: &[u32],
-    line: Composed,
-) -> Glyphs {
-    let mut column = line_offset(line.alignment, row.len(), line.width as usize);
-    let mut counts = Glyphs { placed: 0, clipped: 0 };
+    line: WrappedLine,
+) -> GlyphCounts {
+    let mut column = get_line_offset(line.alignment, row.len(), line.width as usize);
+    let mut counts = GlyphCounts { placed: 0, clipped: 0 };
     for &word in &text[line.first..line.end] {
         let width = glyph::width(word);
         if width > rule.limit || width == 0 {

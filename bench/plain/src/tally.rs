@@ -1,13 +1,13 @@
-//! The call `tally`: what becomes of a text's glyphs.
+//! The call `tally`: counts of a text's lines and glyphs.
 
-use crate::compose::{Composer, Method};
-use crate::lines::check_text;
-use crate::reflow::Rule;
+use crate::line_composer::{LineComposer, Method};
+use crate::list_lines::check_text;
 use crate::refuse::Refusal;
 use crate::text::{Alignment, glyph, head};
+use crate::word_wrapper::Rule;
 
 #[derive(Debug, Default, Clone, Copy, PartialEq, Eq)]
-pub struct Counts {
+pub struct TallyCounts {
     pub lines: u32,
     pub placed: u32,
     pub clipped: u32,
@@ -16,7 +16,7 @@ pub struct Counts {
     pub dropped: u32,
 }
 
-impl Counts {
+impl TallyCounts {
     /// Counts the glyphs of a composed line.
     fn add_line(&mut self, limit: u32, records: &[u32]) {
         self.lines += 1;
@@ -38,16 +38,16 @@ impl Counts {
     }
 }
 
-/// Tallies a text at a limit: causes 3, 4, 8. The composed lines are counted first, and all glyphs
-/// after them: those dropped are the rest.
-pub fn tally(text: &[u32], limit: u16, trim: bool) -> Result<Counts, Refusal> {
+/// Tallies a text at a limit: causes 3, 4, 8. Counts the composed lines first, then all glyphs; the
+/// difference is the number of glyphs dropped.
+pub fn tally(text: &[u32], limit: u16, trim: bool) -> Result<TallyCounts, Refusal> {
     check_text(limit, text)?;
     if limit == 0 {
-        return Ok(Counts::default());
+        return Ok(TallyCounts::default());
     }
     let rule = Rule { limit: limit.into(), trim };
-    let mut counts = Counts::default();
-    for line in Composer::new(rule, Method::Wrapped, Alignment::Left, text) {
+    let mut counts = TallyCounts::default();
+    for line in LineComposer::new(rule, Method::WordWrap, Alignment::Left, text) {
         counts.add_line(rule.limit, &text[line.first..line.end]);
     }
     let mut glyphs = 0;

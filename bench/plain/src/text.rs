@@ -48,32 +48,32 @@ pub mod head {
         head & 0x7ff_ffff
     }
 
-    /// The alignment that a head gives, or the notice's or block's own.
-    pub fn resolve(head: u32, own: Alignment) -> Alignment {
+    /// Returns the alignment in a head, or the default alignment.
+    pub fn resolve(head: u32, default_alignment: Alignment) -> Alignment {
         match head >> 29 & 0b11 {
             0 => Alignment::Left,
             1 => Alignment::Center,
             2 => Alignment::Right,
-            _ => own,
+            _ => default_alignment,
         }
     }
 
-    /// The position that a title's head gives, or the block's own.
-    pub fn resolve_position(head: u32, own: TitlePosition) -> TitlePosition {
+    /// Returns the position in a title's head, or the block's.
+    pub fn resolve_position(head: u32, default_position: TitlePosition) -> TitlePosition {
         match position(head) {
             0 => TitlePosition::Top,
             1 => TitlePosition::Bottom,
-            _ => own,
+            _ => default_position,
         }
     }
 }
 
-/// How many of the records after a head are its line's.
+/// Returns the number of records after a head that belong to its line.
 pub fn line_length(after: &[u32]) -> usize {
     after.iter().position(|&record| head::is_head(record)).unwrap_or(after.len())
 }
 
-/// The heads of some records that open with one, each with the glyphs of its line.
+/// Returns the heads of records that start with one, each with the glyphs of its line.
 pub fn lines(records: &[u32]) -> impl Iterator<Item = (u32, &[u32])> {
     let mut left = records;
     std::iter::from_fn(move || {

@@ -1,18 +1,18 @@
-//! One title in its area.
+//! Draws one title in its area.
 
 use crate::buffer::{Ink, Screen, paint_area, style_at};
 use crate::layout::Rect;
 use crate::text::{Alignment, glyph};
 
-/// The width of a title line, held at 65,535.
-pub fn line_width(glyphs: &[u32]) -> u16 {
+/// Returns the width of a title line, saturating at 65,535.
+pub fn line_width_u16(glyphs: &[u32]) -> u16 {
     glyphs.iter().fold(0, |width: u16, &word| width.saturating_add(glyph::width(word) as u16))
 }
 
-/// Writes the glyphs of a title line up to the first that overruns the row, save those that start in
-/// hidden columns or have width 0.
-fn write_line(row: &mut [u64], styles: &[u64], alignment: Alignment, glyphs: &[u32]) {
-    let (needed, columns) = (usize::from(line_width(glyphs)), row.len());
+/// Writes the glyphs of a title line up to the first that overruns the row, except those that start
+/// in hidden columns or have width 0.
+fn write_title_line(row: &mut [u64], styles: &[u64], alignment: Alignment, glyphs: &[u32]) {
+    let (needed, columns) = (usize::from(line_width_u16(glyphs)), row.len());
     let (mut column, hidden) = match alignment {
         Alignment::Right => (columns.saturating_sub(needed), needed.saturating_sub(columns)),
         Alignment::Left | Alignment::Center => (0, 0),
@@ -33,7 +33,7 @@ fn write_line(row: &mut [u64], styles: &[u64], alignment: Alignment, glyphs: &[u
 }
 
 /// Draws a title in its area: the titles style, then the drawn glyphs.
-pub fn draw_title(
+pub fn render_title(
     screen: Screen,
     cells: &mut [u64],
     styles: &[u64],
@@ -44,5 +44,5 @@ pub fn draw_title(
 ) {
     paint_area(screen, cells, area, Ink::Style(style_at(styles, style)));
     let row = screen.row_part(cells, area.y.into(), area.x, area.right());
-    write_line(row, styles, alignment, glyphs);
+    write_title_line(row, styles, alignment, glyphs);
 }

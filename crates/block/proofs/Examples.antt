@@ -1,4 +1,4 @@
--- Document 01, 'Small notices by hand': "inner of (0,0,1,1), four borders: (1,1,0,0)", of every block without padding and with any titles.
+-- Document 01, 'Small notices by hand': "inner of (0,0,1,1), four borders: (1,1,0,0)", without padding and for any titles.
 use Prim.Native.Nat.{ℕ}
 use mathlib.Core.Path.{_≡_}
 use mathlib.Core.Bool.{true}

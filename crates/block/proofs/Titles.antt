@@ -1,4 +1,4 @@
--- The pass over a block's titles: it looks at every record, and the heads among them are the titles.
+-- The loop over a block's titles tests every record; each head among them opens a title.
 use Prim.Native.Nat.{ℕ, suc}
 use mathlib.Core.Path.{_≡_, refl, ap, _∙_}
 use mathlib.Core.Bool.{Bool, true, false, not, cond, _&&_, _||_}
@@ -18,7 +18,7 @@ ofHead test line = test (line .head)
 abbrev pub ofRecord : (ℕ → Bool) → ℕ → Bool
 ofRecord test r = isHead r && test r
 
--- a test of each line's head is one of each record that is a head
+-- some title's head passes a test if and only if some record is a head and passes it
 pub heads-tested : (test : ℕ → Bool) (number : ℕ) (rs : List ℕ) → some (ofRecord test) rs ≡ some (ofHead test) (linesFrom number rs)
 heads-tested test number [] = refl
 heads-tested test number (r ∷ rs) = go (isHead r) (heads-tested test (suc number) rs)
@@ -28,26 +28,26 @@ heads-tested test number (r ∷ rs) = go (isHead r) (heads-tested test (suc numb
     go true ih = ap (λ (t : Bool). test r || t) ih
     go false ih = ih
 
--- the title that a head opens stands at the position
+-- whether the title that a head opens is at the position
 abbrev pub headIsAt : TitlePosition → TitlePosition → ℕ → Bool
-headIsAt own position r = samePosition (resolvedPosition (positionOf r) own) position
+headIsAt default position r = samePosition (resolvedPosition (positionOf r) default) position
 
 pub titles-tested : (b : Block) (titles : List ℕ) (position : TitlePosition) (x : Bool)
     → x ≡ some (ofRecord (headIsAt (b .«titles_position») position)) titles → x ≡ hasTitleAt b titles position
 unfolding hasTitleAt
 titles-tested b titles position x e = e ∙ heads-tested (headIsAt (b .«titles_position») position) 0 titles
 
--- what the two tests of a record come to
-module _ (own position : TitlePosition) (r : ℕ) (b : Bool) (e : b ≡ isHead r) where
-  pub no-title : b ≡ false → b ≡ ofRecord (headIsAt own position) r
-  no-title f = f ∙ rw (← e, f)
+-- the test of one record: it is a head, and its title is at the position
+module _ (default position : TitlePosition) (r : ℕ) (b : Bool) (e : b ≡ isHead r) where
+  pub non-head-fails : b ≡ false → b ≡ ofRecord (headIsAt default position) r
+  non-head-fails f = f ∙ rw (← e, f)
 
-  pub title-is : (given : TitlePosition) (x : Bool) → b ≡ true → given ≡ resolvedPosition (positionOf r) own → x ≡ samePosition given position → x ≡ ofRecord (headIsAt own position) r
-  title-is given x t p q = rw (← e, t, ← p) q
+  pub head-tested-by-position : (given : TitlePosition) (x : Bool) → b ≡ true → given ≡ resolvedPosition (positionOf r) default → x ≡ samePosition given position → x ≡ ofRecord (headIsAt default position) r
+  head-tested-by-position given x t p q = rw (← e, t, ← p) q
 
-pub ruleset titled = (titles-tested, no-title, title-is)
+pub ruleset titled = (titles-tested, non-head-fails, head-tested-by-position)
 
--- what isn't at the top is at the bottom
-pub bottom-is : (position wanted : TitlePosition) (x : Bool) → position ≡ Bottom → x ≡ samePosition Top wanted → not x ≡ samePosition position wanted
-bottom-is position Top x e p = rw (e, p)
-bottom-is position Bottom x e p = rw (e, p)
+-- the bottom is the position other than the top
+pub bottom-not-top : (position wanted : TitlePosition) (x : Bool) → position ≡ Bottom → x ≡ samePosition Top wanted → not x ≡ samePosition position wanted
+bottom-not-top position Top x e p = rw (e, p)
+bottom-not-top position Bottom x e p = rw (e, p)

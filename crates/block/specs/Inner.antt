@@ -21,15 +21,15 @@ samePosition Top Bottom = false
 samePosition Bottom Top = false
 samePosition Bottom Bottom = true
 
--- by a title's head: its position is the one given, or the block's
+-- whether the title with this head is at the position, its given one or the block's
 abbrev pub titleIsAt : Block → TitlePosition → ℕ → Bool
 titleIsAt b position head = samePosition (resolvedPosition (positionOf head) (b .«titles_position»)) position
 
--- a block has a title at a position
+-- whether a block has a title at the position
 unfoldable pub hasTitleAt : Block → List ℕ → TitlePosition → Bool
 hasTitleAt b titles position = some (λ (title : TextLine). titleIsAt b position (title .head)) (linesFrom 0 titles)
 
--- what stands at the four sides: "a top border or top title", "bottom border or title"
+-- whether each side has a border or title: "a top border or top title", "bottom border or title"
 abbrev pub atLeft : Block → Bool
 atLeft b = b .borders .left
 
@@ -44,11 +44,11 @@ atBottom b titles = b .borders .bottom || hasTitleAt b titles Bottom
 
 -- "a left border moves x by 1, not past right"; "a top border or top title does so for y"
 abbrev pub movedIn : Bool → ℕ → ℕ → ℕ
-movedIn stands place end = cond stands (min (held (place + 1)) end) place
+movedIn present place end = cond present (min (held (place + 1)) end) place
 
--- 1 is taken where something stands
+-- cells taken: 1 if a border or title is present, else 0
 abbrev pub taken : Bool → ℕ
-taken stands = cond stands 1 0
+taken present = cond present 1 0
 
 -- "then x, y gain the left and top padding and the sizes lose both sums"
 unfoldable pub innerOf : Block → List ℕ → Rect → Rect
@@ -60,7 +60,7 @@ innerOf b titles area =
       height = area .height - taken (atTop b titles) - taken (atBottom b titles) - held (b .padding .top + b .padding .bottom);
     }
 
--- `horizontal_space` and `vertical_space`: at each end the padding, and 1 for what stands there
+-- `horizontal_space` and `vertical_space`: at each end the padding, plus 1 if a border or title is present
 abbrev pub spaceOf : Bool → Bool → ℕ → ℕ → Space
 spaceOf before after paddingBefore paddingAfter =
     record { before = held (paddingBefore + taken before); after = held (paddingAfter + taken after) }

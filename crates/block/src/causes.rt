@@ -1,4 +1,4 @@
-// Causes 6 and 7 of a block's settings.
+// Checks of a block's settings: causes 6 (style numbers) and 7 (symbols).
 use crate::Block;
 use crate::BorderSet;
 use crate::Effect;
@@ -8,7 +8,7 @@ ghost use mathlib.Core.Path.{_≡_};
 ghost use Rattle.refuse.specs.Causes.{styleNumbersWrong, symbolsWrong};
 ghost use Rattle.block.specs.Causes.{shadowStyles, blockStyles, shadowSymbols, borderSymbols, blockSymbols};
 
-// 6, of a shadow.
+// Whether the shadow's style number is not below the count of styles (cause 6).
 fn shadow_style_wrong(count: usize, shadow: Shadow) -> bool
     ensures { λ r. ⌜ r ≡ styleNumbersWrong count (shadowStyles shadow) ⌝ }
 {
@@ -25,7 +25,7 @@ fn shadow_style_wrong(count: usize, shadow: Shadow) -> bool
 }
 
 impl Block {
-    // 6: a style number of the settings that isn't below the count of styles.
+    // Whether a style number of the settings is not below the count of styles (cause 6).
     pub fn style_numbers_wrong(self, count: usize) -> bool
         ensures { λ r. ⌜ r ≡ styleNumbersWrong count (blockStyles self) ⌝ }
     {
@@ -36,7 +36,7 @@ impl Block {
         shadow_style_wrong(count, shadow)
     }
 
-    // 7: a border or shadow symbol of 2,097,152 or more.
+    // Whether a border or shadow symbol is 2,097,152 or more (cause 7).
     pub fn symbols_wrong(self) -> bool
         ensures { λ r. ⌜ r ≡ symbolsWrong (blockSymbols self) ⌝ }
     {
@@ -50,7 +50,7 @@ impl Block {
 }
 
 impl BorderSet {
-    // 7, of the eight border symbols, also of sides that aren't drawn.
+    // Whether one of the eight border symbols is too large (cause 7), even if its side has no border.
     fn symbols_wrong(self) -> bool
         ensures { λ r. ⌜ r ≡ symbolsWrong (borderSymbols self) ⌝ }
     {
@@ -69,7 +69,7 @@ impl BorderSet {
     }
 }
 
-// 7, of a shadow.
+// Whether the shadow's symbol is too large (cause 7).
 fn shadow_symbol_wrong(shadow: Shadow) -> bool
     ensures { λ r. ⌜ r ≡ symbolsWrong (shadowSymbols shadow) ⌝ }
 {

@@ -1,4 +1,4 @@
-// What a frame leaves of a rectangle, and what it takes.
+// The inner area of a block, and the space that its frame takes.
 use crate::Block;
 use crate::Space;
 use layout::Rect;
@@ -8,24 +8,24 @@ ghost use Prim.Native.Nat.{_+_, _-_};
 ghost use Rattle.num.specs.Held.{held};
 ghost use Rattle.block.specs.Inner.{movedIn, taken, atTop, atBottom, innerOf, spaceOf, horizontalSpace, verticalSpace};
 
-// 1 where something stands.
-pub fn cells_taken(stands: bool) -> u16
-    ensures { λ r. ⌜ r ≡ taken stands ⌝ }
+// Returns 1 if a border or title is present, else 0.
+pub fn cells_taken(present: bool) -> u16
+    ensures { λ r. ⌜ r ≡ taken present ⌝ }
 {
-    if stands { 1 } else { 0 }
+    if present { 1 } else { 0 }
 }
 
-// Where the inner area starts, along a row or a column: past what stands there, but not past the end, and past the padding.
-fn inner_start(stands: bool, place: u16, end: u16, padding: u16) -> u16
-    ensures { λ r. ⌜ r ≡ held (movedIn stands place end + padding) ⌝ }
+// Returns the inner area's x or y: moved by 1, not past the end, if a border or title is present, then by the padding.
+fn inner_start(present: bool, place: u16, end: u16, padding: u16) -> u16
+    ensures { λ r. ⌜ r ≡ held (movedIn present place end + padding) ⌝ }
 {
-    if stands {
+    if present {
         return num::saturating_add(num::min(num::saturating_add(place, 1), end), padding);
     }
     num::saturating_add(place, padding)
 }
 
-// How long it is: less what stands before and after, less both paddings.
+// Returns the inner area's width or height: the size less a border or title at each end, less both paddings.
 fn inner_size(before: bool, after: bool, size: u16, padding: u16, padding_after: u16) -> u16
     ensures { λ r. ⌜ r ≡ size - taken before - taken after - held (padding + «padding_after») ⌝ }
 {
@@ -34,7 +34,7 @@ fn inner_size(before: bool, after: bool, size: u16, padding: u16, padding_after:
     num::saturating_sub(inside, num::saturating_add(padding, padding_after))
 }
 
-// What a frame takes at the two ends of a row or a column.
+// Returns the cells that a frame takes at the two ends of a row or column.
 fn space(before: bool, after: bool, padding: u16, padding_after: u16) -> Space
     ensures { λ r. ⌜ r ≡ spaceOf before after padding «padding_after» ⌝ }
 {
@@ -45,8 +45,8 @@ fn space(before: bool, after: bool, padding: u16, padding_after: u16) -> Space
 }
 
 impl Block {
-    // Whether a border or a title stands at the top.
-    fn stands_at_top(self, titles: &[u32]) -> bool
+    // Whether the block has a top border or a top title.
+    fn present_at_top(self, titles: &[u32]) -> bool
         ensures { λ r. ⌜ r ≡ atTop self (now (titles .entry)) ⌝ }
     {
         let borders = self.borders;
@@ -56,8 +56,8 @@ impl Block {
         self.has_title_at_position(titles, TitlePosition::Top)
     }
 
-    // Whether a border or a title stands at the bottom.
-    fn stands_at_bottom(self, titles: &[u32]) -> bool
+    // Whether the block has a bottom border or a bottom title.
+    fn present_at_bottom(self, titles: &[u32]) -> bool
         ensures { λ r. ⌜ r ≡ atBottom self (now (titles .entry)) ⌝ }
     {
         let borders = self.borders;
@@ -67,14 +67,14 @@ impl Block {
         self.has_title_at_position(titles, TitlePosition::Bottom)
     }
 
-    // What the frame leaves of a rectangle, whatever the settings: the call `inner` checks them first.
-    pub fn inner_area(self, titles: &[u32], area: Rect) -> Rect
+    // Returns the inner area of any rectangle (block.rs: `Block::inner`). The settings are checked by the call `inner`.
+    pub fn inner(self, titles: &[u32], area: Rect) -> Rect
         ensures { λ r. ⌜ r ≡ innerOf self (now (titles .entry)) area ⌝ }
     {
         let borders = self.borders;
         let padding = self.padding;
-        let top = self.stands_at_top(titles);
-        let bottom = self.stands_at_bottom(titles);
+        let top = self.present_at_top(titles);
+        let bottom = self.present_at_bottom(titles);
         Rect {
             x: inner_start(borders.left, area.x, area.right(), padding.left),
             y: inner_start(top, area.y, area.bottom(), padding.top),
@@ -89,7 +89,7 @@ impl Block {
         }
     }
 
-    // What the frame takes at the left and the right.
+    // Returns the columns that the frame takes at the left and right (block.rs: `Block::horizontal_space`).
     pub fn horizontal_space(self) -> Space
         ensures { λ r. ⌜ r ≡ horizontalSpace self ⌝ }
     {
@@ -98,13 +98,13 @@ impl Block {
         space(borders.left, borders.right, padding.left, padding.right)
     }
 
-    // What the frame takes at the top and the bottom.
+    // Returns the rows that the frame takes at the top and bottom (block.rs: `Block::vertical_space`).
     pub fn vertical_space(self, titles: &[u32]) -> Space
         ensures { λ r. ⌜ r ≡ verticalSpace self (now (titles .entry)) ⌝ }
     {
         let padding = self.padding;
-        let top = self.stands_at_top(titles);
-        let bottom = self.stands_at_bottom(titles);
+        let top = self.present_at_top(titles);
+        let bottom = self.present_at_bottom(titles);
         space(top, bottom, padding.top, padding.bottom)
     }
 }

@@ -1,4 +1,4 @@
-// A block's settings, and what its frame leaves inside: block.rs.
+// Settings of a block, its inner area and the space that its frame takes (block.rs).
 use padding::Padding;
 use text::Alignment;
 use text::TitlePosition;
@@ -7,7 +7,7 @@ pub mod causes;
 pub mod inner_area;
 pub mod titled;
 
-// The sides that have a border.
+// Sides that have a border.
 pub struct Borders {
     pub top: bool,
     pub right: bool,
@@ -15,7 +15,7 @@ pub struct Borders {
     pub left: bool,
 }
 
-// The symbols of ratatui's `border::Set`.
+// Border symbols (ratatui's `border::Set`).
 pub struct BorderSet {
     pub top_left: u32,
     pub top_right: u32,
@@ -27,13 +27,13 @@ pub struct BorderSet {
     pub horizontal_bottom: u32,
 }
 
-// What a shadow's cells get beside its style: nothing, or a symbol.
+// Effect of a shadow on its cells after its style: none, or a symbol (block/shadow.rs: `Effect`).
 pub enum Effect {
     Overlay,
     Symbol(u32),
 }
 
-// No shadow, or one with a style number, moved from the block by x columns and y rows.
+// Shadow of a block, if any: effect, style number, and offset from the block in columns and rows (block/shadow.rs: `Shadow`).
 pub enum Shadow {
     Absent,
     Present {
@@ -44,6 +44,7 @@ pub enum Shadow {
     },
 }
 
+// Settings of a block (block.rs: `Block`). Its titles are passed beside it, as records.
 pub struct Block {
     pub borders: Borders,
     pub border_set: BorderSet,
@@ -56,7 +57,7 @@ pub struct Block {
     pub shadow: Shadow,
 }
 
-// What a frame takes at the two ends of a row or a column.
+// Cells that a frame takes at the two ends of a row or column.
 pub struct Space {
     pub before: u16,
     pub after: u16,

@@ -1,4 +1,4 @@
-// Whether a block has a title at the top or at the bottom.
+// Search for a title at the top or the bottom.
 use crate::Block;
 use text::TitlePosition;
 use text::head;
@@ -26,15 +26,18 @@ pub fn is_at(position: TitlePosition, wanted: TitlePosition) -> bool
 }
 
 impl Block {
-    // Whether one of the titles stands at a position.
+    // Whether a title is at the position, given or default (block.rs: `Block::has_title_at_position`).
     pub fn has_title_at_position(self, titles: &[u32], position: TitlePosition) -> bool
         ensures { λ r. ⌜ r ≡ hasTitleAt self (now (titles .entry)) position ⌝ }
     {
-        let own = self.titles_position;
+        let default_position = self.titles_position;
         let mut i = 0;
         while i < titles.len() {
             if head::is_head(titles[i]) {
-                if is_at(head::resolve_position(titles[i], own), position) {
+                if is_at(
+                    head::resolve_position(titles[i], default_position),
+                    position,
+                ) {
                     return true;
                 }
             }

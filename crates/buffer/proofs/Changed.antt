@@ -1,4 +1,4 @@
--- Laws of `changed`: its length and its elements, one change after another, a part that was lent, and a loop that changes an element a turn.
+-- Laws of `changed`: length, elements, composition, changes of a borrowed slice, and a loop that changes one element per turn.
 use Prim.Native.Nat.{ℕ, zero, suc, _+_, _-_, _<_, _≤_}
 use mathlib.Core.Path.{_≡_, refl, ap, sym, _∙_}
 use mathlib.Core.Bool.{cond}
@@ -11,14 +11,13 @@ use lib.Dec.{eqb}
 use lib.ListN.{length, take, drop, getD, set, length-drop, length-set, take-append-drop}
 use lib.Seq.{length-take-le, take-length, drop-length, take-suc-set, drop-set-lt, drop-cons}
 use Rattle.buffer.specs.Drawing.{changedFrom, changed}
-use Rattle.buffer.specs.Parts.{windowed}
+use Rattle.buffer.specs.PartsExtra.{windowed}
 use Rattle.buffer.proofs.Within.{within-inside, within-before, within-past}
 
 changedFrom-length : (n : ℕ) (f : ℕ → ℕ → ℕ) (xs : List ℕ) → length (changedFrom n f xs) ≡ length xs
 changedFrom-length n f [] = refl
 changedFrom-length n f (x ∷ xs) = ap suc (changedFrom-length (suc n) f xs)
 
--- a change leaves the length as it is
 pub length-changed : (f : ℕ → ℕ → ℕ) (xs : List ℕ) → length (changed f xs) ≡ length xs
 length-changed f xs = changedFrom-length 0 f xs
 
@@ -27,16 +26,15 @@ changedFrom-at n f [] i h = absurd (omega arith)
 changedFrom-at n f (x ∷ xs) zero h = rw add-zero
 changedFrom-at n f (x ∷ xs) (suc i) h = rw (add-suc, ← suc-add) (changedFrom-at (suc n) f xs i (omega arith))
 
--- element i is what becomes of the old element i
 pub changed-at : (f : ℕ → ℕ → ℕ) (xs : List ℕ) (i : ℕ) → i < length xs → getD (changed f xs) i 0 ≡ f i (getD xs i 0)
 changed-at f xs i h = rw zero-add at (changedFrom-at 0 f xs i h)
 
--- a change of two lists one after the other
+-- a change of a concatenation
 pub changedFrom-append : (n : ℕ) (f : ℕ → ℕ → ℕ) (xs ys : List ℕ) → changedFrom n f (xs ++ ys) ≡ changedFrom n f xs ++ changedFrom (n + length xs) f ys
 changedFrom-append n f [] ys = rw add-zero
 changedFrom-append n f (x ∷ xs) ys = rw (add-suc, ← suc-add) (ap (λ (t : List ℕ). f n x ∷ t) (changedFrom-append (suc n) f xs ys))
 
--- changes that agree on every number that the list has
+-- changes that agree on every index of the list
 pub changedFrom-same : (n : ℕ) (f g : ℕ → ℕ → ℕ) (xs : List ℕ) → ((i x : ℕ) → n ≤ i → i < n + length xs → f i x ≡ g i x)
     → changedFrom n f xs ≡ changedFrom n g xs
 changedFrom-same n f g [] h = refl
@@ -45,7 +43,7 @@ changedFrom-same n f g (x ∷ xs) h =
     let t : changedFrom (suc n) f xs ≡ changedFrom (suc n) g xs = changedFrom-same (suc n) f g xs (λ i y p q. h i y (omega arith) (omega arith)) in
     cc
 
--- the same of numbers from 0
+-- the same for indices from 0
 pub changed-same : (f g : ℕ → ℕ → ℕ) (xs : List ℕ) → ((i x : ℕ) → i < length xs → f i x ≡ g i x) → changed f xs ≡ changed g xs
 changed-same f g xs h = changedFrom-same 0 f g xs (λ i x p q. h i x (omega arith))
 
@@ -57,7 +55,7 @@ changedFrom-none n (x ∷ xs) = ap (λ (t : List ℕ). x ∷ t) (changedFrom-non
 pub changed-none : (xs : List ℕ) → changed (λ i x. x) xs ≡ xs
 changed-none xs = changedFrom-none 0 xs
 
--- a change that leaves alone every number that the list has
+-- a change that keeps every element of the list
 pub changedFrom-alone : (n : ℕ) (f : ℕ → ℕ → ℕ) (xs : List ℕ) → ((i x : ℕ) → n ≤ i → i < n + length xs → f i x ≡ x) → changedFrom n f xs ≡ xs
 changedFrom-alone n f xs h = changedFrom-same n f (λ i x. x) xs h ∙ changedFrom-none n xs
 
@@ -65,16 +63,16 @@ changedFrom-then : (n : ℕ) (f g : ℕ → ℕ → ℕ) (xs : List ℕ) → cha
 changedFrom-then n f g [] = refl
 changedFrom-then n f g (x ∷ xs) = ap (λ (t : List ℕ). g n (f n x) ∷ t) (changedFrom-then (suc n) f g xs)
 
--- one change after another does both to each element
+-- two changes in a row compose element by element
 pub changed-then : (f g : ℕ → ℕ → ℕ) (xs : List ℕ) → changed g (changed f xs) ≡ changed (λ i x. g i (f i x)) xs
 changed-then f g xs = changedFrom-then 0 f g xs
 
--- numbers that start at a are numbers from 0, with a added
+-- shifting the first index by a adds a to each index
 changedFrom-shift : (n a : ℕ) (f : ℕ → ℕ → ℕ) (xs : List ℕ) → changedFrom (a + n) f xs ≡ changedFrom n (λ i x. f (a + i) x) xs
 changedFrom-shift n a f [] = refl
 changedFrom-shift n a f (x ∷ xs) = ap (λ (t : List ℕ). f (a + n) x ∷ t) (rw (← add-suc) (changedFrom-shift (suc n) a f xs))
 
--- the elements in the middle of a list, changed by themselves
+-- a change of the middle part of a list
 module _ (f : ℕ → ℕ → ℕ) (before part after : List ℕ) where
   abbrev first : ℕ
   first = length before
@@ -104,26 +102,25 @@ module _ (f : ℕ → ℕ → ℕ) (before part after : List ℕ) where
       rw zero-add at (changedFrom-append 0 change before (part ++ after)) in
       sym (e ∙ rw (changedFrom-append first change part after, before-alone, part-shifted, after-alone))
 
--- a part lent from a up to e has e less a elements
+-- a slice from a up to e has e - a elements
 pub part-length : (a e : ℕ) (xs : List ℕ) → a ≤ e → e ≤ length xs → length (take (e - a) (drop a xs)) ≡ e - a
 part-length a e xs p q = length-take-le (e - a) (drop a xs) (simp length-drop (omega arith))
 
--- a part lent from a up to e that comes back changed: the whole list is changed there and nowhere else
-pub part-lent : (f : ℕ → ℕ → ℕ) (a e : ℕ) (xs part : List ℕ) → a ≤ e → e ≤ length xs → part ≡ changed f (take (e - a) (drop a xs))
+-- changing a slice borrowed from a up to e changes the whole list there and nowhere else
+pub part-borrowed : (f : ℕ → ℕ → ℕ) (a e : ℕ) (xs part : List ℕ) → a ≤ e → e ≤ length xs → part ≡ changed f (take (e - a) (drop a xs))
     → take a xs ++ (part ++ drop (e - a) (drop a xs)) ≡ changed (windowed a e f) xs
-part-lent f a e xs part p q h =
+part-borrowed f a e xs part p q h =
     let before-length : length (take a xs) ≡ a = length-take-le a xs (omega arith) in
     let end-is : a + (e - a) ≡ e = omega arith in
     rw h (middle-changed f (take a xs) (take (e - a) (drop a xs)) (drop (e - a) (drop a xs))
     ∙ simp (before-length, part-length a e xs p q, end-is, take-append-drop))
 
--- a loop that changes an element a turn: the first i elements are changed, and the others are still to be
+-- Before each turn: the first i elements are changed; changing the remaining ones gives the whole change.
 pub record Changing (f : ℕ → ℕ → ℕ) (old xs : List ℕ) (i : ℕ) : Type 0 where
   pub reached : i ≤ length old
   pub same-length : length xs ≡ length old
   pub remaining : take i xs ++ changedFrom i f (drop i xs) ≡ changed f old
 
--- before its first turn nothing is changed
 pub changing-starts : (f : ℕ → ℕ → ℕ) (xs : List ℕ) → Changing f xs xs 0
 changing-starts f xs = record { reached = omega arith; same-length = refl; remaining = refl }
 
@@ -139,7 +136,7 @@ module _ (f : ℕ → ℕ → ℕ) (old xs : List ℕ) (i : ℕ) (c : Changing f
             (rw (drop-cons xs i 0 h) at (c .remaining));
       }
 
-  -- at the end all are changed
+  -- at the end all elements are changed
   pub changing-done : length xs ≤ i → xs ≡ changed f old
   changing-done h =
       let e : i ≡ length xs = omega (arith, c .reached, c .same-length) in
@@ -157,6 +154,6 @@ changedFrom-one f k (suc n) (x ∷ xs) =
     let e : k + suc n ≡ suc k + n = omega arith in
     rw (ne-eqb k (k + suc n) (λ e. omega arith), e) (ap (λ (t : List ℕ). x ∷ t) (changedFrom-one f (suc k) n xs))
 
--- a store to one element; nothing where its number is past the end
+-- a store to one element; no change if the index is past the end
 pub changed-one : (f : ℕ → ℕ) (n : ℕ) (xs : List ℕ) → set xs n (f (getD xs n 0)) ≡ changed (λ i x. cond (eqb i n) (f x) x) xs
 changed-one f n xs = rw zero-add at (changedFrom-one f 0 n xs)

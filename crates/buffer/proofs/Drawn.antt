@@ -1,4 +1,4 @@
--- Laws of `drawn`: its cells, one drawing after another, and drawings that agree.
+-- Laws of `drawn`: its cells, composition, drawings that agree.
 use Prim.Native.Nat.{ℕ, _+_, _*_, _/_, _%_, _<_}
 use mathlib.Core.Path.{_≡_, ap, sym, _∙_}
 use mathlib.Core.Logic.{_⊎_, inl, inr}
@@ -9,12 +9,11 @@ use lib.ListN.{length, getD}
 use Rattle.buffer.specs.Drawing.{Drawing, drawn}
 use Rattle.buffer.proofs.Changed.{length-changed, changed-at, changed-same, changed-none, changed-then}
 
--- a drawing leaves the number of cells as it is
 pub drawn-length : (columns : ℕ) (d : Drawing) (cells : List ℕ) → length (drawn columns d cells) ≡ length cells
 unfolding drawn
 drawn-length columns d cells = length-changed _ cells
 
--- the cell in a column and a row is what the drawing says of it
+-- the cell in a column and a row, after a drawing
 pub drawn-at : (columns : ℕ) (d : Drawing) (cells : List ℕ) (column row : ℕ) → column < columns → row * columns + column < length cells
     → getD (drawn columns d cells) (row * columns + column) 0 ≡ d column row (getD cells (row * columns + column) 0)
 unfolding drawn
@@ -22,14 +21,14 @@ drawn-at columns d cells column row h k =
     changed-at (λ i cell. d (i % columns) (i / columns) cell) cells (row * columns + column) k
     ∙ simp (digits-div row h, digits-mod row h)
 
--- one drawing after another does both to each cell
+-- two drawings in a row compose cell by cell
 pub drawn-then : (columns : ℕ) (d e : Drawing) (cells : List ℕ)
     → drawn columns e (drawn columns d cells) ≡ drawn columns (λ column row cell. e column row (d column row cell)) cells
 unfolding drawn
 drawn-then columns d e cells =
     changed-then (λ i cell. d (i % columns) (i / columns) cell) (λ i cell. e (i % columns) (i / columns) cell) cells
 
--- the same, of what a first and a second call say
+-- the same, from the contracts of two calls
 pub drawn-also : (columns : ℕ) (d e : Drawing) (cells next last : List ℕ) → next ≡ drawn columns d cells → last ≡ drawn columns e next
     → last ≡ drawn columns (λ column row cell. e column row (d column row cell)) cells
 drawn-also columns d e cells next last p q = q ∙ ap (drawn columns e) p ∙ drawn-then columns d e cells
@@ -40,12 +39,12 @@ pub drawn-same : (columns : ℕ) (d e : Drawing) (cells : List ℕ) → 0 < colu
 unfolding drawn
 drawn-same columns d e cells some h = changed-same _ _ cells (λ i cell _. h (i % columns) (i / columns) cell (mod-lt i some))
 
--- nothing drawn
+-- a drawing that keeps every cell
 pub drawn-none : (columns : ℕ) (cells : List ℕ) → drawn columns (λ column row cell. cell) cells ≡ cells
 unfolding drawn
 drawn-none columns cells = changed-none cells
 
--- two drawings of which one leaves each cell alone can change places
+-- two drawings commute if for each cell at least one of them keeps it
 pub drawn-commute : (columns : ℕ) (d e : Drawing) (cells : List ℕ) → 0 < columns
     → ((column row : ℕ) → ((cell : ℕ) → d column row cell ≡ cell) ⊎ ((cell : ℕ) → e column row cell ≡ cell))
     → drawn columns e (drawn columns d cells) ≡ drawn columns d (drawn columns e cells)

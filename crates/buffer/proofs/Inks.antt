@@ -1,32 +1,29 @@
--- What an ink makes of a cell, one law for each ink.
+-- A cell with an ink applied, one law for each kind of ink.
 use Prim.Native.Nat.{ℕ, _<_, _^_}
 use mathlib.Core.Path.{_≡_, ap, _∙_}
 use Rattle.cell.specs.Cell.{withSymbol, styled}
 use Rattle.buffer.specs.declared.Ink.{Ink}
 use Rattle.buffer.specs.declared.Ink.the-variants.{Style, Symbol, Both}
-use Rattle.buffer.specs.Ink.{inked, SymbolFits}
+use Rattle.buffer.specs.InkExtra.{inked, SymbolFits}
 
 module _ (ink : Ink) (cell : ℕ) where
-  -- a style is applied
   pub inks-style : (style r : ℕ) → ink ≡ Style style → r ≡ styled style cell → r ≡ inked ink cell
   unfolding inked
   inks-style style r e p = rw e p
 
-  -- a symbol is set
   pub inks-symbol : (symbol r : ℕ) → ink ≡ Symbol symbol → r ≡ withSymbol symbol cell → r ≡ inked ink cell
   unfolding inked
   inks-symbol symbol r e p = rw e p
 
-  -- a symbol is set, and then a style is applied
+  -- the symbol is set first, then the style is applied
   pub inks-both : (symbol style next r : ℕ) → ink ≡ Both symbol style → next ≡ withSymbol symbol cell → r ≡ styled style next → r ≡ inked ink cell
   unfolding inked
   inks-both symbol style next r e p q = rw e (q ∙ ap (styled style) p)
 
--- the symbol of an ink that fits has no more than 21 bits
+-- `SymbolFits` bounds the symbol of each kind of ink that has one
 pub symbol-fits : (ink : Ink) (symbol : ℕ) → ink ≡ Symbol symbol → SymbolFits ink → symbol < 2 ^ 21
 symbol-fits ink symbol e h = rw e at h
 
--- nor has that of an ink of both
 pub both-fits : (ink : Ink) (symbol style : ℕ) → ink ≡ Both symbol style → SymbolFits ink → symbol < 2 ^ 21
 both-fits ink symbol style e h = rw e at h
 

@@ -6,3 +6,4 @@ pub mod Over
 pub mod OnScreen
 pub mod Order
 pub mod Inks
+pub mod Filling

@@ -1,4 +1,4 @@
--- What lies on a screen: all of it, and the cells that a rectangle shares with it, where there are any.
+-- Rectangles within a screen: its whole area, and its non-empty intersection with a rectangle.
 use Prim.Native.Nat.{ℕ, _+_, _-_, _*_, _<_, _≤_, min}
 use mathlib.Core.Path.{_≡_}
 use mathlib.Core.Bool.{false}
@@ -10,18 +10,16 @@ use Rattle.layout.specs.declared.Rect.{Rect}
 use Rattle.layout.specs.Rect.{rightOf, bottomOf, meet, isEmpty}
 use Rattle.buffer.specs.declared.Screen.{Screen}
 use Rattle.buffer.specs.Drawing.{areaOf}
-use Rattle.buffer.specs.Parts.{OnScreen}
+use Rattle.buffer.specs.PartsExtra.{OnScreen}
 
--- the far edge of a meeting that isn't empty
-edge : (first end most : ℕ) → (min end (min (0 + most) 65535) - first ≡ 0 → ⊥) → min (first + (min end (min (0 + most) 65535) - first)) 65535 ≤ most
-edge first end most h = omega arith
+-- the right or bottom edge of a non-empty meeting is within the screen
+edge-within : (first end most : ℕ) → (min end (min (0 + most) 65535) - first ≡ 0 → ⊥) → min (first + (min end (min (0 + most) 65535) - first)) 65535 ≤ most
+edge-within first end most h = omega arith
 
 module _ (s : Screen) (n : ℕ) (r : Rect) (some : 0 < s .columns) (size : s .rows * s .columns ≤ n) where
-  -- the rectangle of all its cells
   pub all-on-screen : r ≡ areaOf s → OnScreen s n r
   all-on-screen e = rw e (record { columns = some; size = size; right = omega arith; bottom = omega arith })
 
-  -- a meeting that isn't empty
   pub meeting-on-screen : (area : Rect) → r ≡ meet area (areaOf s) → isEmpty r ≡ false → OnScreen s n r
   meeting-on-screen area e h =
       let m : Rect = meet area (areaOf s) in
@@ -30,8 +28,8 @@ module _ (s : Screen) (n : ℕ) (r : Rect) (some : 0 < s .columns) (size : s .ro
       record {
         columns = some;
         size = size;
-        right = edge (m .x) (rightOf area) (s .columns) (eqb-false (m .width) 0 (sides .0));
-        bottom = edge (m .y) (bottomOf area) (s .rows) (eqb-false (m .height) 0 (sides .1));
+        right = edge-within (m .x) (rightOf area) (s .columns) (eqb-false (m .width) 0 (sides .0));
+        bottom = edge-within (m .y) (bottomOf area) (s .rows) (eqb-false (m .height) 0 (sides .1));
       })
 
 pub ruleset on-screen = (all-on-screen, meeting-on-screen)

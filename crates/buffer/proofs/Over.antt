@@ -1,4 +1,4 @@
--- Laws of `over`, `inside` and `sparing`: what is drawn on a rectangle's cells, and what spares them.
+-- Laws of `over`, `inside` and `sparing`: drawings on the cells of a rectangle, and drawings that keep them.
 use Prim.Native.Nat.{ℕ, _+_, _-_, _*_, _<_, _≤_}
 use mathlib.Core.Path.{_≡_, refl}
 use mathlib.Core.Bool.{Bool, true, false, and-false}
@@ -16,22 +16,17 @@ use Rattle.layout.specs.declared.Rect.{Rect}
 use Rattle.layout.specs.Rect.{rightOf, bottomOf, isEmpty, within, contains}
 use Rattle.buffer.specs.declared.Screen.{Screen}
 use Rattle.buffer.specs.Drawing.{Drawing, drawn, over, inside, sparing}
-use Rattle.buffer.specs.Parts.{inRow, inRows, OnScreen}
+use Rattle.buffer.specs.PartsExtra.{inRow, inRows, OnScreen}
 use Rattle.buffer.proofs.Within.{within-inside, within-before, within-past}
 use Rattle.buffer.proofs.Drawn.{drawn-commute}
 use Rattle.buffer.proofs.Rows.{DrawingRows, rows-start, rows-done, row-fits}
 
--- the rows of a rectangle, from its left edge up to its right one, are the rectangle
+-- the same change on all rows of a rectangle is a change of the rectangle
 pub rows-over : (r : Rect) (f : ℕ → ℕ) → inRows (r .x) (rightOf r) (r .y) (bottomOf r) (λ j i cell. f cell) ≡ over r f
 unfolding inRows over
 rows-over r f = refl
 
--- and so are rows that are drawn each in its way
-pub rows-are : (r : Rect) (f : ℕ → ℕ → ℕ → ℕ) → inRows (r .x) (rightOf r) (r .y) (bottomOf r) f ≡ inside r (λ column row. f row column)
-unfolding inRows inside
-rows-are r f = refl
-
--- the one row of a rectangle that is one row high
+-- the only row of a rectangle of height 1
 one-row : (y row : ℕ) → within y (y + 1) row ≡ eqb row y
 one-row y row =
     dite (ℕ-discrete row y)
@@ -41,35 +36,33 @@ one-row y row =
     (λ p. rw (within-before y (y + 1) row p, ne-eqb row y n))
     (λ q. rw (within-past y (y + 1) row (omega (arith, n, q)), ne-eqb row y n)))
 
-pub row-is : (r : Rect) (f : ℕ → ℕ → ℕ) (column row cell : ℕ) → r .height ≡ 1 → r .y < 65535
+pub row-inside : (r : Rect) (f : ℕ → ℕ → ℕ) (column row cell : ℕ) → r .height ≡ 1 → r .y < 65535
     → inRow (r .x) (rightOf r) (r .y) f column row cell ≡ inside r (λ column row. f column) column row cell
 unfolding inRow inside
-row-is r f column row cell high low =
+row-inside r f column row cell high low =
     let b : bottomOf r ≡ r .y + 1 = omega arith in
     rw (b, one-row (r .y) row)
 
--- a loop over the rows of a rectangle that lies on a screen, its edges read before
+-- a loop over the rows of a rectangle within the screen; right and bottom are read before the loop
 module _ (s : Screen) (r : Rect) (right bottom : ℕ) (right-is : right ≡ rightOf r) (bottom-is : bottom ≡ bottomOf r) where
-  -- its first row comes before its bottom, or is it
+  -- the invariant holds at the first row
   pub area-starts : (f : ℕ → ℕ → ℕ → ℕ) (cells : List ℕ) → OnScreen s (length cells) r → Fits w16 (r .y)
       → DrawingRows (s .columns) (r .x) right (r .y) bottom f cells cells (r .y)
   area-starts f cells on fits = rows-start (s .columns) (r .x) right (r .y) bottom f cells (on .columns) (omega (arith, fits .fits))
 
-  -- its left edge comes before its right one, or is it
   pub area-left : Fits w16 (r .x) → r .x ≤ right
   area-left fits = omega (arith, fits .fits)
 
-  -- its right edge lies on the screen
   pub area-right : (n : ℕ) → OnScreen s n r → right ≤ s .columns
   area-right n on = omega (arith, on .right)
 
-  -- and each of its rows does
+  -- each row of the rectangle is within the cells
   pub area-row : (f : ℕ → ℕ → ℕ → ℕ) (old cells : List ℕ) (n : ℕ) → OnScreen s (length old) r
       → DrawingRows (s .columns) (r .x) right (r .y) bottom f old cells n → n < bottom → n * s .columns + right ≤ length cells
   area-row f old cells n on d h =
       omega (arith, d .same-length, row-fits (s .columns) right n (s .rows) (length old) (area-right (length old) on) (omega (arith, on .bottom)) (on .size))
 
-  -- after the last, the whole rectangle is drawn
+  -- after the last row the whole rectangle is drawn
   pub area-done : (f : ℕ → ℕ) (old cells : List ℕ) (n : ℕ) → DrawingRows (s .columns) (r .x) right (r .y) bottom (λ j i cell. f cell) old cells n → bottom ≤ n
       → cells ≡ drawn (s .columns) (over r f) old
   area-done f old cells n d h =
@@ -78,12 +71,12 @@ module _ (s : Screen) (r : Rect) (right bottom : ℕ) (right-is : right ≡ righ
 pub ruleset drawing-area = (area-starts, area-left, area-right, area-row, area-done)
 
 module _ (r : Rect) (d : Drawing) (column row cell : ℕ) where
-  -- a cell inside is drawn on, as it is numbered there
+  -- a cell inside is drawn, with its column and row relative to the rectangle
   pub inside-there : contains r column row ≡ true → inside r d column row cell ≡ d (column - r .x) (row - r .y) cell
   unfolding inside
   inside-there h = rw h
 
-  -- one outside is left as it is
+  -- a cell outside is kept
   pub inside-outside : contains r column row ≡ false → inside r d column row cell ≡ cell
   unfolding inside
   inside-outside h = rw h
@@ -94,23 +87,23 @@ module _ (r : Rect) (f : ℕ → ℕ) (column row cell : ℕ) where
   unfolding over
   over-inside h = rw h
 
-  -- one outside is left as it is
+  -- a cell outside is kept
   pub over-outside : contains r column row ≡ false → over r f column row cell ≡ cell
   unfolding over
   over-outside h = rw h
 
 module _ (r : Rect) (d : Drawing) (column row cell : ℕ) where
-  -- a cell inside is spared
+  -- a cell inside is kept
   pub sparing-inside : contains r column row ≡ true → sparing r d column row cell ≡ cell
   unfolding sparing
   sparing-inside h = rw h
 
-  -- one outside is drawn
+  -- a cell outside is drawn
   pub sparing-outside : contains r column row ≡ false → sparing r d column row cell ≡ d column row cell
   unfolding sparing
   sparing-outside h = rw h
 
--- a drawing that leaves every cell outside a rectangle alone, and one that spares the rectangle, can change places
+-- a drawing that keeps every cell outside a rectangle commutes with one that keeps every cell inside
 pub sparing-commute : (columns : ℕ) (r : Rect) (d e : Drawing) (cells : List ℕ) → 0 < columns
     → ((column row cell : ℕ) → contains r column row ≡ false → e column row cell ≡ cell)
     → drawn columns (sparing r d) (drawn columns e cells) ≡ drawn columns e (drawn columns (sparing r d) cells)
@@ -122,7 +115,7 @@ sparing-commute columns r d e cells some alone =
     apart column row true h = inr (λ cell. sparing-inside r d column row cell h)
     apart column row false h = inl (λ cell. alone column row cell h)
 
--- no number lies in a part of size 0
+-- a range of size 0 contains no number
 within-none : (first size n : ℕ) → size ≡ 0 → within first (held (first + size)) n ≡ false
 within-none first size n e = dite (decLt n first) (within-before first _ n) (λ p. within-past first _ n (omega (arith, p)))
 
@@ -134,6 +127,6 @@ contains-none r column row h = go (eqb (r .width) 0) refl
     go true e = rw (within-none (r .x) (r .width) column (eqb-true (r .width) 0 e))
     go false e = rw (within-none (r .y) (r .height) row (eqb-true (r .height) 0 (rw e at h)), and-false)
 
--- what is drawn over an empty rectangle leaves every cell
+-- drawing over an empty rectangle keeps every cell
 pub over-empty : (r : Rect) (f : ℕ → ℕ) (column row cell : ℕ) → isEmpty r ≡ true → over r f column row cell ≡ cell
 over-empty r f column row cell h = over-outside r f column row cell (contains-none r column row h)

@@ -1,4 +1,4 @@
 pub mod Drawing
-pub mod Ink
-pub mod Parts
+pub mod InkExtra
+pub mod PartsExtra
 pub mod Screen

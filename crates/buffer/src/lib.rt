@@ -1,19 +1,21 @@
-// A screen's cells, and putting a style or a symbol on the cells of a rectangle.
+// The cells of a screen; applying a style or a symbol to the cells of a rectangle (`Buffer` of ratatui-core).
 use layout::Rect;
 ghost use mathlib.Core.Path.{_≡_};
 ghost use Prim.Native.Nat.{_+_, _*_, _<_, _≤_};
 ghost use lib.ListN.{length};
 ghost use Rattle.buffer.specs.Drawing.{changed, drawn, over, areaOf, styleAt};
-ghost use Rattle.buffer.specs.Ink.{inked, SymbolFits};
-ghost use Rattle.buffer.specs.Parts.{inRow, OnScreen};
+ghost use Rattle.buffer.specs.InkExtra.{inked, SymbolFits};
+ghost use Rattle.buffer.specs.PartsExtra.{inRow, OnScreen};
 
-// How many cells a screen has across and down.
+pub mod fill;
+
+// Size of a screen in cells.
 pub struct Screen {
     pub columns: u16,
     pub rows: u16,
 }
 
-// What is put on a cell: a style, a symbol, or a symbol and then a style.
+// What is applied to a cell: a style, a symbol, or a symbol and then a style.
 pub enum Ink {
     Style(u64),
     Symbol(u64),
@@ -21,7 +23,7 @@ pub enum Ink {
 }
 
 impl Screen {
-    // The rectangle of all its cells.
+    // Returns the rectangle of all cells.
     pub fn area(self) -> Rect
         ensures { λ r. ⌜ r ≡ areaOf self ⌝ }
     {
@@ -34,19 +36,19 @@ impl Screen {
     }
 }
 
-// The cell with an ink put on it.
+// Applies an ink to a cell.
 pub fn ink_cell(ink: Ink, cell: u64) -> u64
     requires { ⌜ SymbolFits ink ⌝ }
     ensures { λ r. ⌜ r ≡ inked ink cell ⌝ }
 {
     match ink {
-        Ink::Style(style) => cell::apply_style(style, cell),
+        Ink::Style(style) => cell::set_style(style, cell),
         Ink::Symbol(symbol) => cell::set_symbol(symbol, cell),
-        Ink::Both(symbol, style) => cell::apply_style(style, cell::set_symbol(symbol, cell)),
+        Ink::Both(symbol, style) => cell::set_style(style, cell::set_symbol(symbol, cell)),
     }
 }
 
-// Puts an ink on every cell of a part of one row.
+// Applies an ink to every cell of a slice.
 fn paint_row(cells: &mut [u64], ink: Ink)
     requires { ⌜ SymbolFits ink ⌝ }
     ensures { λ _. ⌜ now (cells .exit) ≡ changed (λ i cell. inked ink cell) (now (cells .entry)) ⌝ }
@@ -58,7 +60,7 @@ fn paint_row(cells: &mut [u64], ink: Ink)
     }
 }
 
-// Puts an ink on the cells of row y from one column up to another.
+// Applies an ink to the cells of row y from column `left` up to `right`.
 fn paint_row_part(columns: usize, cells: &mut [u64], y: usize, left: usize, right: usize, ink: Ink)
     requires { ⌜ SymbolFits ink ⌝ }
     requires { ⌜ (0 < columns) × (left ≤ right) × (right ≤ columns) × (y * columns + right ≤ length (now cells)) ⌝ }
@@ -69,7 +71,7 @@ fn paint_row_part(columns: usize, cells: &mut [u64], y: usize, left: usize, righ
     paint_row(&mut cells[start..end], ink);
 }
 
-// Puts an ink on every cell of a rectangle that lies on the screen.
+// Applies an ink to every cell of a rectangle within the screen (`Buffer::set_style`, if the ink is a style).
 pub fn paint_area(screen: Screen, cells: &mut [u64], area: Rect, ink: Ink)
     requires { ⌜ SymbolFits ink ⌝ }
     requires { ⌜ OnScreen screen (length (now cells)) area ⌝ }
@@ -86,7 +88,7 @@ pub fn paint_area(screen: Screen, cells: &mut [u64], area: Rect, ink: Ink)
     }
 }
 
-// The style of a number, 0 where there is none.
+// Returns the style with a number, or 0 if there is none.
 pub fn style_at(styles: &[u64], number: u8) -> u64
     ensures { λ r. ⌜ r ≡ styleAt (now (styles .entry)) number ⌝ }
 {

@@ -1,4 +1,4 @@
--- Laws of a cell's fields: packing a cell loses none, and what a symbol and a style leave as it was.
+-- Laws of a cell's fields: packing loses none, and which fields a symbol and a style leave unchanged.
 use Prim.Native.Nat.{ℕ, _+_, _-_, _*_, _/_, _%_, _^_, _<_}
 use mathlib.Core.Path.{_≡_, sym, ap, _∙_}
 use mathlib.Core.Bool.{Bool, true, false, cond}
@@ -6,63 +6,59 @@ use native.Mathlib.Nat.{div-div-eq-div-mul, lt-of-le-of-lt}
 use native.Mathlib.Omega.{arith}
 use lib.Bits.{bitAnd, bitOr, and-le-l, or-lt}
 use Rattle.style.specs.Style.{Style, styleFrom}
-use Rattle.cell.specs.Cell.{Cell, cellFrom, packed, withSymbol, withUntouched, appearanceOf, applied, styled}
+use Rattle.cell.specs.Cell.{Cell, cellFrom, cellPacked, withSymbol, withUntouched, appearanceOf, applied, styled}
 
 -- the bits below the symbol are those of the other fields
 pub below-symbol : (c : ℕ) → c % 2 ^ 43 ≡ c / 2 ^ 35 % 2 ^ 8 * 2 ^ 35 + c / 2 ^ 27 % 2 ^ 8 * 2 ^ 27 + c / 2 ^ 18 % 2 ^ 9 * 2 ^ 18 + c % 2 ^ 18
 below-symbol c =
     omega (arith, div-div-eq-div-mul c (2 ^ 18) (2 ^ 9), div-div-eq-div-mul c (2 ^ 27) (2 ^ 8), div-div-eq-div-mul c (2 ^ 35) (2 ^ 8))
 
--- and of these, the bits above the untouched ones
-pub between : (c : ℕ) → c % 2 ^ 43 / 2 ^ 18 * 2 ^ 18 ≡ c / 2 ^ 35 % 2 ^ 8 * 2 ^ 35 + c / 2 ^ 27 % 2 ^ 8 * 2 ^ 27 + c / 2 ^ 18 % 2 ^ 9 * 2 ^ 18 + 0
-between c = omega (arith, below-symbol c)
+-- the bits below the symbol and above the untouched bits
+pub between-symbol-and-untouched : (c : ℕ) → c % 2 ^ 43 / 2 ^ 18 * 2 ^ 18 ≡ c / 2 ^ 35 % 2 ^ 8 * 2 ^ 35 + c / 2 ^ 27 % 2 ^ 8 * 2 ^ 27 + c / 2 ^ 18 % 2 ^ 9 * 2 ^ 18 + 0
+between-symbol-and-untouched c = omega (arith, below-symbol c)
 
--- each field below the symbol fits its bits
+-- each field below the symbol fits in its bits
 pub record Fits (c : Cell) : Type 0 where
   pub foreground-fits : c .foreground < 2 ^ 8
   pub background-fits : c .background < 2 ^ 8
   pub modifiers-fit : c .modifiers < 2 ^ 9
   pub untouched-fits : c .untouched < 2 ^ 18
 
-module _ (s f b m u : ℕ) (hf : f < 2 ^ 8) (hb : b < 2 ^ 8) (hm : m < 2 ^ 9) (hu : u < 2 ^ 18) where
+-- each field, read back from the packed word
+module _ (c : Cell) (h : Fits c) where
   abbrev word : ℕ
-  word = s * 2 ^ 43 + f * 2 ^ 35 + b * 2 ^ 27 + m * 2 ^ 18 + u
+  word = cellPacked c
 
-  symbol-back : word / 2 ^ 43 ≡ s
-  symbol-back = omega arith
+  symbol-back : word / 2 ^ 43 ≡ c .symbol
+  symbol-back = omega (arith, h .foreground-fits, h .background-fits, h .modifiers-fit, h .untouched-fits)
 
-  foreground-back : word / 2 ^ 35 % 2 ^ 8 ≡ f
-  foreground-back = let q : word / 2 ^ 35 ≡ s * 2 ^ 8 + f = omega arith in omega arith
+  foreground-back : word / 2 ^ 35 % 2 ^ 8 ≡ c .foreground
+  foreground-back =
+      let q : word / 2 ^ 35 ≡ c .symbol * 2 ^ 8 + c .foreground = omega (arith, h .background-fits, h .modifiers-fit, h .untouched-fits) in
+      omega (arith, h .foreground-fits)
 
-  background-back : word / 2 ^ 27 % 2 ^ 8 ≡ b
-  background-back = let q : word / 2 ^ 27 ≡ s * 2 ^ 16 + f * 2 ^ 8 + b = omega arith in omega arith
+  background-back : word / 2 ^ 27 % 2 ^ 8 ≡ c .background
+  background-back =
+      let q : word / 2 ^ 27 ≡ c .symbol * 2 ^ 16 + c .foreground * 2 ^ 8 + c .background = omega (arith, h .modifiers-fit, h .untouched-fits) in
+      omega (arith, h .background-fits)
 
-  modifiers-back : word / 2 ^ 18 % 2 ^ 9 ≡ m
-  modifiers-back = let q : word / 2 ^ 18 ≡ s * 2 ^ 25 + f * 2 ^ 17 + b * 2 ^ 9 + m = omega arith in omega arith
+  modifiers-back : word / 2 ^ 18 % 2 ^ 9 ≡ c .modifiers
+  modifiers-back =
+      let q : word / 2 ^ 18 ≡ c .symbol * 2 ^ 25 + c .foreground * 2 ^ 17 + c .background * 2 ^ 9 + c .modifiers = omega (arith, h .untouched-fits) in
+      omega (arith, h .modifiers-fit)
 
-  untouched-back : word % 2 ^ 18 ≡ u
-  untouched-back = omega arith
+  untouched-back : word % 2 ^ 18 ≡ c .untouched
+  untouched-back = omega (arith, h .untouched-fits)
 
--- a cell's fields come back from its bits
-pub unpacked : (c : Cell) → Fits c → cellFrom (packed c) ≡ c
-unpacked c h =
-    let hf = h .foreground-fits in
-    let hb = h .background-fits in
-    let hm = h .modifiers-fit in
-    let hu = h .untouched-fits in
-    rw (
-      symbol-back (c .symbol) (c .foreground) (c .background) (c .modifiers) (c .untouched) hf hb hm hu,
-      foreground-back (c .symbol) (c .foreground) (c .background) (c .modifiers) (c .untouched) hf hb hm hu,
-      background-back (c .symbol) (c .foreground) (c .background) (c .modifiers) (c .untouched) hf hb hm hu,
-      modifiers-back (c .symbol) (c .foreground) (c .background) (c .modifiers) (c .untouched) hf hb hm hu,
-      untouched-back (c .symbol) (c .foreground) (c .background) (c .modifiers) (c .untouched) hf hb hm hu,
-    )
+  -- unpacking a packed cell gives its fields back
+  pub unpacked : cellFrom (cellPacked c) ≡ c
+  unpacked = rw (symbol-back, foreground-back, background-back, modifiers-back, untouched-back)
 
 colour-fits : (given : Bool) (a b : ℕ) → a < 2 ^ 8 → b < 2 ^ 8 → cond given a b < 2 ^ 8
 colour-fits true a b ha hb = ha
 colour-fits false a b ha hb = hb
 
--- a style's fields, applied to a cell's, fit again
+-- the fields of a styled cell fit in their bits
 applied-fits : (style cell : ℕ) → Fits (applied (styleFrom style) (cellFrom cell))
 applied-fits style cell =
     record {
@@ -72,7 +68,7 @@ applied-fits style cell =
       untouched-fits = omega arith;
     }
 
--- a styled cell has the fields that the style's rule gives: its symbol and the 18 bits are those it had
+-- styling changes the fields as `applied` says; symbol and untouched bits stay
 pub styled-fields : (style cell : ℕ) → cellFrom (styled style cell) ≡ applied (styleFrom style) (cellFrom cell)
 unfolding styled
 styled-fields style cell = unpacked (applied (styleFrom style) (cellFrom cell)) (applied-fits style cell)
@@ -83,7 +79,7 @@ styled-symbol style cell = ap (λ (c : Cell). c .symbol) (styled-fields style ce
 pub styled-untouched : (style cell : ℕ) → cellFrom (styled style cell) .untouched ≡ cellFrom cell .untouched
 styled-untouched style cell = ap (λ (c : Cell). c .untouched) (styled-fields style cell)
 
--- a cell that gets a symbol has it, and its other fields are those it had
+-- setting the symbol leaves the other fields unchanged
 pub symbol-fields : (symbol cell : ℕ) → cellFrom (withSymbol symbol cell) ≡
     record {
       symbol = symbol;
@@ -105,7 +101,7 @@ symbol-fields symbol cell =
 pub symbol-set : (symbol cell : ℕ) → cellFrom (withSymbol symbol cell) .symbol ≡ symbol
 symbol-set symbol cell = ap (λ (c : Cell). c .symbol) (symbol-fields symbol cell)
 
--- a cell whose untouched bits are set has them, and its other fields are those it had
+-- setting the untouched bits leaves the other fields unchanged
 pub untouched-fields : (untouched cell : ℕ) → untouched < 2 ^ 18 → cellFrom (withUntouched untouched cell) ≡
     record {
       symbol = cellFrom cell .symbol;
@@ -124,7 +120,7 @@ untouched-fields untouched cell h =
       untouched-fits = h;
     })
 
--- a cell's appearance has its colours and modifiers
+-- the appearance has the cell's colours and modifiers
 pub appearance-fields : (cell : ℕ) → cellFrom (appearanceOf cell) ≡
     record {
       symbol = 0;
@@ -143,9 +139,9 @@ appearance-fields cell =
       untouched-fits = omega arith;
     })
 
--- so symbol and style may come in either order
+-- symbol and style may be set in either order
 pub either-order : (symbol style cell : ℕ) → styled style (withSymbol symbol cell) ≡ withSymbol symbol (styled style cell)
 unfolding styled withSymbol
 either-order symbol style cell =
-    ap (λ (c : Cell). packed (applied (styleFrom style) c)) (symbol-fields symbol cell)
-    ∙ sym (ap (λ (c : Cell). packed (record { symbol = symbol; foreground = c .foreground; background = c .background; modifiers = c .modifiers; untouched = c .untouched })) (styled-fields style cell))
+    ap (λ (c : Cell). cellPacked (applied (styleFrom style) c)) (symbol-fields symbol cell)
+    ∙ sym (ap (λ (c : Cell). cellPacked (record { symbol = symbol; foreground = c .foreground; background = c .background; modifiers = c .modifiers; untouched = c .untouched })) (styled-fields style cell))

@@ -1,4 +1,4 @@
--- Document 01, 'Packed fields': the fields of a cell, most significant bit first, and what a symbol and a style do to it.
+-- Document 01, 'Packed fields': the fields of a cell, most significant bit first, and how a symbol and a style change them.
 use Prim.Native.Nat.{ℕ, _+_, _-_, _*_, _/_, _%_, _^_}
 use mathlib.Core.Bool.{cond}
 use lib.Bits.{bitAnd, bitOr}
@@ -22,8 +22,8 @@ cellFrom word =
       untouched = word % 2 ^ 18;
     }
 
-abbrev pub packed : Cell → ℕ
-packed c = c .symbol * 2 ^ 43 + c .foreground * 2 ^ 35 + c .background * 2 ^ 27 + c .modifiers * 2 ^ 18 + c .untouched
+abbrev pub cellPacked : Cell → ℕ
+cellPacked c = c .symbol * 2 ^ 43 + c .foreground * 2 ^ 35 + c .background * 2 ^ 27 + c .modifiers * 2 ^ 18 + c .untouched
 
 -- "32 is the blank symbol"
 abbrev pub blankSymbol : ℕ
@@ -31,25 +31,25 @@ blankSymbol = 32
 
 -- "A blank cell has symbol 32 and zeros."
 abbrev pub blankCell : ℕ
-blankCell = packed (record { symbol = blankSymbol; foreground = 0; background = 0; modifiers = 0; untouched = 0 })
+blankCell = cellPacked (record { symbol = blankSymbol; foreground = 0; background = 0; modifiers = 0; untouched = 0 })
 
--- a cell that gets a symbol
+-- a cell with its symbol replaced
 unfoldable pub withSymbol : ℕ → ℕ → ℕ
 withSymbol symbol cell =
     let c = cellFrom cell in
-    packed (record { symbol = symbol; foreground = c .foreground; background = c .background; modifiers = c .modifiers; untouched = c .untouched })
+    cellPacked (record { symbol = symbol; foreground = c .foreground; background = c .background; modifiers = c .modifiers; untouched = c .untouched })
 
--- a cell that gets other bits in place of the 18 "never touched" by drawing
+-- a cell with the 18 bits "never touched" by drawing replaced
 unfoldable pub withUntouched : ℕ → ℕ → ℕ
 withUntouched untouched cell =
     let c = cellFrom cell in
-    packed (record { symbol = c .symbol; foreground = c .foreground; background = c .background; modifiers = c .modifiers; untouched = untouched })
+    cellPacked (record { symbol = c .symbol; foreground = c .foreground; background = c .background; modifiers = c .modifiers; untouched = untouched })
 
--- a cell's colours and modifiers alone
+-- only the colours and modifiers of a cell
 unfoldable pub appearanceOf : ℕ → ℕ
 appearanceOf cell =
     let c = cellFrom cell in
-    packed (record { symbol = 0; foreground = c .foreground; background = c .background; modifiers = c .modifiers; untouched = 0 })
+    cellPacked (record { symbol = 0; foreground = c .foreground; background = c .background; modifiers = c .modifiers; untouched = 0 })
 
 -- "Applying it sets the given colours, then sets the add bits, then clears the remove bits."
 abbrev pub coloursSet : Style → Cell → Cell
@@ -62,7 +62,6 @@ coloursSet s c =
       untouched = c .untouched;
     }
 
--- the add bits set
 abbrev pub addBitsSet : Style → Cell → Cell
 addBitsSet s c =
     record {
@@ -73,7 +72,7 @@ addBitsSet s c =
       untouched = c .untouched;
     }
 
--- the remove bits cleared: of the nine bits, those stay that aren't to be removed
+-- 2 ^ 9 - 1 - remove is the complement of the remove bits
 abbrev pub removeBitsCleared : Style → Cell → Cell
 removeBitsCleared s c =
     record {
@@ -84,10 +83,10 @@ removeBitsCleared s c =
       untouched = c .untouched;
     }
 
--- the three in their order
+-- the three steps in order
 abbrev pub applied : Style → Cell → Cell
 applied s c = removeBitsCleared s (addBitsSet s (coloursSet s c))
 
--- a cell that gets a style
+-- a cell with a style applied
 unfoldable pub styled : ℕ → ℕ → ℕ
-styled style cell = packed (applied (styleFrom style) (cellFrom cell))
+styled style cell = cellPacked (applied (styleFrom style) (cellFrom cell))

@@ -5,9 +5,9 @@ ghost use mathlib.Core.Path.{_≡_};
 ghost use mathlib.Core.Bool.{cond};
 ghost use Prim.Native.Nat.{_-_, _<_, _^_};
 ghost use lib.Bits.{bitAnd, bitOr};
-ghost use Rattle.cell.specs.Cell.{Cell, cellFrom, packed, blankCell, withSymbol, withUntouched, appearanceOf, styled};
+ghost use Rattle.cell.specs.Cell.{Cell, cellFrom, cellPacked, blankCell, withSymbol, withUntouched, appearanceOf, styled};
 
-// Where a field stands: what a 1 in it comes to. The bits never touched stand below the modifiers.
+// Place value of a field's lowest bit. The bits never touched are below the modifiers.
 const SYMBOL_PLACE: u64 = 1 << 43;
 
 const FOREGROUND_PLACE: u64 = 1 << 35;
@@ -16,7 +16,7 @@ const BACKGROUND_PLACE: u64 = 1 << 27;
 
 const MODIFIERS_PLACE: u64 = 1 << 18;
 
-// All nine modifiers.
+// Mask of all nine modifiers.
 const ALL_MODIFIERS: u64 = MODIFIERS - 1;
 
 pub fn symbol(cell: u64) -> u64
@@ -49,14 +49,14 @@ pub fn untouched(cell: u64) -> u64
     cell % MODIFIERS_PLACE
 }
 
-// A cell with the blank symbol and zeros.
+// Returns a cell with the blank symbol, other fields 0.
 pub fn blank() -> u64
     ensures { λ r. ⌜ r ≡ blankCell ⌝ }
 {
     32 * SYMBOL_PLACE
 }
 
-// The cell with another symbol. Symbols are below 2^21: a glyph's field has 21 bits, and cause 7 refuses others.
+// Replaces the cell's symbol (`Cell::set_symbol`). A glyph's symbol has 21 bits; cause 7 refuses larger ones in settings.
 pub fn set_symbol(symbol: u64, cell: u64) -> u64
     requires { ⌜ symbol < 2 ^ 21 ⌝ }
     ensures { λ r. ⌜ r ≡ withSymbol symbol cell ⌝ }
@@ -64,7 +64,7 @@ pub fn set_symbol(symbol: u64, cell: u64) -> u64
     symbol * SYMBOL_PLACE + cell % SYMBOL_PLACE
 }
 
-// The cell with other bits below the modifiers: those that drawing never touches, in which a caller keeps what it likes.
+// Replaces the bits that drawing never touches; they are free for the caller's use.
 pub fn set_untouched(untouched: u64, cell: u64) -> u64
     requires { ⌜ untouched < 2 ^ 18 ⌝ }
     ensures { λ r. ⌜ r ≡ withUntouched untouched cell ⌝ }
@@ -72,14 +72,14 @@ pub fn set_untouched(untouched: u64, cell: u64) -> u64
     cell / MODIFIERS_PLACE * MODIFIERS_PLACE + untouched
 }
 
-// A cell's colours and modifiers alone: symbol and untouched bits are 0.
+// Returns only the colours and modifiers of a cell: symbol and untouched bits are 0.
 pub fn appearance(cell: u64) -> u64
     ensures { λ r. ⌜ r ≡ appearanceOf cell ⌝ }
 {
     cell % SYMBOL_PLACE / MODIFIERS_PLACE * MODIFIERS_PLACE
 }
 
-// The colour that a style gives, or the one that is there.
+// Returns the style's colour if it gives one, else the cell's.
 fn colour(given: bool, styled: u64, found: u64) -> u64
     requires { ⌜ (styled < 2 ^ 8) × (found < 2 ^ 8) ⌝ }
     ensures { λ r. ⌜ (r ≡ cond given styled found) × (r < 2 ^ 8) ⌝ }
@@ -87,7 +87,7 @@ fn colour(given: bool, styled: u64, found: u64) -> u64
     if given { styled } else { found }
 }
 
-// The modifiers with the add bits set, then the remove bits cleared.
+// Sets the add bits, then clears the remove bits.
 fn modified(found: u64, add: u64, remove: u64) -> u64
     requires { ⌜ (found < 2 ^ 9) × (add < 2 ^ 9) × (remove < 2 ^ 9) ⌝ }
     ensures { λ r. ⌜ (r ≡ bitAnd (bitOr found add) (2 ^ 9 - 1 - remove)) × (r < 2 ^ 9) ⌝ }
@@ -95,11 +95,11 @@ fn modified(found: u64, add: u64, remove: u64) -> u64
     (found | add) & (ALL_MODIFIERS - remove)
 }
 
-// The cell of these fields.
+// Packs these fields into a cell.
 pub fn pack(symbol: u64, foreground: u64, background: u64, modifiers: u64, untouched: u64) -> u64
     requires { ⌜ (symbol < 2 ^ 21) × (foreground < 2 ^ 8) × (background < 2 ^ 8) × (modifiers < 2 ^ 9) × (untouched < 2 ^ 18) ⌝ }
     ensures { λ r.
-        ⌜ r ≡ packed (record {
+        ⌜ r ≡ cellPacked (record {
           symbol = symbol;
           foreground = foreground;
           background = background;
@@ -114,8 +114,8 @@ pub fn pack(symbol: u64, foreground: u64, background: u64, modifiers: u64, untou
         + untouched
 }
 
-// The cell with a style applied: the given colours, then the add bits set, then the remove bits cleared.
-pub fn apply_style(style: u64, cell: u64) -> u64
+// Applies a style (`Cell::set_style`): sets the given colours, then the add bits, then clears the remove bits.
+pub fn set_style(style: u64, cell: u64) -> u64
     ensures { λ r. ⌜ r ≡ styled style cell ⌝ }
 {
     let foreground_set = colour(

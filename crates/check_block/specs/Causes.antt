@@ -1,4 +1,4 @@
--- Document 01, 'Why a call is refused': the causes that calls with a block and titles have one after another.
+-- Document 01, 'Why a call is refused': the causes of a block and its titles, in order.
 use Prim.Native.Nat.{ℕ}
 use mathlib.Core.List.{List, [], _∷_}
 use Rattle.refuse.specs.declared.Ceilings.{Ceilings}
@@ -8,7 +8,7 @@ use Rattle.refuse.specs.Causes.{titlesWrong, symbolsWrong}
 use Rattle.block.specs.declared.Block.{Block}
 use Rattle.block.specs.Causes.{blockSymbols}
 
--- of a call that is lent no styles: 5, 7
+-- causes of a call without styles: 5, 7
 unfoldable pub frameCauses : Ceilings → List ℕ → Block → List Cause
 frameCauses most titles b =
     Titles if titlesWrong most titles

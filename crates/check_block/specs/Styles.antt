@@ -1,4 +1,4 @@
--- Document 01, 'Why a call is refused', of 6: the style numbers that a block and its titles give, "glyphs' included".
+-- Document 01, 'Why a call is refused': the style numbers of a block and its titles, "glyphs' included", which cause 6 checks.
 use Prim.Native.Nat.{ℕ}
 use mathlib.Core.List.{List, _++_}
 use Rattle.refuse.specs.Causes.{glyphStyles}

@@ -1,4 +1,4 @@
-// The checks of a block and its titles: cause 6, and 5 and 7 of a call that is lent no styles.
+// Checks of a block and its titles: cause 6, and causes 5 and 7 for calls without styles.
 use block::Block;
 use refuse::Ceilings;
 use refuse::Refusal;
@@ -9,7 +9,7 @@ ghost use Rattle.refuse.specs.Causes.{styleNumbersWrong};
 ghost use Rattle.check_block.specs.Causes.{frameCauses};
 ghost use Rattle.check_block.specs.Styles.{frameStyles};
 
-// 6: a style number of the block's settings or of a title's glyph that isn't below the count of styles.
+// Whether a style number of the block or of a title's glyph is not below the count of styles (cause 6).
 pub fn style_numbers_wrong(count: usize, titles: &[u32], block: Block) -> bool
     ensures { λ r. ⌜ r ≡ styleNumbersWrong count (frameStyles block (now (titles .entry))) ⌝ }
 {
@@ -19,7 +19,7 @@ pub fn style_numbers_wrong(count: usize, titles: &[u32], block: Block) -> bool
     check_records::glyph_styles_wrong(count, titles)
 }
 
-// 5 and 7.
+// Returns the verdict of causes 5 and 7, lowest first.
 pub fn frame_verdict(most: Ceilings, titles: &[u32], block: Block) -> Verdict
     ensures { λ r. ⌜ r ≡ firstCause (frameCauses most (now (titles .entry)) block) ⌝ }
 {

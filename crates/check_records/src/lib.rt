@@ -1,4 +1,4 @@
-// The checks of a text's and of titles' records: causes 3, 4 and 5, and cause 6 of glyphs; 3, 4 and 8 of a call that composes lines.
+// Checks of the records of a text and of titles: causes 3, 4, 5, cause 6 for glyphs, and the verdicts of calls with a text.
 use check_settings::limits;
 use refuse::Ceilings;
 use refuse::Refusal;
@@ -10,16 +10,16 @@ ghost use mathlib.Core.Path.{_≡_};
 ghost use Rattle.text.specs.Line.{notOpening, Opens};
 ghost use Rattle.refuse.specs.Refusal.{firstCause};
 ghost use Rattle.refuse.specs.Causes.{textTooLong, textHeadWrong, textHeadsWrong, textCauses, lineCauses, titlesWrong, styleNumbersWrong, glyphStyles};
-ghost use Rattle.refuse.specs.Scan.{titleWrong, scanWrong, glyphNoStyle};
+ghost use Rattle.refuse.specs.ScanExtra.{titleWrong, scanWrong, glyphNoStyle};
 
-// 3: a text of too many records.
+// Cause 3: whether a text has too many records.
 pub fn text_too_long(most: Ceilings, text: &[u32]) -> bool
     ensures { λ r. ⌜ r ≡ textTooLong most (now (text .entry)) ⌝ }
 {
     most.records < text.len()
 }
 
-// Whether there are records and the first isn't a head.
+// Whether the first record, if any, isn't a head.
 fn opens_without_head(records: &[u32]) -> bool
     ensures { λ r. ⌜ r ≡ notOpening (now (records .entry)) ⌝ }
 {
@@ -29,7 +29,7 @@ fn opens_without_head(records: &[u32]) -> bool
     !head::is_head(records[0])
 }
 
-// Whether a record is a head whose zeros or position aren't 0.
+// Cause 4 for one record: whether it is a head whose zeros or position aren't 0.
 fn head_wrong(word: u32) -> bool
     ensures { λ r. ⌜ r ≡ textHeadWrong word ⌝ }
 {
@@ -39,7 +39,7 @@ fn head_wrong(word: u32) -> bool
     false
 }
 
-// 4: a text that isn't empty and doesn't open with a head, or a head whose zeros or position aren't 0.
+// Cause 4: whether a non-empty text doesn't open with a head, or a head's zeros or position aren't 0.
 pub fn text_heads_wrong(text: &[u32]) -> bool
     ensures { λ r. ⌜ r ≡ textHeadsWrong (now (text .entry)) ⌝ }
 {
@@ -56,7 +56,7 @@ pub fn text_heads_wrong(text: &[u32]) -> bool
     false
 }
 
-// 3 and 4: of a call that has a text.
+// Returns the verdict of causes 3 and 4, for calls with a text.
 pub fn text_verdict(most: Ceilings, text: &[u32]) -> Verdict
     ensures { λ r. ⌜ r ≡ firstCause (textCauses most (now (text .entry))) ⌝ }
 {
@@ -69,7 +69,7 @@ pub fn text_verdict(most: Ceilings, text: &[u32]) -> Verdict
     Verdict::Accepted
 }
 
-// 3, 4 and 8: of a call that composes a text's lines at a limit.
+// Returns the verdict of causes 3, 4 and 8, for calls that compose the lines of a text at a limit.
 pub fn line_verdict(most: Ceilings, text: &[u32], limit: u16) -> Verdict
     ensures { λ r. ⌜ r ≡ firstCause (lineCauses most (now (text .entry)) limit) ⌝ }
 {
@@ -82,7 +82,7 @@ pub fn line_verdict(most: Ceilings, text: &[u32], limit: u16) -> Verdict
     Verdict::Accepted
 }
 
-// Whether a title has too many glyphs, position 3, or zeros that aren't 0.
+// Cause 5 for one title: whether it has too many glyphs, position 3, or zeros that aren't 0.
 fn title_wrong(most: Ceilings, head: u32, glyphs: usize) -> bool
     ensures { λ r. ⌜ r ≡ titleWrong most head glyphs ⌝ }
 {
@@ -92,7 +92,7 @@ fn title_wrong(most: Ceilings, head: u32, glyphs: usize) -> bool
     head::position(head) == 3 || head::zeros(head) != 0
 }
 
-// Whether there are too many titles, or one is wrong.
+// Cause 5 for titles that open with a head: whether there are too many, or one is wrong.
 fn any_title_wrong(most: Ceilings, titles: &[u32]) -> bool
     requires { ⌜ Opens (now titles) ⌝ }
     ensures { λ r. ⌜ r ≡ scanWrong most (now (titles .entry)) ⌝ }
@@ -115,8 +115,7 @@ fn any_title_wrong(most: Ceilings, titles: &[u32]) -> bool
     false
 }
 
-// 5: too many titles, too many glyphs in one, records that aren't empty and don't open with a head, position 3, or zeros that
-// aren't 0.
+// Cause 5: whether non-empty titles don't open with a head, there are too many, or one is wrong.
 pub fn titles_wrong(most: Ceilings, titles: &[u32]) -> bool
     ensures { λ r. ⌜ r ≡ titlesWrong most (now (titles .entry)) ⌝ }
 {
@@ -126,7 +125,7 @@ pub fn titles_wrong(most: Ceilings, titles: &[u32]) -> bool
     any_title_wrong(most, titles)
 }
 
-// Whether a record is a glyph whose style number isn't below the count of styles.
+// Cause 6 for one record: whether it is a glyph whose style number isn't below the count of styles.
 fn glyph_has_no_style(count: usize, word: u32) -> bool
     ensures { λ r. ⌜ r ≡ glyphNoStyle count word ⌝ }
 {
@@ -136,7 +135,7 @@ fn glyph_has_no_style(count: usize, word: u32) -> bool
     count <= glyph::style(word) as usize
 }
 
-// 6, of a text or of titles: a glyph's style number that isn't below the count of styles.
+// Cause 6 for a text or for titles: whether a glyph's style number isn't below the count of styles.
 pub fn glyph_styles_wrong(count: usize, records: &[u32]) -> bool
     ensures { λ r. ⌜ r ≡ styleNumbersWrong count (glyphStyles (now (records .entry))) ⌝ }
 {

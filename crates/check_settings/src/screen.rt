@@ -1,4 +1,4 @@
-// Cause 1, and 1 and 2 of a call that has a screen and styles.
+// Cause 1; causes 1 and 2 for calls with a screen and styles.
 use crate::styles;
 use refuse::Ceilings;
 use refuse::Refusal;
@@ -7,14 +7,14 @@ ghost use mathlib.Core.Path.{_≡_};
 ghost use Rattle.refuse.specs.Refusal.{firstCause};
 ghost use Rattle.refuse.specs.Causes.{oneTo, screenWrong, screenCauses};
 
-// Whether a number is 1 to `most`.
+// Whether 1 <= n <= most.
 fn is_one_to(most: u32, n: u32) -> bool
     ensures { λ r. ⌜ r ≡ oneTo most n ⌝ }
 {
     1 <= n && n <= most
 }
 
-// 1: columns or rows out of their range, or cells that aren't columns × rows.
+// Cause 1: whether columns or rows are out of range, or the number of cells isn't columns × rows.
 pub fn screen_wrong(most: Ceilings, columns: u32, rows: u32, cells: usize) -> bool
     ensures { λ r. ⌜ r ≡ screenWrong most columns rows cells ⌝ }
 {
@@ -27,7 +27,7 @@ pub fn screen_wrong(most: Ceilings, columns: u32, rows: u32, cells: usize) -> bo
     cells != (columns as usize) * (rows as usize)
 }
 
-// 1 and 2.
+// Returns the verdict of causes 1 and 2, lowest first.
 pub fn screen_verdict(
     most: Ceilings,
     columns: u32,

@@ -12,7 +12,6 @@ fn has_zeros_set(style: u64) -> bool
     style::zeros(style) != 0
 }
 
-// Whether one of the styles has zeros that aren't 0.
 fn any_zeros_set(styles: &[u64]) -> bool
     ensures { λ r. ⌜ r ≡ some zerosSet (now (styles .entry)) ⌝ }
 {
@@ -26,7 +25,7 @@ fn any_zeros_set(styles: &[u64]) -> bool
     false
 }
 
-// 2: too many styles, or one whose zeros aren't 0.
+// Cause 2: whether there are too many styles, or one whose zeros aren't 0.
 pub fn styles_wrong(most: Ceilings, styles: &[u64]) -> bool
     ensures { λ r. ⌜ r ≡ stylesWrong most (now (styles .entry)) ⌝ }
 {
@@ -43,7 +42,7 @@ fn has_no_style(count: usize, number: u8) -> bool
     count <= number as usize
 }
 
-// 6, of settings: a style number that isn't below the count of styles.
+// Cause 6 for settings: whether a style number isn't below the count of styles.
 pub fn style_numbers_wrong(count: usize, numbers: &[u8]) -> bool
     ensures { λ r. ⌜ r ≡ styleNumbersWrong count (now (numbers .entry)) ⌝ }
 {
@@ -64,7 +63,7 @@ fn is_too_large(symbol: u32) -> bool
     SYMBOLS <= symbol
 }
 
-// 7: a symbol of 2,097,152 or more.
+// Cause 7: whether a symbol is 2,097,152 or more.
 pub fn symbols_wrong(symbols: &[u32]) -> bool
     ensures { λ r. ⌜ r ≡ symbolsWrong (now (symbols .entry)) ⌝ }
 {

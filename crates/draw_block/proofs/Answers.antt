@@ -1,5 +1,5 @@
--- What the call `draw_block` answers and draws; what its answers say in document 01's numbers; that its causes come in order; and what
--- an accepted call knows of its inputs.
+-- The call `draw_block`: its answers and drawing, the numbers of its answers, the order of its causes, and the preconditions that
+-- an accepted call meets.
 use Prim.Native.Nat.{ℕ, _<_, _^_}
 use mathlib.Core.Path.{_≡_, refl, sym, ap, _∙_}
 use mathlib.Core.Bool.{false}
@@ -19,30 +19,31 @@ use Rattle.refuse.proofs.Lowest.{InOrder, in-order}
 use Rattle.check_settings.proofs.Cells.{columns-fit, rows-fit, has-cells}
 use Rattle.block.specs.Causes.{SymbolsFit}
 use Rattle.buffer.specs.Drawing.{drawn}
-use Rattle.buffer.specs.Screen.{screenOf, HasCells}
-use Rattle.draw_block.specs.declared.Framed.the-variants.{Drawn, Refused}
-use Rattle.draw_block.specs.Call.{Call, causesOf, verdictOf, framed, answerOf, framedNumber, drawingOf, cellsAfter}
+use Rattle.buffer.specs.Screen.{screenOf}
+use Rattle.buffer.specs.PartsExtra.{HasCells}
+use Rattle.draw_block.specs.declared.BlockAnswer.the-variants.{Done, Refused}
+use Rattle.draw_block.specs.Call.{Call, causesOf, verdictOf, framed, answerOf, blockAnswerNumber, drawingOf, cellsAfter}
 
--- causes come lowest first, and at no other time
+-- a cause that holds refuses the call, and a refusal names the lowest cause that holds
 pub lowest-first : (most : Ceilings) (call : Call) → InOrder (causesOf most call)
 unfolding causesOf screenCauses
 lowest-first most call = in-order (causesOf most call) refl
 
 -- the answer's number is the verdict's
-framed-number : (verdict : Verdict) → framedNumber (framed verdict) ≡ verdictNumber verdict
+framed-number : (verdict : Verdict) → blockAnswerNumber (framed verdict) ≡ verdictNumber verdict
 framed-number Accepted = refl
 framed-number (RefusedFor why) = refl
 
-pub answer-number : (call : Call) → framedNumber (answerOf call) ≡ verdictNumber (verdictOf call)
+pub answer-number : (call : Call) → blockAnswerNumber (answerOf call) ≡ verdictNumber (verdictOf call)
 unfolding answerOf
 answer-number call = framed-number (verdictOf call)
 
--- a refused call leaves all cells
+-- a refused call changes no cell
 pub refused-cells : (call : Call) (why : Refusal) → verdictOf call ≡ RefusedFor why → cellsAfter call ≡ call .cells
 unfolding cellsAfter
 refused-cells call why e = rw e
 
--- v is what the checks answered
+-- v is the verdict that the checks returned
 module _ (call : Call) (v : Verdict) (e : v ≡ verdictOf call) where
   pub block-refused : (why : Refusal) → v ≡ RefusedFor why → (Refused why ≡ answerOf call) × (call .cells ≡ cellsAfter call)
   unfolding answerOf cellsAfter
@@ -52,7 +53,7 @@ module _ (call : Call) (v : Verdict) (e : v ≡ verdictOf call) where
 
   module _ (a : v ≡ Accepted) where
     pub block-drawn : (next : List ℕ) → next ≡ drawn (call .columns) (drawingOf call) (call .cells)
-        → (Drawn ≡ answerOf call) × (next ≡ cellsAfter call)
+        → (Done ≡ answerOf call) × (next ≡ cellsAfter call)
     unfolding answerOf cellsAfter
     block-drawn next p =
         let k : verdictOf call ≡ Accepted = sym e ∙ a in

@@ -1,4 +1,4 @@
--- The call `draw_block`: document 01, 'Why a call is refused', and what it answers and draws.
+-- Document 01, 'Why a call is refused': the causes, the answer and the drawing of the call `draw_block`.
 use Prim.Native.Nat.{ℕ}
 use mathlib.Core.List.{List, [], _∷_, _++_}
 use lib.ListN.{length}
@@ -14,11 +14,11 @@ use Rattle.refuse.specs.Causes.{mostAccepted, screenCauses, titlesWrong, styleN
 use Rattle.block.specs.declared.Block.{Block}
 use Rattle.block.specs.Causes.{blockSymbols}
 use Rattle.check_block.specs.Styles.{frameStyles}
-use Rattle.frame.specs.Frame.{blockOf}
-use Rattle.draw_block.specs.declared.Framed.{Framed}
-use Rattle.draw_block.specs.declared.Framed.the-variants.{Drawn, Refused}
+use Rattle.render_block.specs.Frame.{blockOf}
+use Rattle.draw_block.specs.declared.BlockAnswer.{BlockAnswer}
+use Rattle.draw_block.specs.declared.BlockAnswer.the-variants.{Done, Refused}
 
--- what the call gets, with the cells as they were found
+-- inputs of the call, with the cells before it
 pub record Call : Type 0 where
   pub columns : ℕ
   pub rows : ℕ
@@ -32,7 +32,7 @@ abbrev pub callOf : ℕ → ℕ → List ℕ → List ℕ → List ℕ → Rect 
 callOf columns rows cells styles titles area block =
     record { columns = columns; rows = rows; cells = cells; styles = styles; titles = titles; area = area; block = block }
 
--- its causes: 1, 2, 5, 6, 7
+-- causes: 1, 2, 5, 6, 7
 unfoldable pub causesOf : Ceilings → Call → List Cause
 causesOf most call =
     screenCauses most (call .columns) (call .rows) (length (call .cells)) (call .styles)
@@ -44,20 +44,20 @@ causesOf most call =
 unfoldable pub verdictOf : Call → Verdict
 verdictOf call = firstCause (causesOf mostAccepted call)
 
--- its answer: that the block is drawn, if only on no cell, or why it isn't
-abbrev pub framed : Verdict → Framed
-framed Accepted = Drawn
+-- answer: drawn, even if on no cell, or the cause of refusal
+abbrev pub framed : Verdict → BlockAnswer
+framed Accepted = Done
 framed (RefusedFor why) = Refused why
 
-unfoldable pub answerOf : Call → Framed
+unfoldable pub answerOf : Call → BlockAnswer
 answerOf call = framed (verdictOf call)
 
--- the table's number for an answer, 0 where the block is drawn
-abbrev pub framedNumber : Framed → ℕ
-framedNumber Drawn = 0
-framedNumber (Refused why) = refusalNumber why
+-- number of an answer, 0 if the block is drawn
+abbrev pub blockAnswerNumber : BlockAnswer → ℕ
+blockAnswerNumber Done = 0
+blockAnswerNumber (Refused why) = refusalNumber why
 
--- the cells after it: the block drawn on them, or, where the call is refused, "all cells" left
+-- cells after the call: the block drawn on them; if the call is refused, "all cells" left
 unfoldable pub drawingOf : Call → Drawing
 drawingOf call = blockOf (call .styles) (screenOf (call .columns) (call .rows)) (call .titles) (call .block) (call .area)
 

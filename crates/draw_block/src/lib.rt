@@ -9,14 +9,14 @@ use refuse::Verdict;
 ghost use mathlib.Core.Path.{_≡_};
 ghost use Rattle.draw_block.specs.Call.{callOf, verdictOf, answerOf, cellsAfter};
 
-// What the call answers: that the block is drawn, or why it isn't.
-pub enum Framed {
-    Drawn,
+// Answer of the call: drawn, or the cause of refusal.
+pub enum BlockAnswer {
+    Done,
     Refused(Refusal),
 }
 
-// What the call is refused for.
-fn verdict(
+// Returns the verdict of the call's checks, lowest cause first.
+fn draw_block_verdict(
     columns: u32,
     rows: u32,
     cells: &[u64],
@@ -45,7 +45,8 @@ fn verdict(
     Verdict::Accepted
 }
 
-// Draws a block with its titles: causes 1, 2, 5, 6, 7. A refused call changes no cell.
+// Draws a block with its titles (block.rs: `Block::render`). Refused for causes 1, 2, 5, 6 and 7; a refused call
+// changes no cell.
 pub fn draw_block(
     columns: u32,
     rows: u32,
@@ -54,18 +55,26 @@ pub fn draw_block(
     titles: &[u32],
     area: Rect,
     block: Block,
-) -> Framed
+) -> BlockAnswer
     ensures { λ r.
         let call = callOf columns rows (now (cells .entry)) (now (styles .entry)) (now (titles .entry)) area block in
         ⌜ (r ≡ answerOf call) × (now (cells .exit) ≡ cellsAfter call) ⌝ }
 {
-    if let Verdict::Refused(why) = verdict(columns, rows, cells, styles, titles, area, block) {
-        return Framed::Refused(why);
+    if let Verdict::Refused(why) = draw_block_verdict(
+        columns,
+        rows,
+        cells,
+        styles,
+        titles,
+        area,
+        block,
+    ) {
+        return BlockAnswer::Refused(why);
     }
     let screen = Screen {
         columns: columns as u16,
         rows: rows as u16,
     };
-    frame::draw_on(screen, cells, styles, titles, block, area);
-    Framed::Drawn
+    render_block::render(screen, cells, styles, titles, block, area);
+    BlockAnswer::Done
 }

@@ -1,5 +1,5 @@
--- What the call `draw_notice` answers and draws; what its answers say in document 01's numbers; that its causes come in order; and what
--- an accepted call knows of its inputs.
+-- The call `draw_notice`: its answer and drawing, the answer as document 01's numbers, the order of its causes, and what
+-- acceptance implies for its inputs.
 use Prim.Native.Nat.{ℕ, _<_, _^_}
 use mathlib.Core.Path.{_≡_, refl, sym, _∙_}
 use mathlib.Core.Bool.{false}
@@ -14,45 +14,44 @@ use Rattle.refuse.specs.declared.Verdict.the-variants.{Accepted, Refused as Ref
 use Rattle.refuse.specs.Refusal.{verdictNumber}
 use Rattle.refuse.specs.Causes.{mostAccepted, screenCauses, textCauses, screenWrong}
 use Rattle.refuse.proofs.Calls.{no-cause, answer-refused, answer-accepted, left-refused, left-accepted, answered-number, answered-value}
-use Rattle.refuse.proofs.Accepted.{Sound, sound, titles-open}
+use Rattle.refuse.proofs.Accepted.{TextAccepted, sound, titles-open}
 use Rattle.refuse.proofs.Lowest.{InOrder, in-order}
 use Rattle.check_settings.proofs.Cells.{columns-fit, rows-fit, has-cells}
 use Rattle.block.specs.Causes.{SymbolsFit}
 use Rattle.buffer.specs.Drawing.{drawn}
-use Rattle.buffer.specs.Screen.{HasCells}
-use Rattle.rows.specs.declared.Rows.{Rows}
-use Rattle.rows.specs.Drawing.{Composable}
-use Rattle.paragraph.specs.Notice.{noRows}
-use Rattle.draw_notice.specs.declared.Drawn.the-variants.{Shown, Refused}
-use Rattle.draw_notice.specs.Call.{Call, causesOf, verdictOf, screenIn, drawingOf, rowsOf, answerOf, countsOf, cellsAfter, drawnNumber, drawnCounts}
+use Rattle.buffer.specs.PartsExtra.{HasCells}
+use Rattle.render_lines.specs.declared.DrawCounts.{DrawCounts}
+use Rattle.render_lines.specs.DrawingExtra.{Composable}
+use Rattle.paragraph.specs.Notice.{noDrawCounts}
+use Rattle.draw_notice.specs.declared.NoticeAnswer.the-variants.{Counts, Refused}
+use Rattle.draw_notice.specs.Call.{Call, causesOf, verdictOf, screenIn, drawingOf, rowsOf, answerOf, countsOf, cellsAfter, noticeAnswerNumber, noticeAnswerCounts}
 
--- causes come lowest first, and at no other time
+-- a call is refused if and only if a cause holds, and for the lowest such cause
 pub lowest-first : (most : Ceilings) (call : Call) → InOrder (causesOf most call)
 unfolding causesOf screenCauses textCauses
 lowest-first most call = in-order (causesOf most call) refl
 
 module _ (call : Call) where
-  -- the answer's number is the verdict's, and its counts are the call's
-  pub answer-number : drawnNumber (answerOf call) ≡ verdictNumber (verdictOf call)
+  pub answer-number : noticeAnswerNumber (answerOf call) ≡ verdictNumber (verdictOf call)
   unfolding answerOf
-  answer-number = answered-number Shown Refused drawnNumber (λ counts. refl) (λ why. refl) (verdictOf call) (rowsOf call)
+  answer-number = answered-number Counts Refused noticeAnswerNumber (λ counts. refl) (λ why. refl) (verdictOf call) (rowsOf call)
 
-  pub answer-counts : drawnCounts (answerOf call) ≡ countsOf call
+  pub answer-counts : noticeAnswerCounts (answerOf call) ≡ countsOf call
   unfolding answerOf countsOf
-  answer-counts = answered-value Shown Refused drawnCounts (λ counts. counts) noRows (λ counts. refl) (λ why. refl) (verdictOf call) (rowsOf call)
+  answer-counts = answered-value Counts Refused noticeAnswerCounts (λ counts. counts) noDrawCounts (λ counts. refl) (λ why. refl) (verdictOf call) (rowsOf call)
 
-  -- a refused call leaves all cells
+  -- a refused call leaves all cells unchanged
   pub refused-cells : (why : Refusal) → verdictOf call ≡ RefusedFor why → cellsAfter call ≡ call .cells
   unfolding cellsAfter
   refused-cells why e = rw e
 
-  -- what an accepted call knows of its inputs
+  -- an accepted call has valid inputs
   module _ (k : verdictOf call ≡ Accepted) where
     pub screen-right : screenWrong mostAccepted (call .columns) (call .rows) (length (call .cells)) ≡ false
     unfolding verdictOf causesOf screenCauses textCauses
     screen-right = no-cause (causesOf mostAccepted call) Screen k
 
-    pub text-sound : Sound (call .text)
+    pub text-sound : TextAccepted (call .text)
     unfolding verdictOf causesOf screenCauses textCauses
     text-sound =
         let causes = causesOf mostAccepted call in
@@ -69,21 +68,21 @@ module _ (call : Call) where
     pub screen-cells : HasCells (screenIn call) (length (call .cells))
     screen-cells = has-cells (call .columns) (call .rows) (length (call .cells)) screen-right
 
-  -- v is what the checks answered
+  -- v is the verdict of the checks
   module _ (v : Verdict) (e : v ≡ verdictOf call) where
     pub notice-refused : (why : Refusal) → v ≡ RefusedFor why → (Refused why ≡ answerOf call) × (call .cells ≡ cellsAfter call)
     unfolding answerOf cellsAfter
     notice-refused why r =
         let k : verdictOf call ≡ RefusedFor why = sym e ∙ r in
-        (answer-refused Shown Refused (verdictOf call) (rowsOf call) why k, left-refused (verdictOf call) (drawn (call .columns) (drawingOf call) (call .cells)) (call .cells) why k)
+        (answer-refused Counts Refused (verdictOf call) (rowsOf call) why k, left-refused (verdictOf call) (drawn (call .columns) (drawingOf call) (call .cells)) (call .cells) why k)
 
     module _ (a : v ≡ Accepted) where
-      pub notice-drawn : (r : Rows) (next : List ℕ) → r ≡ rowsOf call → next ≡ drawn (call .columns) (drawingOf call) (call .cells)
-          → (Shown r ≡ answerOf call) × (next ≡ cellsAfter call)
+      pub notice-drawn : (r : DrawCounts) (next : List ℕ) → r ≡ rowsOf call → next ≡ drawn (call .columns) (drawingOf call) (call .cells)
+          → (Counts r ≡ answerOf call) × (next ≡ cellsAfter call)
       unfolding answerOf cellsAfter
       notice-drawn r next c p =
           let k : verdictOf call ≡ Accepted = sym e ∙ a in
-          (answer-accepted Shown Refused (verdictOf call) (rowsOf call) k r c, left-accepted (verdictOf call) (drawn (call .columns) (drawingOf call) (call .cells)) (call .cells) k next p)
+          (answer-accepted Counts Refused (verdictOf call) (rowsOf call) k r c, left-accepted (verdictOf call) (drawn (call .columns) (drawingOf call) (call .cells)) (call .cells) k next p)
 
       pub few-columns : call .columns < 2 ^ 16
       few-columns = columns-fit (call .columns) (call .rows) (length (call .cells)) (screen-right (sym e ∙ a))

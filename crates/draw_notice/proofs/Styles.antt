@@ -1,4 +1,4 @@
--- Cause 6: of the notice's two numbers, then of the text's glyphs, then of the block and its titles.
+-- Cause 6: one law for each path through `style_numbers_wrong`.
 use Prim.Native.Nat.{ℕ, _≤_, _<_}
 use mathlib.Core.Path.{_≡_}
 use mathlib.Core.Bool.{Bool, true, false}
@@ -15,15 +15,15 @@ module _ (count : ℕ) (n : Notice) (text titles : List ℕ) where
   unfolding noticeStyles
   own-style h = rw (le-leb count (n .style) h)
 
-  module _ (own : n .style < count) where
+  module _ (default : n .style < count) where
     pub text-style : count ≤ n .«text_style» → true ≡ styleNumbersWrong count (noticeStyles n text titles)
     unfolding noticeStyles
-    text-style h = rw (lt-leb count (n .style) own, le-leb count (n .«text_style») h)
+    text-style h = rw (lt-leb count (n .style) default, le-leb count (n .«text_style») h)
 
     module _ (texts : n .«text_style» < count) where
       later : styleNumbersWrong count (noticeStyles n text titles) ≡ styleNumbersWrong count (glyphStyles text ++ frameStyles (n .block) titles)
       unfolding noticeStyles
-      later = rw (lt-leb count (n .style) own, lt-leb count (n .«text_style») texts)
+      later = rw (lt-leb count (n .style) default, lt-leb count (n .«text_style») texts)
 
       module _ (found : Bool) (e : found ≡ styleNumbersWrong count (glyphStyles text)) where
         pub glyph-style : found ≡ true → true ≡ styleNumbersWrong count (noticeStyles n text titles)

@@ -1,4 +1,4 @@
--- The call `draw_notice`: document 01, 'Why a call is refused', and what it answers and draws.
+-- Document 01, 'Why a call is refused': the causes, the answer and the drawing of the call `draw_notice`.
 use Prim.Native.Nat.{ℕ}
 use mathlib.Core.List.{List, [], _∷_, _++_}
 use lib.ListN.{length}
@@ -13,13 +13,13 @@ use Rattle.refuse.specs.Refusal.{Cause, _if_, firstCause, refusalNumber, answer
 use Rattle.refuse.specs.Causes.{mostAccepted, screenCauses, textCauses, titlesWrong, glyphStyles, styleNumbersWrong, symbolsWrong}
 use Rattle.block.specs.Causes.{blockSymbols}
 use Rattle.check_block.specs.Styles.{frameStyles}
-use Rattle.rows.specs.declared.Rows.{Rows}
+use Rattle.render_lines.specs.declared.DrawCounts.{DrawCounts}
 use Rattle.paragraph.specs.declared.Notice.{Notice}
-use Rattle.paragraph.specs.Notice.{noticeOf, noticeCounts, noRows}
-use Rattle.draw_notice.specs.declared.Drawn.{Drawn}
-use Rattle.draw_notice.specs.declared.Drawn.the-variants.{Shown, Refused}
+use Rattle.paragraph.specs.Notice.{noticeOf, noticeCounts, noDrawCounts}
+use Rattle.draw_notice.specs.declared.NoticeAnswer.{NoticeAnswer}
+use Rattle.draw_notice.specs.declared.NoticeAnswer.the-variants.{Counts, Refused}
 
--- what the call gets, with the cells as they were found
+-- inputs of the call; `cells` before the call
 pub record Call : Type 0 where
   pub columns : ℕ
   pub rows : ℕ
@@ -43,11 +43,11 @@ callOf columns rows cells styles text titles area notice =
       notice = notice;
     }
 
--- the style numbers that a notice gives: its own, its text's, its glyphs', and those of its block and of the titles' glyphs
+-- all style numbers of a notice: its own, the text's, the text glyphs', the block's and the title glyphs'
 unfoldable pub noticeStyles : Notice → List ℕ → List ℕ → List ℕ
 noticeStyles n text titles = (n .style ∷ n .«text_style» ∷ glyphStyles text) ++ frameStyles (n .block) titles
 
--- its causes: 1, 2, 3, 4, 5, 6, 7
+-- causes 1 to 7
 unfoldable pub causesOf : Ceilings → Call → List Cause
 causesOf most call =
     screenCauses most (call .columns) (call .rows) (length (call .cells)) (call .styles)
@@ -60,33 +60,31 @@ causesOf most call =
 unfoldable pub verdictOf : Call → Verdict
 verdictOf call = firstCause (causesOf mostAccepted call)
 
--- what is drawn where it is accepted, and counted
 abbrev pub screenIn : Call → ScreenSize
 screenIn call = screenOf (call .columns) (call .rows)
 
 unfoldable pub drawingOf : Call → Drawing
 drawingOf call = noticeOf (call .styles) (screenIn call) (call .text) (call .titles) (call .notice) (call .area)
 
-unfoldable pub rowsOf : Call → Rows
+unfoldable pub rowsOf : Call → DrawCounts
 rowsOf call = noticeCounts (screenIn call) (call .text) (call .titles) (call .notice) (call .area)
 
--- its answer: the rows drawn, the glyphs placed and clipped, or why nothing is drawn
-unfoldable pub answerOf : Call → Drawn
-answerOf call = answering Shown Refused (verdictOf call) (rowsOf call)
+unfoldable pub answerOf : Call → NoticeAnswer
+answerOf call = answering Counts Refused (verdictOf call) (rowsOf call)
 
--- its counts, "number, counts 0" where it is refused
-unfoldable pub countsOf : Call → Rows
-countsOf call = unlessRefused (verdictOf call) (rowsOf call) noRows
+-- the counts in the answer: "number, counts 0" if refused
+unfoldable pub countsOf : Call → DrawCounts
+countsOf call = unlessRefused (verdictOf call) (rowsOf call) noDrawCounts
 
--- the cells after it: the notice drawn on them, or, where the call is refused, "all cells" left
+-- the cells after the call; a refused one leaves "all cells"
 unfoldable pub cellsAfter : Call → List ℕ
 cellsAfter call = unlessRefused (verdictOf call) (drawn (call .columns) (drawingOf call) (call .cells)) (call .cells)
 
--- what an answer says: the table's number, 0 where the notice is drawn, and the counts
-abbrev pub drawnNumber : Drawn → ℕ
-drawnNumber (Shown counts) = 0
-drawnNumber (Refused why) = refusalNumber why
+-- an answer as document 01's number, 0 if accepted, and counts
+abbrev pub noticeAnswerNumber : NoticeAnswer → ℕ
+noticeAnswerNumber (Counts counts) = 0
+noticeAnswerNumber (Refused why) = refusalNumber why
 
-abbrev pub drawnCounts : Drawn → Rows
-drawnCounts (Shown counts) = counts
-drawnCounts (Refused why) = noRows
+abbrev pub noticeAnswerCounts : NoticeAnswer → DrawCounts
+noticeAnswerCounts (Counts counts) = counts
+noticeAnswerCounts (Refused why) = noDrawCounts

@@ -1,4 +1,4 @@
-// The call `draw_notice`.
+// The call `draw_notice`: checks its inputs, then draws.
 use buffer::Screen;
 use check_settings::screen;
 use layout::Rect;
@@ -6,18 +6,18 @@ use paragraph::Notice;
 use refuse::ACCEPTED;
 use refuse::Refusal;
 use refuse::Verdict;
-use rows::Rows;
+use render_lines::DrawCounts;
 ghost use mathlib.Core.Path.{_≡_};
 ghost use Rattle.refuse.specs.Causes.{styleNumbersWrong};
 ghost use Rattle.draw_notice.specs.Call.{callOf, noticeStyles, verdictOf, answerOf, cellsAfter};
 
-// What the call answers: the rows drawn and the glyphs placed and clipped, or why nothing is drawn.
-pub enum Drawn {
-    Shown(Rows),
+// Answer of the call: the counts, or the reason for the refusal.
+pub enum NoticeAnswer {
+    Counts(DrawCounts),
     Refused(Refusal),
 }
 
-// 6: a style number of the notice, of its text's glyphs, of its block or of a title's glyph that isn't below the count of styles.
+// Whether a style number of the notice, a text glyph, the block or a title glyph isn't below the count of styles (cause 6).
 fn style_numbers_wrong(count: usize, text: &[u32], titles: &[u32], notice: Notice) -> bool
     ensures { λ r. ⌜ r ≡ styleNumbersWrong count (noticeStyles notice (now (text .entry)) (now (titles .entry))) ⌝ }
 {
@@ -33,8 +33,8 @@ fn style_numbers_wrong(count: usize, text: &[u32], titles: &[u32], notice: Notic
     check_block::style_numbers_wrong(count, titles, notice.block)
 }
 
-// What the call is refused for.
-fn verdict(
+// Returns the verdict of the call's checks, lowest cause first.
+fn draw_notice_verdict(
     columns: u32,
     rows: u32,
     cells: &[u64],
@@ -68,7 +68,7 @@ fn verdict(
     Verdict::Accepted
 }
 
-// Draws a notice: causes 1 to 7. A refused call changes no cell.
+// Draws a notice (paragraph.rs: `Paragraph::render`). Refused for causes 1 to 7; a refused call changes no cell.
 pub fn draw_notice(
     columns: u32,
     rows: u32,
@@ -78,19 +78,19 @@ pub fn draw_notice(
     titles: &[u32],
     area: Rect,
     notice: Notice,
-) -> Drawn
+) -> NoticeAnswer
     ensures { λ r.
         let call = callOf columns rows (now (cells .entry)) (now (styles .entry)) (now (text .entry)) (now (titles .entry)) area notice in
         ⌜ (r ≡ answerOf call) × (now (cells .exit) ≡ cellsAfter call) ⌝ }
 {
-    let checked = verdict(columns, rows, cells, styles, text, titles, area, notice);
+    let checked = draw_notice_verdict(columns, rows, cells, styles, text, titles, area, notice);
     if let Verdict::Refused(why) = checked {
-        return Drawn::Refused(why);
+        return NoticeAnswer::Refused(why);
     }
     let screen = Screen {
         columns: columns as u16,
         rows: rows as u16,
     };
-    let counts = paragraph::draw_on(screen, cells, styles, text, titles, area, notice);
-    Drawn::Shown(counts)
+    let counts = paragraph::render(screen, cells, styles, text, titles, area, notice);
+    NoticeAnswer::Counts(counts)
 }

@@ -4,10 +4,10 @@ use mathlib.Core.Path.{_≡_, refl}
 use native.Mathlib.Omega.{arith}
 use Rattle.text.specs.Alignment.{alignmentNumber}
 use Rattle.text.proofs.Resolving.{alignment-small}
-use Rattle.compose.specs.declared.Composed.{Composed}
+use Rattle.line_composer.specs.declared.WrappedLine.{WrappedLine}
 use Rattle.entry.specs.Entry.{entryPacked, entryFirst, entryEnd, entryWidth, entryAlignment}
 
--- fields of so many bits come back from an entry
+-- fields within their bits are unpacked unchanged
 module _ (first end width alignment : ℕ) (e : end < 2 ^ 15) (w : width < 2 ^ 16) (a : alignment < 4) where
   abbrev entry : ℕ
   entry = first * 2 ^ 49 + end * 2 ^ 34 + width * 2 ^ 18 + alignment * 2 ^ 16
@@ -24,8 +24,8 @@ module _ (first end width alignment : ℕ) (e : end < 2 ^ 15) (w : width < 2 ^ 1
   alignment-back : entry / 2 ^ 16 % 2 ^ 2 ≡ alignment
   alignment-back = let q : entry / 2 ^ 16 ≡ first * 2 ^ 33 + end * 2 ^ 18 + width * 2 ^ 2 + alignment = omega arith in omega arith
 
--- what an entry holds is what is told of its line; the list call packs no line whose fields are larger
-pub entry-fields : (c : Composed) → c .end < 2 ^ 15 → c .width < 2 ^ 16
+-- the fields of an entry are those of its line; the list call packs no line with larger fields
+pub entry-fields : (c : WrappedLine) → c .end < 2 ^ 15 → c .width < 2 ^ 16
     → (entryFirst (entryPacked c) ≡ c .first) × (entryEnd (entryPacked c) ≡ c .end) × (entryWidth (entryPacked c) ≡ c .width) × (entryAlignment (entryPacked c) ≡ alignmentNumber (c .alignment))
 unfolding entryPacked
 entry-fields c e w =

@@ -1,18 +1,18 @@
 -- Document 01, 'Packed fields': the entry of a composed line, most significant bit first.
 use Prim.Native.Nat.{ℕ, _+_, _*_, _/_, _%_, _^_}
 use Rattle.text.specs.Alignment.{alignmentNumber}
-use Rattle.compose.specs.declared.Composed.{Composed}
-use Rattle.compose.specs.Lines.{Line, composedOf}
+use Rattle.line_composer.specs.declared.WrappedLine.{WrappedLine}
+use Rattle.line_composer.specs.Lines.{Line, wrappedLineOf}
 
 -- "Composed line, 64 bits: first 15 | end 15 | width 16 | alignment 2 (resolved) | 16 zeros."
-unfoldable pub entryPacked : Composed → ℕ
+unfoldable pub entryPacked : WrappedLine → ℕ
 entryPacked c = c .first * 2 ^ 49 + c .end * 2 ^ 34 + c .width * 2 ^ 18 + alignmentNumber (c .alignment) * 2 ^ 16
 
--- the entry of a composed line
+-- entry of a composed line
 unfoldable pub listed : Line → ℕ
-listed line = entryPacked (composedOf line)
+listed line = entryPacked (wrappedLineOf line)
 
--- the fields of an entry
+-- fields of an entry
 abbrev pub entryFirst : ℕ → ℕ
 entryFirst e = e / 2 ^ 49
 

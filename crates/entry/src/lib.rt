@@ -1,17 +1,17 @@
-// The entry of a composed line, 64 bits: first 15 | end 15 | width 16 | alignment 2 | 16 zeros.
-use compose::Composed;
+// Entry of a composed line, 64 bits: first 15 | end 15 | width 16 | alignment 2 | 16 zeros.
+use line_composer::WrappedLine;
 ghost use mathlib.Core.Path.{_≡_};
 ghost use Prim.Native.Nat.{_<_, _^_};
 ghost use Rattle.entry.specs.Entry.{entryFirst, entryEnd, entryWidth, entryAlignment, entryPacked};
 
-// How many values a field takes.
+// Number of values of a field.
 const RECORDS: u64 = 1 << 15;
 
 const WIDTHS: u64 = 1 << 16;
 
 const ALIGNMENTS: u64 = 1 << 2;
 
-// Where a field stands: what a 1 in it comes to. The zeros stand below the alignment.
+// Place value of a field's lowest bit. The zeros are below the alignment.
 const FIRST_PLACE: u64 = 1 << 49;
 
 const END_PLACE: u64 = 1 << 34;
@@ -44,8 +44,8 @@ pub fn alignment(entry: u64) -> u64
     entry / ALIGNMENT_PLACE % ALIGNMENTS
 }
 
-// The entry of a composed line.
-pub fn pack(line: Composed) -> u64
+// Packs a composed line into an entry.
+pub fn pack(line: WrappedLine) -> u64
     requires { ⌜ (line .first < 2 ^ 15) × (line .end < 2 ^ 15) × (line .width < 2 ^ 16) ⌝ }
     ensures { λ r. ⌜ r ≡ entryPacked line ⌝ }
 {

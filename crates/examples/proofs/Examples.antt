@@ -1,6 +1,6 @@
--- Theorem `examples`: the eleven cases of document 01's 'Small notices by hand' that are marked *, by computation. The record 0 of
--- each text is its head, so `glyphs 4 "abc"` are its fourth to sixth letters. Where a case doesn't say whether lines are trimmed, it
--- holds both ways.
+-- Theorem `examples`: the eleven cases of document 01's 'Small notices by hand' that are marked *, by computation. Record 0 of
+-- each text is its head, so `glyphs 4 "abc"` are its fourth to sixth letters. Cases that don't say whether lines are trimmed hold
+-- for both.
 use Prim.Native.Nat.{ℕ}
 use mathlib.Core.Path.{_≡_, refl}
 use mathlib.Core.Bool.{Bool, true, false}
@@ -10,8 +10,8 @@ use Rattle.block.specs.declared.Block.{Block}
 use Rattle.padding.specs.Padding.{paddingOf}
 use Rattle.block.specs.Inner.{innerOf}
 use Rattle.wrapping.specs.Wrapping.{overWide, mustJoin, takesSpaces, gathered, joined, unjoined, full, emptied, drops, appended, _then_, joinStep, emitStep, appendStep, step, lastLines, wrap}
-use Rattle.compose.specs.Lines.{linesOf, lineLines, lines, composedOf}
-use Rattle.compose.specs.Places.{clipped}
+use Rattle.line_composer.specs.Lines.{linesOf, lineLines, lines, wrappedLineOf}
+use Rattle.line_composer.specs.Places.{isClipped}
 use Rattle.render_line.specs.RenderLine.{lineOffset}
 use Rattle.block.proofs.Examples.{rect, fourBorders, four-borders}
 use Rattle.examples.specs.Notation.{glyphs, wrapped, widths, clippedOf}
@@ -37,7 +37,7 @@ pub record Examples : Type 0 where
   pub inner : (b : Block) (titles : List ℕ) → b .borders ≡ fourBorders → b .padding ≡ paddingOf 0 0 0 0 → innerOf b titles (rect 0 0 1 1) ≡ rect 1 1 0 0
 
 pub examples : Examples
-unfolding overWide mustJoin takesSpaces gathered joined unjoined full emptied drops appended _then_ joinStep emitStep appendStep step lastLines wrap linesOf lineLines lines composedOf clipped lineOffset
+unfolding overWide mustJoin takesSpaces gathered joined unjoined full emptied drops appended _then_ joinStep emitStep appendStep step lastLines wrap linesOf lineLines lines wrappedLineOf isClipped lineOffset
 examples =
     record {
       leading-trimmed = refl;

@@ -1,5 +1,5 @@
--- A worked notice of demand 3: it meets what the theorem `pages` asks, so that the theorem speaks of something, and what the theorem
--- says of it is what one writes down by hand.
+-- A worked notice of demand 3: it meets the premises of the theorem `pages`, so these can be met, and the theorem gives the pages
+-- that one writes down by hand.
 use Prim.Native.Nat.{ℕ}
 use Prim.Native.Char.{Char, code}
 use mathlib.Core.Path.{_≡_, refl, _∙_}
@@ -18,11 +18,11 @@ use Rattle.block.specs.Causes.{blockStyles, borderSymbols, blockSymbols}
 use Rattle.block.specs.Inner.{hasTitleAt, innerOf}
 use Rattle.block.proofs.Examples.{rect, fourBorders}
 use Rattle.wrapping.specs.Wrapping.{overWide, mustJoin, takesSpaces, gathered, joined, unjoined, full, emptied, drops, appended, _then_, joinStep, emitStep, appendStep, step, lastLines, wrap}
-use Rattle.compose.specs.Lines.{linesOf, lineLines, lines}
-use Rattle.compose.specs.Places.{placed}
+use Rattle.line_composer.specs.Lines.{linesOf, lineLines, lines}
+use Rattle.line_composer.specs.Places.{isPlaced}
 use Rattle.check_block.specs.Styles.{frameStyles}
 use Rattle.render_line.specs.RenderLine.{lineOffset, drawnStarts}
-use Rattle.compose.specs.declared.Wrap.the-variants.{On}
+use Rattle.line_composer.specs.declared.Wrap.the-variants.{On}
 use Rattle.paragraph.specs.Notice.{noticeLines, innerAreaOf}
 use Rattle.draw_notice.specs.Call.{Call, noticeStyles, causesOf, verdictOf}
 use Rattle.pages.specs.Pages.{innerArea, composedLines, placementOf, placements}
@@ -30,7 +30,7 @@ use Rattle.pages.specs.Reading.{Seen, OneCell, WrappedNotice, pagesRead}
 use Rattle.pages.proofs.Pages.{pages}
 use Rattle.examples.specs.Notation.{packedGlyphs}
 
--- a frame of the symbol x, with nothing else set
+-- a block with four borders of the symbol x and nothing else
 abbrev pub framed : Block
 framed =
     let x = code "x" in
@@ -56,7 +56,7 @@ framed =
       shadow = Absent;
     }
 
--- "ab_c_de" in a frame of 4 columns and 4 rows, trimmed, its line aligned as the notice is, to the right: its pages are
+-- "ab_c_de" in a frame of 4 columns and 4 rows, trimmed, right-aligned by the default alignment. Its pages:
 --
 --     xxxx  xxxx
 --     xabx  xdex
@@ -87,5 +87,5 @@ on page row column symbol = record { page = page; row = row; column = column; sy
 
 -- each letter's page, row and column
 pub worked-pages : pagesRead worked ≡ on 0 1 1 "a" ∷ on 0 1 2 "b" ∷ on 0 2 2 "c" ∷ on 1 1 1 "d" ∷ on 1 1 2 "e" ∷ []
-unfolding overWide mustJoin takesSpaces gathered joined unjoined full emptied drops appended _then_ joinStep emitStep appendStep step lastLines wrap linesOf lineLines lines placed lineOffset drawnStarts hasTitleAt innerOf noticeLines innerAreaOf innerArea composedLines placementOf placements
+unfolding overWide mustJoin takesSpaces gathered joined unjoined full emptied drops appended _then_ joinStep emitStep appendStep step lastLines wrap linesOf lineLines lines isPlaced lineOffset drawnStarts hasTitleAt innerOf noticeLines innerAreaOf innerArea composedLines placementOf placements
 worked-pages = pages worked accepted one-cell .places ∙ refl

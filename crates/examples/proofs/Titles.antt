@@ -47,7 +47,7 @@ bare =
       shadow = Absent;
     }
 
--- the symbols of a row of so many blank cells, after the titles are drawn on it
+-- the symbols of a row of blank cells, given its width, after the titles are drawn on it
 abbrev pub shown : ℕ → List ℕ → List ℕ
 shown width records =
     map (λ (cell : ℕ). cellFrom cell .symbol)

@@ -9,15 +9,15 @@ use Rattle.text.specs.declared.Alignment.the-variants.{Left}
 use Rattle.text.specs.Record.{glyphRecord, headRecord}
 use Rattle.text.specs.Line.{Glyph, numbered, startsFrom}
 use Rattle.cell.specs.Cell.{blankSymbol}
-use Rattle.compose.specs.declared.Method.the-variants.{Wrapped}
-use Rattle.compose.specs.Lines.{Line, lines, composedOf}
-use Rattle.compose.specs.Places.{clipped}
+use Rattle.line_composer.specs.declared.Method.the-variants.{WordWrap}
+use Rattle.line_composer.specs.Lines.{Line, lines, wrappedLineOf}
+use Rattle.line_composer.specs.Places.{isClipped}
 use Rattle.wrapping.specs.Rule.{ruleOf}
 
 abbrev pub is : Char → Char → Bool
 is a b = eqb (code a) (code b)
 
--- a glyph's packed record: its symbol, its width, whether it is whitespace, and style 0
+-- the packed record of a letter, in style 0
 abbrev pub packedGlyph : Char → ℕ
 packedGlyph c =
     glyphRecord
@@ -30,22 +30,22 @@ abbrev pub packedGlyphs : String → List ℕ
 packedGlyphs [] = []
 packedGlyphs (c ∷ letters) = packedGlyph c ∷ packedGlyphs letters
 
--- a text of one line, its head of alignment 0: the head is record 0, and the first letter record 1
+-- a text of one line of alignment 0: the head is record 0, the first letter record 1
 abbrev pub textOf : String → List ℕ
 textOf letters = headRecord 0 0 ∷ packedGlyphs letters
 
--- letters as the glyphs of a text's line, the first being the record of the number given
+-- letters as glyphs of a text, the first with the record number given
 abbrev pub glyphs : ℕ → String → List Glyph
 glyphs number letters = numbered number (packedGlyphs letters)
 
--- the glyphs of the text's composed lines
+-- the glyphs of each composed line
 abbrev pub wrapped : ℕ → Bool → String → List (List Glyph)
-wrapped limit trim letters = map (λ (line : Line). line .glyphs) (lines (ruleOf limit trim) Wrapped Left (textOf letters))
+wrapped limit trim letters = map (λ (line : Line). line .glyphs) (lines (ruleOf limit trim) WordWrap Left (textOf letters))
 
--- the widths that are told of them
+-- the widths of the composed lines
 abbrev pub widths : ℕ → Bool → String → List ℕ
-widths limit trim letters = map (λ (line : Line). composedOf line .width) (lines (ruleOf limit trim) Wrapped Left (textOf letters))
+widths limit trim letters = map (λ (line : Line). wrappedLineOf line .width) (lines (ruleOf limit trim) WordWrap Left (textOf letters))
 
 -- which glyphs of a line are clipped
 abbrev pub clippedOf : ℕ → List Glyph → List Bool
-clippedOf limit line = map (clipped limit) (startsFrom 0 line)
+clippedOf limit line = map (isClipped limit) (startsFrom 0 line)

@@ -1,4 +1,4 @@
--- What a number names: one law for each way through the code.
+-- The case that a number names: one law for each path through the code.
 use Prim.Native.Nat.{ℕ}
 use mathlib.Core.Path.{_≡_}
 use mathlib.Core.Bool.{Bool, true, false, _&&_, or-true}
@@ -14,12 +14,12 @@ use Rattle.block.specs.declared.Borders.{Borders}
 use Rattle.block.specs.declared.Effect.the-variants.{Overlay, Symbol}
 use Rattle.block.specs.declared.Shadow.{Shadow}
 use Rattle.block.specs.declared.Shadow.the-variants.{Absent, Present}
-use Rattle.compose.specs.declared.Wrap.{Wrap}
-use Rattle.compose.specs.declared.Wrap.the-variants.{On, Off}
+use Rattle.line_composer.specs.declared.Wrap.{Wrap}
+use Rattle.line_composer.specs.declared.Wrap.the-variants.{On, Off}
 use Rattle.block.specs.declared.Block.{Block}
 use Rattle.flat.specs.declared.FlatBlock.{FlatBlock}
 use Rattle.flat.specs.declared.FlatText.{FlatText}
-use Rattle.flat.specs.Flat.{unnamed, alignmentNamed, positionNamed, shadowNamed, wrapNamed, blockKnown, blockFrom, textKnown, noticeFrom}
+use Rattle.flat.specs.FlatExtra.{unnamed, alignmentNamed, positionNamed, shadowNamed, wrapNamed, blockKnown, blockFrom, textKnown, noticeFrom}
 
 module _ (n : ℕ) where
   pub named-left : n ≡ 0 → Left ≡ alignmentNamed n
@@ -69,7 +69,7 @@ module _ (b : FlatBlock) where
       unfolding blockKnown
       all-known t u = rw (← f, ← o, t, u)
 
-  -- its parts, put together
+  -- the block is assembled from its parts
   pub block-from : (borders : Borders) (alignment : Alignment) (position : TitlePosition) (shadow : Shadow)
       → borders ≡ blockFrom b .borders → alignment ≡ alignmentNamed (b .«titles_alignment») → position ≡ positionNamed (b .«titles_position»)
       → shadow ≡ blockFrom b .shadow
@@ -114,7 +114,7 @@ module _ (t : FlatText) where
 
 pub ruleset texts = (wrap-off, wrap-on, text-unknown, text-known)
 
--- both structs
+-- the settings of block and text together
 module _ (b : FlatBlock) (t : FlatText) (found : Bool) (e : found ≡ blockKnown b) where
   pub block-unknown : found ≡ false → false ≡ (blockKnown b && textKnown t)
   block-unknown f = rw (← e, f)

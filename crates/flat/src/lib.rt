@@ -1,20 +1,21 @@
-// The settings that callers without enums give: flat structs of numbers, and what each number names. include/notice.h says them in C.
+// Settings as flat structs of numbers, for callers without enums, and the case that each number names. include/notice.h
+// declares the structs in C.
 use block::Block;
 use block::BorderSet;
 use block::Borders;
 use block::Effect;
 use block::Shadow;
 use check_settings::styles;
-use compose::Wrap;
 use layout::Rect;
+use line_composer::Wrap;
 use padding::Padding;
 use paragraph::Notice;
 use text::Alignment;
 use text::TitlePosition;
 ghost use mathlib.Core.Path.{_≡_};
 ghost use mathlib.Core.Bool.{_&&_};
-ghost use Rattle.flat.specs.Flat.{unnamed, alignmentNamed, positionNamed, shadowNamed, wrapNamed};
-ghost use Rattle.flat.specs.Flat.{areaFrom, blockKnown, blockFrom, textKnown, noticeFrom};
+ghost use Rattle.flat.specs.FlatExtra.{unnamed, alignmentNamed, positionNamed, shadowNamed, wrapNamed};
+ghost use Rattle.flat.specs.FlatExtra.{areaFrom, blockKnown, blockFrom, textKnown, noticeFrom};
 
 // A rectangle.
 #[repr(C)]
@@ -25,8 +26,8 @@ pub struct FlatArea {
     pub height: u16,
 }
 
-// A block's settings. Borders: 0 no, 1 yes. Titles' alignment: 0 left, 1 centre, 2 right; position: 0 top, 1 bottom. Shadow: 0 none,
-// 1 an overlay, 2 a symbol.
+// Settings of a block. Borders: 0 absent, 1 present. Alignment of titles: 0 left, 1 centre, 2 right; position: 0 top, 1 bottom.
+// Shadow: 0 none, 1 overlay, 2 symbol.
 #[repr(C)]
 pub struct FlatBlock {
     pub top_left: u32,
@@ -57,8 +58,8 @@ pub struct FlatBlock {
     pub shadow_style: u8,
 }
 
-// What a notice has beside its block. Alignment: 0 left, 1 centre, 2 right. Wrap: 0 not wrapped, and scrolled to the right by `column`;
-// 1 wrapped, 2 wrapped and trimmed.
+// Settings of a notice other than its block. Alignment: 0 left, 1 centre, 2 right. Wrap: 0 unwrapped, scrolled right by `column`;
+// 1 wrapped; 2 wrapped and trimmed.
 #[repr(C)]
 pub struct FlatText {
     pub scroll: u16,
@@ -69,14 +70,14 @@ pub struct FlatText {
     pub wrap: u8,
 }
 
-// Of so many cases, numbered from 0, one of the numbers names none: as a style number does that isn't below the count of styles.
+// Whether any number isn't below the count of cases. It is the same test as that of style numbers against the count of styles.
 fn any_unnamed(cases: usize, numbers: &[u8]) -> bool
     ensures { λ r. ⌜ r ≡ unnamed cases (now (numbers .entry)) ⌝ }
 {
     styles::style_numbers_wrong(cases, numbers)
 }
 
-// The alignment of a number; one that names none is taken as the last.
+// Returns the alignment that a number names; numbers above 2 give the last.
 pub fn alignment_named(number: u8) -> Alignment
     ensures { λ r. ⌜ r ≡ alignmentNamed number ⌝ }
 {
@@ -89,7 +90,7 @@ pub fn alignment_named(number: u8) -> Alignment
     Alignment::Right
 }
 
-// The position of a number.
+// Returns the title position that a number names; numbers above 1 give the last.
 fn position_named(number: u8) -> TitlePosition
     ensures { λ r. ⌜ r ≡ positionNamed number ⌝ }
 {
@@ -99,7 +100,7 @@ fn position_named(number: u8) -> TitlePosition
     TitlePosition::Bottom
 }
 
-// The shadow of a number.
+// Returns the shadow that a number names; numbers above 2 give the last.
 fn shadow_named(kind: u8, symbol: u32, style: u8, x: i32, y: i32) -> Shadow
     ensures { λ r. ⌜ r ≡ shadowNamed kind symbol style x y ⌝ }
 {
@@ -136,7 +137,7 @@ impl FlatArea {
 }
 
 impl FlatBlock {
-    // Every number names a case.
+    // Whether every number names a case.
     pub fn is_known(self) -> bool
         ensures { λ r. ⌜ r ≡ blockKnown self ⌝ }
     {
@@ -158,7 +159,7 @@ impl FlatBlock {
         true
     }
 
-    // The borders that stand.
+    // Returns which borders are present.
     fn borders(self) -> Borders
         ensures { λ r. ⌜ r ≡ blockFrom self .borders ⌝ }
     {
@@ -170,7 +171,7 @@ impl FlatBlock {
         }
     }
 
-    // The block, where every number names a case.
+    // Converts known settings to a block.
     pub fn block(self) -> Block
         ensures { λ r. ⌜ r ≡ blockFrom self ⌝ }
     {
@@ -215,7 +216,7 @@ impl FlatBlock {
 }
 
 impl FlatText {
-    // Every number names a case.
+    // Whether every number names a case.
     pub fn is_known(self) -> bool
         ensures { λ r. ⌜ r ≡ textKnown self ⌝ }
     {
@@ -225,7 +226,7 @@ impl FlatText {
         true
     }
 
-    // How lines are composed.
+    // Returns how lines are composed.
     pub fn named_wrap(self) -> Wrap
         ensures { λ r. ⌜ r ≡ wrapNamed self ⌝ }
     {
@@ -239,7 +240,7 @@ impl FlatText {
         }
     }
 
-    // The notice with this block, where every number names a case.
+    // Converts known settings of text and block to a notice.
     pub fn notice(self, block: FlatBlock) -> Notice
         ensures { λ r. ⌜ r ≡ noticeFrom block self ⌝ }
     {
@@ -257,7 +258,7 @@ impl FlatText {
     }
 }
 
-// Every number of a notice's settings names a case.
+// Whether every number of a notice's settings names a case.
 pub fn all_known(block: FlatBlock, text: FlatText) -> bool
     ensures { λ r. ⌜ r ≡ (blockKnown block && textKnown text) ⌝ }
 {

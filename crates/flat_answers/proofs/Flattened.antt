@@ -1,24 +1,24 @@
--- The calls' answers as flat structs: one law for each of their cases.
+-- The calls' answers as flat structs: one law for each variant.
 use Prim.Native.Nat.{ℕ}
 use mathlib.Core.Path.{_≡_}
 use Rattle.layout.specs.declared.Rect.{Rect}
 use Rattle.refuse.specs.declared.Refusal.{Refusal}
 use Rattle.refuse.specs.Refusal.{refusalNumber}
-use Rattle.inner.specs.declared.InnerArea.{InnerArea}
-use Rattle.inner.specs.declared.InnerArea.the-variants.{Area, Refused as NoArea}
-use Rattle.lines.specs.declared.Listed.{Listed}
-use Rattle.lines.specs.declared.Listed.the-variants.{Written, Refused as NotListed}
-use Rattle.tally.specs.declared.Counts.{Counts}
-use Rattle.tally.specs.declared.Tallied.{Tallied}
-use Rattle.tally.specs.declared.Tallied.the-variants.{Counted, Refused as NotTallied}
-use Rattle.measure.specs.declared.Measured.{Measured}
-use Rattle.measure.specs.declared.Measured.the-variants.{Value, Refused as NotMeasured}
-use Rattle.rows.specs.declared.Rows.{Rows}
-use Rattle.draw_notice.specs.declared.Drawn.{Drawn}
-use Rattle.draw_notice.specs.declared.Drawn.the-variants.{Shown, Refused as NotDrawn}
-use Rattle.flat_answers.specs.Answer.{listFlat, tallyFlat, areaFlat, drawFlat, measureFlat}
+use Rattle.inner.specs.declared.InnerAnswer.{InnerAnswer}
+use Rattle.inner.specs.declared.InnerAnswer.the-variants.{Area, Refused as NoArea}
+use Rattle.list_lines.specs.declared.ListAnswer.{ListAnswer}
+use Rattle.list_lines.specs.declared.ListAnswer.the-variants.{Written, Refused as NotListed}
+use Rattle.tally.specs.declared.TallyCounts.{TallyCounts}
+use Rattle.tally.specs.declared.TallyAnswer.{TallyAnswer}
+use Rattle.tally.specs.declared.TallyAnswer.the-variants.{Counted, Refused as NotTallied}
+use Rattle.measure.specs.declared.MeasureAnswer.{MeasureAnswer}
+use Rattle.measure.specs.declared.MeasureAnswer.the-variants.{Value, Refused as NotMeasured}
+use Rattle.render_lines.specs.declared.DrawCounts.{DrawCounts}
+use Rattle.draw_notice.specs.declared.NoticeAnswer.{NoticeAnswer}
+use Rattle.draw_notice.specs.declared.NoticeAnswer.the-variants.{Counts, Refused as NotDrawn}
+use Rattle.flat_answers.specs.AnswerExtra.{listFlat, tallyFlat, areaFlat, drawFlat, measureFlat}
 
-module _ (a : Listed) where
+module _ (a : ListAnswer) where
   pub list-written : (count : ℕ) → a ≡ Written count → record { lines = count; number = 0 } ≡ listFlat a
   unfolding listFlat
   list-written count e = rw e
@@ -27,8 +27,8 @@ module _ (a : Listed) where
   unfolding listFlat
   list-refused why number e n = rw (e, n)
 
-module _ (a : Tallied) where
-  pub tally-counted : (c : Counts) → a ≡ Counted c
+module _ (a : TallyAnswer) where
+  pub tally-counted : (c : TallyCounts) → a ≡ Counted c
       → record { number = 0; lines = c .lines; placed = c .placed; clipped = c .clipped; «zero_width» = c .«zero_width»; «over_wide» = c .«over_wide»; dropped = c .dropped } ≡ tallyFlat a
   unfolding tallyFlat
   tally-counted c e = rw e
@@ -38,7 +38,7 @@ module _ (a : Tallied) where
   unfolding tallyFlat
   tally-refused why number e n = rw (e, n)
 
-module _ (a : InnerArea) where
+module _ (a : InnerAnswer) where
   pub area-there : (r : Rect) → a ≡ Area r → record { number = 0; x = r .x; y = r .y; width = r .width; height = r .height } ≡ areaFlat a
   unfolding areaFlat
   area-there r e = rw e
@@ -47,8 +47,8 @@ module _ (a : InnerArea) where
   unfolding areaFlat
   area-refused why number e n = rw (e, n)
 
-module _ (a : Drawn) where
-  pub draw-shown : (r : Rows) → a ≡ Shown r → record { number = 0; rows = r .rows; placed = r .placed; clipped = r .clipped } ≡ drawFlat a
+module _ (a : NoticeAnswer) where
+  pub draw-shown : (r : DrawCounts) → a ≡ Counts r → record { number = 0; rows = r .rows; placed = r .placed; clipped = r .clipped } ≡ drawFlat a
   unfolding drawFlat
   draw-shown r e = rw e
 
@@ -56,7 +56,7 @@ module _ (a : Drawn) where
   unfolding drawFlat
   draw-refused why number e n = rw (e, n)
 
-module _ (a : Measured) where
+module _ (a : MeasureAnswer) where
   pub measure-value : (value : ℕ) → a ≡ Value value → record { number = 0; value = value } ≡ measureFlat a
   unfolding measureFlat
   measure-value value e = rw e

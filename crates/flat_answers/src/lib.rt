@@ -1,24 +1,24 @@
-// The calls' answers as flat structs, and the structs.
-use notice::Drawn;
-use notice::Framed;
-use notice::InnerArea;
-use notice::Listed;
-use notice::Measured;
-use notice::Tallied;
+// The calls' answers as flat structs, for callers without enums.
+use notice::BlockAnswer;
+use notice::InnerAnswer;
+use notice::ListAnswer;
+use notice::MeasureAnswer;
+use notice::NoticeAnswer;
+use notice::TallyAnswer;
 ghost use mathlib.Core.Path.{_≡_};
-ghost use Rattle.draw_block.specs.Call.{framedNumber};
-ghost use Rattle.flat_answers.specs.Answer.{listFlat, tallyFlat, areaFlat, drawFlat, measureFlat};
+ghost use Rattle.draw_block.specs.Call.{blockAnswerNumber};
+ghost use Rattle.flat_answers.specs.AnswerExtra.{listFlat, tallyFlat, areaFlat, drawFlat, measureFlat};
 
-// Lines written, and 0 or the refusal's number.
+// Answer of a list call: count of lines written, and 0 or the number of the refusal.
 #[repr(C)]
-pub struct ListAnswer {
+pub struct FlatListAnswer {
     pub lines: usize,
     pub number: u32,
 }
 
-// 0 or the refusal's number, and the tally's counts.
+// Answer of a tally: 0 or the number of the refusal, and the counts.
 #[repr(C)]
-pub struct TallyAnswer {
+pub struct FlatTallyAnswer {
     pub number: u32,
     pub lines: u32,
     pub placed: u32,
@@ -28,9 +28,9 @@ pub struct TallyAnswer {
     pub dropped: u32,
 }
 
-// 0 or the refusal's number, and an inner area.
+// Answer of `inner`: 0 or the number of the refusal, and the inner area.
 #[repr(C)]
-pub struct AreaAnswer {
+pub struct FlatAreaAnswer {
     pub number: u32,
     pub x: u16,
     pub y: u16,
@@ -38,39 +38,39 @@ pub struct AreaAnswer {
     pub height: u16,
 }
 
-// 0 or the refusal's number, and the rows drawn, glyphs placed and clipped.
+// Answer of `draw_notice`: 0 or the number of the refusal, and the counts of rows drawn, glyphs placed and clipped.
 #[repr(C)]
-pub struct DrawAnswer {
+pub struct FlatDrawAnswer {
     pub number: u32,
     pub rows: u32,
     pub placed: u32,
     pub clipped: u32,
 }
 
-// 0 or the refusal's number, and a number of lines or columns.
+// Answer of `line_count` or `line_width`: 0 or the number of the refusal, and the count of lines or columns.
 #[repr(C)]
-pub struct MeasureAnswer {
+pub struct FlatMeasureAnswer {
     pub number: u32,
     pub value: u32,
 }
 
-pub fn list_answer(listed: Listed) -> ListAnswer
+pub fn list_answer(listed: ListAnswer) -> FlatListAnswer
     ensures { λ r. ⌜ r ≡ listFlat listed ⌝ }
 {
     match listed {
-        Listed::Written(lines) => ListAnswer { lines, number: 0 },
-        Listed::Refused(why) => ListAnswer {
+        ListAnswer::Written(lines) => FlatListAnswer { lines, number: 0 },
+        ListAnswer::Refused(why) => FlatListAnswer {
             lines: 0,
             number: why.number(),
         },
     }
 }
 
-pub fn tally_answer(tallied: Tallied) -> TallyAnswer
+pub fn tally_answer(tallied: TallyAnswer) -> FlatTallyAnswer
     ensures { λ r. ⌜ r ≡ tallyFlat tallied ⌝ }
 {
     match tallied {
-        Tallied::Counted(counts) => TallyAnswer {
+        TallyAnswer::Counted(counts) => FlatTallyAnswer {
             number: 0,
             lines: counts.lines,
             placed: counts.placed,
@@ -79,7 +79,7 @@ pub fn tally_answer(tallied: Tallied) -> TallyAnswer
             over_wide: counts.over_wide,
             dropped: counts.dropped,
         },
-        Tallied::Refused(why) => TallyAnswer {
+        TallyAnswer::Refused(why) => FlatTallyAnswer {
             number: why.number(),
             lines: 0,
             placed: 0,
@@ -91,18 +91,18 @@ pub fn tally_answer(tallied: Tallied) -> TallyAnswer
     }
 }
 
-pub fn area_answer(inner: InnerArea) -> AreaAnswer
+pub fn area_answer(inner: InnerAnswer) -> FlatAreaAnswer
     ensures { λ r. ⌜ r ≡ areaFlat inner ⌝ }
 {
     match inner {
-        InnerArea::Area(area) => AreaAnswer {
+        InnerAnswer::Area(area) => FlatAreaAnswer {
             number: 0,
             x: area.x,
             y: area.y,
             width: area.width,
             height: area.height,
         },
-        InnerArea::Refused(why) => AreaAnswer {
+        InnerAnswer::Refused(why) => FlatAreaAnswer {
             number: why.number(),
             x: 0,
             y: 0,
@@ -112,26 +112,26 @@ pub fn area_answer(inner: InnerArea) -> AreaAnswer
     }
 }
 
-pub fn framed_number(framed: Framed) -> u32
-    ensures { λ r. ⌜ r ≡ framedNumber framed ⌝ }
+pub fn framed_number(framed: BlockAnswer) -> u32
+    ensures { λ r. ⌜ r ≡ blockAnswerNumber framed ⌝ }
 {
     match framed {
-        Framed::Drawn => 0,
-        Framed::Refused(why) => why.number(),
+        BlockAnswer::Done => 0,
+        BlockAnswer::Refused(why) => why.number(),
     }
 }
 
-pub fn draw_answer(drawn: Drawn) -> DrawAnswer
+pub fn draw_answer(drawn: NoticeAnswer) -> FlatDrawAnswer
     ensures { λ r. ⌜ r ≡ drawFlat drawn ⌝ }
 {
     match drawn {
-        Drawn::Shown(rows) => DrawAnswer {
+        NoticeAnswer::Counts(rows) => FlatDrawAnswer {
             number: 0,
             rows: rows.rows,
             placed: rows.placed,
             clipped: rows.clipped,
         },
-        Drawn::Refused(why) => DrawAnswer {
+        NoticeAnswer::Refused(why) => FlatDrawAnswer {
             number: why.number(),
             rows: 0,
             placed: 0,
@@ -140,12 +140,12 @@ pub fn draw_answer(drawn: Drawn) -> DrawAnswer
     }
 }
 
-pub fn measure_answer(measured: Measured) -> MeasureAnswer
+pub fn measure_answer(measured: MeasureAnswer) -> FlatMeasureAnswer
     ensures { λ r. ⌜ r ≡ measureFlat measured ⌝ }
 {
     match measured {
-        Measured::Value(value) => MeasureAnswer { number: 0, value },
-        Measured::Refused(why) => MeasureAnswer {
+        MeasureAnswer::Value(value) => FlatMeasureAnswer { number: 0, value },
+        MeasureAnswer::Refused(why) => FlatMeasureAnswer {
             number: why.number(),
             value: 0,
         },

@@ -1,4 +1,4 @@
--- What the call `inner` answers; what its answers say in document 01's numbers; and that its causes come in order.
+-- The call `inner`: its answers, their numbers in document 01, and the order of its causes.
 use mathlib.Core.Path.{_≡_, refl, sym, _∙_}
 use Rattle.layout.specs.declared.Rect.{Rect}
 use Rattle.refuse.specs.declared.Ceilings.{Ceilings}
@@ -11,32 +11,32 @@ use Rattle.refuse.proofs.Calls.{answer-refused, answer-accepted, answered-numbe
 use Rattle.refuse.proofs.Lowest.{InOrder, in-order}
 use Rattle.block.specs.Inner.{innerOf}
 use Rattle.check_block.specs.Causes.{frameCauses}
-use Rattle.inner.specs.declared.InnerArea.the-variants.{Area, Refused}
-use Rattle.inner.specs.Call.{Call, causesOf, verdictOf, answerOf, noRect, innerNumber, innerRect, areaOf}
+use Rattle.inner.specs.declared.InnerAnswer.the-variants.{Area, Refused}
+use Rattle.inner.specs.Call.{Call, causesOf, verdictOf, answerOf, noRect, innerAnswerNumber, innerAnswerRect, areaOf}
 
--- causes come lowest first, and at no other time
+-- a cause that holds refuses the call, and a refusal names the lowest cause that holds
 pub lowest-first : (most : Ceilings) (call : Call) → InOrder (causesOf most call)
 unfolding causesOf frameCauses
 lowest-first most call = in-order (causesOf most call) refl
 
--- the answer's number is the verdict's, and its area the call's, four zeros where it is refused
+-- the answer's number is the verdict's; its area is the call's, four zeros if refused
 module _ (call : Call) where
   abbrev inside : Rect
   inside = innerOf (call .block) (call .titles) (call .area)
 
-  pub answer-number : innerNumber (answerOf call) ≡ verdictNumber (verdictOf call)
+  pub answer-number : innerAnswerNumber (answerOf call) ≡ verdictNumber (verdictOf call)
   unfolding answerOf
-  answer-number = answered-number Area Refused innerNumber (λ area. refl) (λ why. refl) (verdictOf call) inside
+  answer-number = answered-number Area Refused innerAnswerNumber (λ area. refl) (λ why. refl) (verdictOf call) inside
 
-  pub answer-rect : innerRect (answerOf call) ≡ areaOf call
+  pub answer-rect : innerAnswerRect (answerOf call) ≡ areaOf call
   unfolding answerOf areaOf
-  answer-rect = answered-value Area Refused innerRect (λ area. area) noRect (λ area. refl) (λ why. refl) (verdictOf call) inside
+  answer-rect = answered-value Area Refused innerAnswerRect (λ area. area) noRect (λ area. refl) (λ why. refl) (verdictOf call) inside
 
-  pub refused-rect : (why : Refusal) → verdictOf call ≡ RefusedFor why → innerRect (answerOf call) ≡ record { x = 0; y = 0; width = 0; height = 0 }
+  pub refused-rect : (why : Refusal) → verdictOf call ≡ RefusedFor why → innerAnswerRect (answerOf call) ≡ record { x = 0; y = 0; width = 0; height = 0 }
   unfolding answerOf
   refused-rect why e = rw e
 
-  -- v is what the checks answered
+  -- v is the verdict that the checks returned
   module _ (v : Verdict) (e : v ≡ firstCause (frameCauses mostAccepted (call .titles) (call .block))) where
     pub inner-refused : (why : Refusal) → v ≡ RefusedFor why → Refused why ≡ answerOf call
     unfolding verdictOf causesOf answerOf

@@ -1,4 +1,4 @@
--- The call `inner`: document 01, 'Why a call is refused', and what it answers.
+-- Document 01, 'Why a call is refused': the causes and the answer of the call `inner`.
 use Prim.Native.Nat.{ℕ}
 use mathlib.Core.List.{List}
 use Rattle.layout.specs.declared.Rect.{Rect}
@@ -9,10 +9,10 @@ use Rattle.refuse.specs.Causes.{mostAccepted}
 use Rattle.block.specs.declared.Block.{Block}
 use Rattle.block.specs.Inner.{innerOf}
 use Rattle.check_block.specs.Causes.{frameCauses}
-use Rattle.inner.specs.declared.InnerArea.{InnerArea}
-use Rattle.inner.specs.declared.InnerArea.the-variants.{Area, Refused}
+use Rattle.inner.specs.declared.InnerAnswer.{InnerAnswer}
+use Rattle.inner.specs.declared.InnerAnswer.the-variants.{Area, Refused}
 
--- what the call gets
+-- inputs of the call
 pub record Call : Type 0 where
   pub block : Block
   pub titles : List ℕ
@@ -21,29 +21,29 @@ pub record Call : Type 0 where
 abbrev pub callOf : Block → List ℕ → Rect → Call
 callOf block titles area = record { block = block; titles = titles; area = area }
 
--- its causes: 5, 7
+-- causes: 5, 7
 unfoldable pub causesOf : Ceilings → Call → List Cause
 causesOf most call = frameCauses most (call .titles) (call .block)
 
 unfoldable pub verdictOf : Call → Verdict
 verdictOf call = firstCause (causesOf mostAccepted call)
 
--- its answer: the inner area, or why there is none
-unfoldable pub answerOf : Call → InnerArea
+-- answer: the inner area, or the cause of refusal
+unfoldable pub answerOf : Call → InnerAnswer
 answerOf call = answering Area Refused (verdictOf call) (innerOf (call .block) (call .titles) (call .area))
 
--- four zeros where the call is refused, as counts are
+-- area of a refused call: four zeros, as its counts are
 abbrev pub noRect : Rect
 noRect = record { x = 0; y = 0; width = 0; height = 0 }
 
--- what an answer says: the table's number, 0 where the call is accepted, and the area
-abbrev pub innerNumber : InnerArea → ℕ
-innerNumber (Area area) = 0
-innerNumber (Refused why) = refusalNumber why
+-- number of an answer, 0 if the call is accepted, and its area
+abbrev pub innerAnswerNumber : InnerAnswer → ℕ
+innerAnswerNumber (Area area) = 0
+innerAnswerNumber (Refused why) = refusalNumber why
 
-abbrev pub innerRect : InnerArea → Rect
-innerRect (Area area) = area
-innerRect (Refused why) = noRect
+abbrev pub innerAnswerRect : InnerAnswer → Rect
+innerAnswerRect (Area area) = area
+innerAnswerRect (Refused why) = noRect
 
 unfoldable pub areaOf : Call → Rect
 areaOf call = unlessRefused (verdictOf call) (innerOf (call .block) (call .titles) (call .area)) noRect

@@ -7,18 +7,18 @@ use refuse::Verdict;
 ghost use mathlib.Core.Path.{_≡_};
 ghost use Rattle.inner.specs.Call.{callOf, answerOf};
 
-// What the call answers: the inner area, or why there is none.
-pub enum InnerArea {
+// Answer of the call: the inner area, or the cause of refusal.
+pub enum InnerAnswer {
     Area(Rect),
     Refused(Refusal),
 }
 
-// The inner area of a block: causes 5, 7.
-pub fn inner(block: Block, titles: &[u32], area: Rect) -> InnerArea
+// Returns the inner area of a block (block.rs: `Block::inner`). Refused for causes 5 and 7.
+pub fn inner(block: Block, titles: &[u32], area: Rect) -> InnerAnswer
     ensures { λ r. ⌜ r ≡ answerOf (callOf block (now (titles .entry)) area) ⌝ }
 {
     if let Verdict::Refused(why) = check_block::frame_verdict(ACCEPTED, titles, block) {
-        return InnerArea::Refused(why);
+        return InnerAnswer::Refused(why);
     }
-    InnerArea::Area(block.inner_area(titles, area))
+    InnerAnswer::Area(block.inner(titles, area))
 }

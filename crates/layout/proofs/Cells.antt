@@ -1,4 +1,4 @@
--- Whether a cell lies in a rectangle, one law for each way through the test.
+-- Whether a cell is in a rectangle, one law for each path through `contains`.
 use Prim.Native.Nat.{ℕ}
 use mathlib.Core.Path.{_≡_, _∙_}
 use mathlib.Core.Bool.{Bool, true, false}

@@ -1,4 +1,4 @@
--- What a rectangle has that isn't empty.
+-- A non-empty rectangle has a column and a row.
 use Prim.Native.Nat.{_<_}
 use mathlib.Core.Path.{_≡_}
 use mathlib.Core.Bool.{false}
@@ -9,7 +9,6 @@ use lib.Dec.{eqb}
 use Rattle.layout.specs.declared.Rect.{Rect}
 use Rattle.layout.specs.Rect.{isEmpty}
 
--- a rectangle that isn't empty has a column and a row
 pub not-empty : (r : Rect) → isEmpty r ≡ false → (0 < r .width) × (0 < r .height)
 not-empty r h =
     let sizes = or-eq-false-eq-eq-false-and-eq-false (eqb (r .width) 0) (eqb (r .height) 0) .0 h in

@@ -1,2 +1,2 @@
 pub mod Rect
-pub mod Biased
+pub mod BiasedExtra

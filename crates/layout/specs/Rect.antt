@@ -1,4 +1,4 @@
--- Document 01, 'Inner area and frame' and its shadow: rectangles, their sums and differences held in 16 bits.
+-- Document 01, 'Inner area and frame' and its shadow: rectangles, with sums and differences saturating in 16 bits.
 use Prim.Native.Nat.{ℕ, suc, _+_, _-_, min, max}
 use mathlib.Core.Bool.{Bool, _&&_, _||_}
 use lib.Dec.{eqb, leb, ltb}
@@ -23,19 +23,19 @@ meet a b =
       height = min (bottomOf a) (bottomOf b) - max (a .y) (b .y);
     }
 
--- its width or its height is 0
+-- width or height is 0
 abbrev pub isEmpty : Rect → Bool
 isEmpty r = eqb (r .width) 0 || eqb (r .height) 0
 
--- a number from the first on and before the end
+-- first ≤ n < end
 abbrev pub within : ℕ → ℕ → ℕ → Bool
 within first end n = leb first n && ltb n end
 
--- the cell at a column and a row lies in it
+-- whether the cell at a column and a row is in the rectangle
 abbrev pub contains : Rect → ℕ → ℕ → Bool
 contains r column row = within (r .x) (rightOf r) column && within (r .y) (bottomOf r) row
 
--- a place moved by a signed number, and held from 0 to the most given
+-- a coordinate moved by a signed offset, clamped from 0 to `most`
 abbrev pub moved : ℕ → ℤ → ℕ → ℕ
 moved place (pos n) most = min (place + n) most
 moved place (negsuc n) most = min (place - suc n) most

@@ -1,8 +1,8 @@
-// Rectangles of cells.
+// Rectangles of cells: `Rect` of ratatui-core.
 ghost use mathlib.Core.Path.{_≡_};
 ghost use Prim.Native.Nat.{_<_, _^_};
 ghost use Rattle.layout.specs.Rect.{rightOf, bottomOf, meet, isEmpty, within, contains, moved, offsetBy};
-ghost use Rattle.layout.specs.Biased.{biased};
+ghost use Rattle.layout.specs.BiasedExtra.{biased};
 
 pub struct Rect {
     pub x: u16,
@@ -12,21 +12,21 @@ pub struct Rect {
 }
 
 impl Rect {
-    // x + width, held at 65,535.
+    // Returns x + width, saturating at 65,535.
     pub fn right(self) -> u16
         ensures { λ r. ⌜ r ≡ rightOf self ⌝ }
     {
         num::saturating_add(self.x, self.width)
     }
 
-    // y + height, held at 65,535.
+    // Returns y + height, saturating at 65,535.
     pub fn bottom(self) -> u16
         ensures { λ r. ⌜ r ≡ bottomOf self ⌝ }
     {
         num::saturating_add(self.y, self.height)
     }
 
-    // The cells that two rectangles share: document 01's meeting.
+    // Returns the cells that two rectangles share: document 01's meeting.
     pub fn intersection(self, other: Rect) -> Rect
         ensures { λ r. ⌜ r ≡ meet self other ⌝ }
     {
@@ -42,14 +42,14 @@ impl Rect {
         }
     }
 
-    // Whether its width or its height is 0.
+    // Whether width or height is 0.
     pub fn is_empty(self) -> bool
         ensures { λ r. ⌜ r ≡ isEmpty self ⌝ }
     {
         self.width == 0 || self.height == 0
     }
 
-    // Whether the cell at a column and a row lies in it.
+    // Whether the cell at a column and a row is in the rectangle.
     pub fn contains(self, column: u16, row: u16) -> bool
         ensures { λ r. ⌜ r ≡ contains self column row ⌝ }
     {
@@ -58,7 +58,7 @@ impl Rect {
         in_columns && in_rows
     }
 
-    // Moved by two signed numbers, and kept from 0 to 65,535 less its size.
+    // Moves the rectangle by a signed offset, clamping x from 0 to 65,535 less width, and y from 0 to 65,535 less height.
     pub fn offset(self, x: i32, y: i32) -> Rect
         ensures { λ r. ⌜ r ≡ offsetBy self x y ⌝ }
     {
@@ -71,21 +71,21 @@ impl Rect {
     }
 }
 
-// Whether a number lies from the first on and before the end.
+// Whether first <= n < end.
 fn is_within(first: u16, end: u16, n: u16) -> bool
     ensures { λ r. ⌜ r ≡ within first end n ⌝ }
 {
     first <= n && n < end
 }
 
-// A signed number plus 2^31: the one place where a sign is read.
+// Returns a signed number plus 2^31, so that the rest is unsigned arithmetic.
 fn bias(by: i32) -> u64
     ensures { λ r. ⌜ (r ≡ biased by) × (r < 2 ^ 32) ⌝ }
 {
     ((by as i64) + 2147483648) as u64
 }
 
-// A place moved by a signed number, held from 0 to `most`.
+// Moves a coordinate by a signed offset, clamping it from 0 to `most`.
 fn move_by(place: u16, by: i32, most: u16) -> u16
     ensures { λ r. ⌜ r ≡ moved place by most ⌝ }
 {

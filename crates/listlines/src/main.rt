@@ -1,4 +1,4 @@
-// Lists the lines of the text that standard input holds.
+// Prints the composed lines of the text on standard input.
 fn main() {
-    listing::run(libc::STDIN_FILENO);
+    listlines_run::run(libc::STDIN_FILENO);
 }

@@ -1,4 +1,4 @@
--- What `line_count` and `line_width` add up fits 32 bits.
+-- The sums in `line_count` and `line_width` fit in 32 bits.
 use Prim.Native.Nat.{ℕ, suc, _+_, _*_, _≤_}
 use mathlib.Core.Path.{_≡_}
 use mathlib.Core.Bool.{Bool, true, false, cond}
@@ -10,18 +10,18 @@ use lib.ListN.{length}
 use Rattle.text.specs.declared.Alignment.the-variants.{Left}
 use Rattle.text.specs.Record.{isHead}
 use Rattle.text.specs.Line.{untilHead, linesFrom}
-use Rattle.refuse.proofs.Accepted.{Sound}
+use Rattle.refuse.proofs.Accepted.{TextAccepted}
 use Rattle.block.specs.declared.Block.{Block}
 use Rattle.block.specs.declared.Space.{Space}
 use Rattle.block.specs.Inner.{horizontalSpace, verticalSpace}
 use Rattle.wrapping.specs.Rule.{ruleOf}
-use Rattle.compose.specs.declared.Wrap.{Wrap}
-use Rattle.compose.specs.declared.Wrap.the-variants.{Off, On}
-use Rattle.compose.proofs.Bounds.{lines-short}
-use Rattle.measures.specs.Measures.{linesAt, both, widest}
-use Rattle.measures.proofs.Widening.{widest-narrow}
+use Rattle.line_composer.specs.declared.Wrap.{Wrap}
+use Rattle.line_composer.specs.declared.Wrap.the-variants.{Off, On}
+use Rattle.line_composer.proofs.Bounds.{lines-short}
+use Rattle.measure_text.specs.Measures.{linesAt, both, widest}
+use Rattle.measure_text.proofs.Widening.{widest-narrow}
 
--- records have no more text lines than there are of them
+-- a text has no more text lines than records
 pub text-lines-few : (i : ℕ) (rs : List ℕ) → length (linesFrom i rs) ≤ length rs
 text-lines-few i [] = omega arith
 text-lines-few i (r ∷ rs) = go (isHead r) (text-lines-few (suc i) rs)
@@ -31,13 +31,13 @@ text-lines-few i (r ∷ rs) = go (isHead r) (text-lines-few (suc i) rs)
     go true h = omega arith
     go false h = omega arith
 
--- nor lines of either kind
+-- wrapped or not, a text has no more lines than records
 lines-few : (wrap : Wrap) (width : ℕ) (text : List ℕ) → linesAt wrap width text ≤ length text
 unfolding linesAt
 lines-few (Off column) width text = text-lines-few 0 text
 lines-few (On trim) width text = lines-short (ruleOf width trim) Left text
 
--- each number of a space is held in 16 bits
+-- each number of a space is at most 65,535
 vertical-small : (b : Block) (titles : List ℕ) → both (verticalSpace b titles) ≤ 2 * 65535
 unfolding verticalSpace
 vertical-small b titles = omega arith
@@ -46,19 +46,19 @@ horizontal-small : (b : Block) → both (horizontalSpace b) ≤ 2 * 65535
 unfolding horizontalSpace
 horizontal-small b = omega arith
 
--- the numbers of `line_count`
+-- `line_count`
 module _ (b : Block) (titles : List ℕ) (wrap : Wrap) (width : ℕ) (text : List ℕ) (count : ℕ) (c : count ≡ linesAt wrap width text) where
-  pub count-fits : Sound text → Fits w32 count
+  pub count-fits : TextAccepted text → Fits w32 count
   count-fits sound = record { fits = omega (arith, sound .short, lines-few wrap width text) }
 
-  pub count-sum-fits : (taken : Space) (sum : ℕ) → taken ≡ verticalSpace b titles → sum ≡ both taken → Sound text → Fits w32 (count + sum)
+  pub count-sum-fits : (taken : Space) (sum : ℕ) → taken ≡ verticalSpace b titles → sum ≡ both taken → TextAccepted text → Fits w32 (count + sum)
   count-sum-fits taken sum t s sound =
       let few : sum ≤ 2 * 65535 = rw (s, t) (vertical-small b titles) in
       record { fits = omega (arith, sound .short, lines-few wrap width text) }
 
--- the number of `line_width`
+-- `line_width`
 pub width-sum-fits : (b : Block) (text : List ℕ) (line : ℕ) (taken : Space) (sum : ℕ) → line ≡ widest (linesFrom 0 text) → taken ≡ horizontalSpace b → sum ≡ both taken
-    → Sound text → Fits w32 (line + sum)
+    → TextAccepted text → Fits w32 (line + sum)
 width-sum-fits b text line taken sum l t s sound =
     let few : sum ≤ 2 * 65535 = rw (s, t) (horizontal-small b) in
     record { fits = omega (arith, sound .short, widest-narrow text) }

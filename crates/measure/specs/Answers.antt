@@ -1,14 +1,14 @@
--- What the calls `line_count` and `line_width` answer: a number of lines or of columns, or why there is none.
+-- Document 01, 'Why a call is refused': the answers of the calls `line_count` and `line_width`.
 use Prim.Native.Nat.{ℕ}
 use Rattle.refuse.specs.Refusal.{refusalNumber}
-use Rattle.measure.specs.declared.Measured.{Measured}
-use Rattle.measure.specs.declared.Measured.the-variants.{Value, Refused}
+use Rattle.measure.specs.declared.MeasureAnswer.{MeasureAnswer}
+use Rattle.measure.specs.declared.MeasureAnswer.the-variants.{Value, Refused}
 
--- what an answer says: the table's number, 0 where the call is accepted, and the value, 0 where it is refused
-abbrev pub measuredNumber : Measured → ℕ
-measuredNumber (Value value) = 0
-measuredNumber (Refused why) = refusalNumber why
+-- an answer as document 01's number, 0 if accepted, and value, 0 if refused
+abbrev pub measureAnswerNumber : MeasureAnswer → ℕ
+measureAnswerNumber (Value value) = 0
+measureAnswerNumber (Refused why) = refusalNumber why
 
-abbrev pub measuredValue : Measured → ℕ
-measuredValue (Value value) = value
-measuredValue (Refused why) = 0
+abbrev pub measureAnswerValue : MeasureAnswer → ℕ
+measureAnswerValue (Value value) = value
+measureAnswerValue (Refused why) = 0

@@ -1,4 +1,4 @@
--- The call `line_count`: document 01, 'Why a call is refused', and what it answers.
+-- Document 01, 'Why a call is refused': the causes and the answer of the call `line_count`.
 use Prim.Native.Nat.{ℕ}
 use mathlib.Core.List.{List, [], _∷_, _++_}
 use Rattle.refuse.specs.declared.Ceilings.{Ceilings}
@@ -7,13 +7,13 @@ use Rattle.refuse.specs.declared.Verdict.{Verdict}
 use Rattle.refuse.specs.Refusal.{Cause, _if_, firstCause, answering, unlessRefused}
 use Rattle.refuse.specs.Causes.{mostAccepted, limitWrong}
 use Rattle.block.specs.declared.Block.{Block}
-use Rattle.compose.specs.declared.Wrap.{Wrap}
-use Rattle.measures.specs.Measures.{lineCount}
+use Rattle.line_composer.specs.declared.Wrap.{Wrap}
+use Rattle.measure_text.specs.Measures.{lineCount}
 use Rattle.measure.specs.LineWidth as width
-use Rattle.measure.specs.declared.Measured.{Measured}
-use Rattle.measure.specs.declared.Measured.the-variants.{Value, Refused}
+use Rattle.measure.specs.declared.MeasureAnswer.{MeasureAnswer}
+use Rattle.measure.specs.declared.MeasureAnswer.the-variants.{Value, Refused}
 
--- what the call gets
+-- inputs of the call
 pub record Call : Type 0 where
   pub text : List ℕ
   pub titles : List ℕ
@@ -24,7 +24,7 @@ pub record Call : Type 0 where
 abbrev pub callOf : List ℕ → List ℕ → Block → Wrap → ℕ → Call
 callOf text titles block wrap width = record { text = text; titles = titles; block = block; wrap = wrap; width = width }
 
--- its causes: those of `line_width`, 3, 4, 5, 7, and 8, of "the width given to `line_count`"
+-- causes 3, 4, 5, 7, as for `line_width`, and 8, for "the width given to `line_count`"
 abbrev pub widthCall : Call → width.Call
 widthCall call = width.callOf (call .text) (call .titles) (call .block)
 
@@ -34,11 +34,10 @@ causesOf most call = width.causesOf most (widthCall call) ++ (Limit if limitWron
 unfoldable pub verdictOf : Call → Verdict
 verdictOf call = firstCause (causesOf mostAccepted call)
 
--- its answer: a number of lines, or why there is none
 abbrev pub countOf : Call → ℕ
 countOf call = lineCount (call .block) (call .titles) (call .wrap) (call .width) (call .text)
 
-unfoldable pub answerOf : Call → Measured
+unfoldable pub answerOf : Call → MeasureAnswer
 answerOf call = answering Value Refused (verdictOf call) (countOf call)
 
 unfoldable pub valueOf : Call → ℕ

@@ -1,4 +1,4 @@
--- The call `line_width`: document 01, 'Why a call is refused', and what it answers.
+-- Document 01, 'Why a call is refused': the causes and the answer of the call `line_width`.
 use Prim.Native.Nat.{ℕ}
 use mathlib.Core.List.{List, _++_}
 use Rattle.refuse.specs.declared.Ceilings.{Ceilings}
@@ -7,11 +7,11 @@ use Rattle.refuse.specs.Refusal.{Cause, firstCause, answering, unlessRefused}
 use Rattle.refuse.specs.Causes.{mostAccepted, textCauses}
 use Rattle.block.specs.declared.Block.{Block}
 use Rattle.check_block.specs.Causes.{frameCauses}
-use Rattle.measures.specs.Measures.{lineWidth}
-use Rattle.measure.specs.declared.Measured.{Measured}
-use Rattle.measure.specs.declared.Measured.the-variants.{Value, Refused}
+use Rattle.measure_text.specs.Measures.{lineWidth}
+use Rattle.measure.specs.declared.MeasureAnswer.{MeasureAnswer}
+use Rattle.measure.specs.declared.MeasureAnswer.the-variants.{Value, Refused}
 
--- what the call gets
+-- inputs of the call
 pub record Call : Type 0 where
   pub text : List ℕ
   pub titles : List ℕ
@@ -20,15 +20,14 @@ pub record Call : Type 0 where
 abbrev pub callOf : List ℕ → List ℕ → Block → Call
 callOf text titles block = record { text = text; titles = titles; block = block }
 
--- its causes: 3, 4, 5, 7
+-- causes 3, 4, 5, 7
 unfoldable pub causesOf : Ceilings → Call → List Cause
 causesOf most call = textCauses most (call .text) ++ frameCauses most (call .titles) (call .block)
 
 unfoldable pub verdictOf : Call → Verdict
 verdictOf call = firstCause (causesOf mostAccepted call)
 
--- its answer: a number of columns, or why there is none
-unfoldable pub answerOf : Call → Measured
+unfoldable pub answerOf : Call → MeasureAnswer
 answerOf call = answering Value Refused (verdictOf call) (lineWidth (call .block) (call .text))
 
 unfoldable pub valueOf : Call → ℕ

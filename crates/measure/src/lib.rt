@@ -1,7 +1,7 @@
-// How many rows and columns a notice needs: paragraph.rs' `line_count` and `line_width`.
+// The calls `line_count` and `line_width`: paragraph.rs: `Paragraph::line_count` and `Paragraph::line_width`.
 use block::Block;
 use check_settings::limits;
-use compose::Wrap;
+use line_composer::Wrap;
 use refuse::ACCEPTED;
 use refuse::Refusal;
 use refuse::Verdict;
@@ -9,14 +9,14 @@ ghost use mathlib.Core.Path.{_≡_};
 ghost use Rattle.measure.specs.LineWidth.{callOf as widthCall, verdictOf as widthVerdict, answerOf as widthAnswer};
 ghost use Rattle.measure.specs.LineCount.{callOf as countCall, verdictOf as countVerdict, answerOf as countAnswer};
 
-// What the calls answer: a number of lines or columns, or why there is none.
-pub enum Measured {
+// Answer of the calls: a number of lines or columns, or the reason for the refusal.
+pub enum MeasureAnswer {
     Value(u32),
     Refused(Refusal),
 }
 
-// What `line_width` is refused for.
-fn width_verdict(text: &[u32], titles: &[u32], block: Block) -> Verdict
+// Returns the verdict of `line_width`'s checks, lowest cause first.
+fn line_width_verdict(text: &[u32], titles: &[u32], block: Block) -> Verdict
     ensures { λ r. ⌜ r ≡ widthVerdict (widthCall (now (text .entry)) (now (titles .entry)) block) ⌝ }
 {
     if let Verdict::Refused(why) = check_records::text_verdict(ACCEPTED, text) {
@@ -25,11 +25,11 @@ fn width_verdict(text: &[u32], titles: &[u32], block: Block) -> Verdict
     check_block::frame_verdict(ACCEPTED, titles, block)
 }
 
-// What `line_count` is refused for.
-fn count_verdict(text: &[u32], titles: &[u32], block: Block, wrap: Wrap, width: u16) -> Verdict
+// Returns the verdict of `line_count`'s checks, lowest cause first.
+fn line_count_verdict(text: &[u32], titles: &[u32], block: Block, wrap: Wrap, width: u16) -> Verdict
     ensures { λ r. ⌜ r ≡ countVerdict (countCall (now (text .entry)) (now (titles .entry)) block wrap width) ⌝ }
 {
-    if let Verdict::Refused(why) = width_verdict(text, titles, block) {
+    if let Verdict::Refused(why) = line_width_verdict(text, titles, block) {
         return Verdict::Refused(why);
     }
     if limits::limit_wrong(ACCEPTED, width) {
@@ -38,26 +38,36 @@ fn count_verdict(text: &[u32], titles: &[u32], block: Block, wrap: Wrap, width: 
     Verdict::Accepted
 }
 
-// How many rows a text needs in a block, at a width that the frame doesn't take from: causes 3, 4, 5, 7, 8.
-pub fn line_count(text: &[u32], titles: &[u32], block: Block, wrap: Wrap, width: u16) -> Measured
+// Counts the rows that a text and its frame need; `width` isn't reduced by the frame. Refused for causes 3, 4, 5, 7 and 8.
+// (paragraph.rs: `Paragraph::line_count`)
+pub fn line_count(
+    text: &[u32],
+    titles: &[u32],
+    block: Block,
+    wrap: Wrap,
+    width: u16,
+) -> MeasureAnswer
     ensures { λ r. ⌜ r ≡ countAnswer (countCall (now (text .entry)) (now (titles .entry)) block wrap width) ⌝ }
 {
-    if let Verdict::Refused(why) = count_verdict(text, titles, block, wrap, width) {
-        return Measured::Refused(why);
+    if let Verdict::Refused(why) = line_count_verdict(text, titles, block, wrap, width) {
+        return MeasureAnswer::Refused(why);
     }
     if width == 0 {
-        return Measured::Value(0);
+        return MeasureAnswer::Value(0);
     }
-    let count = measures::lines_at(wrap, width, text);
-    Measured::Value(count as u32 + measures::both(block.vertical_space(titles)))
+    let count = measure_text::lines_at(wrap, width, text);
+    MeasureAnswer::Value(count as u32 + measure_text::both(block.vertical_space(titles)))
 }
 
-// The width of a text's widest line, with what a block takes at both sides: causes 3, 4, 5, 7.
-pub fn line_width(text: &[u32], titles: &[u32], block: Block) -> Measured
+// Returns the width of a text's widest line plus the block's horizontal space. Refused for causes 3, 4, 5 and 7.
+// (paragraph.rs: `Paragraph::line_width`)
+pub fn line_width(text: &[u32], titles: &[u32], block: Block) -> MeasureAnswer
     ensures { λ r. ⌜ r ≡ widthAnswer (widthCall (now (text .entry)) (now (titles .entry)) block) ⌝ }
 {
-    if let Verdict::Refused(why) = width_verdict(text, titles, block) {
-        return Measured::Refused(why);
+    if let Verdict::Refused(why) = line_width_verdict(text, titles, block) {
+        return MeasureAnswer::Refused(why);
     }
-    Measured::Value(measures::widest_line(text) + measures::both(block.horizontal_space()))
+    MeasureAnswer::Value(
+        measure_text::widest_line(text) + measure_text::both(block.horizontal_space()),
+    )
 }

@@ -1,6 +1,6 @@
--- accounted: whatever is asked of a glyph, as many of a text line's glyphs have it as of those emitted, dropped and over-wide.
--- accounted-lengths: so the glyphs emitted, dropped and over-wide are together as many as the text line's.
--- exactly-once: so every glyph of a text line is emitted, dropped or over-wide, and only once.
+-- accounted: for any test on glyphs, a text line has as many glyphs that pass as its emitted, dropped and over-wide ones have.
+-- accounted-lengths: the emitted, dropped and over-wide glyphs together are as many as the text line's.
+-- exactly-once: every glyph of a text line is emitted, dropped or over-wide, and only once.
 use Prim.Native.Nat.{ℕ, suc, _+_, _-_, _≤_, _<_}
 use mathlib.Core.Path.{_≡_, refl, sym, ap, _∙_}
 use mathlib.Core.Bool.{Bool, true, false, cond}
@@ -11,22 +11,22 @@ use lib.Dec.{eqb}
 use lib.ListN.{length}
 use Rattle.text.specs.Line.{Glyph, numbered, total}
 use Rattle.wrapping.specs.declared.Rule.{Rule}
-use Rattle.wrapping.specs.Wrapping.{Pending, Step, start, overWide, takesSpaces, gathered, joined, unjoined, emptied, appended, step, wrapFrom, wrap, overWides}
+use Rattle.wrapping.specs.Wrapping.{Pending, Step, emptyPending, overWide, takesSpaces, gathered, joined, unjoined, emptied, appended, step, wrapFrom, wrap, overWides}
 use Rattle.text.specs.Lists.{countOf}
 use Rattle.text.proofs.Lists.{count-append}
 use Rattle.nothing_lost.specs.Glyphs.{glyphsOfAll}
 use Rattle.text.proofs.Bools.{cases}
 use Rattle.nothing_lost.proofs.Lists.{glyphs-append}
-use Rattle.nothing_lost.proofs.Steps.{last-gathers, one-more, wraps}
+use Rattle.nothing_lost.proofs.Steps.{last-gathers, at-least-one-glyphs, wrap-from-empty}
 use Rattle.wrapping.proofs.Ways.{filled, appended-ways, filled-ways, step-ways}
 use Rattle.wrapping.proofs.Splits.{fitting-split}
 
 module _ (test : Glyph → Bool) where
-  -- those pending
+  -- pending glyphs that pass the test
   unfoldable held : Pending → ℕ
   held s = countOf test (s .row) + countOf test (s .spaces) + countOf test (s .word)
 
-  -- those of a step's lines, those that it drops and those pending after it
+  -- glyphs that pass, of a step's lines, of those it drops, and of those pending after it
   unfoldable after : Step → ℕ
   after t = countOf test (glyphsOfAll (t .lines)) + countOf test (t .dropped) + held (t .pending)
 
@@ -80,7 +80,7 @@ module _ (test : Glyph → Bool) where
   from-count u s (g ∷ gs) =
       simp (glyphs-append, count-append) (omega (arith, step-count u s g, over-first u g gs, from-count u (step u s g .pending) gs))
 
--- of each number a text line has one glyph
+-- test by record number: one glyph of a text line passes
 abbrev pub numberIs : ℕ → Glyph → Bool
 numberIs n g = eqb (g .number) n
 
@@ -104,12 +104,12 @@ module _ (u : Rule) (gs : List Glyph) (h : 0 < u .limit) where
   pub accounted : (test : Glyph → Bool) →
       countOf test (glyphsOfAll (wrap u gs .lines)) + countOf test (wrap u gs .dropped) + countOf test (overWides u gs) ≡ countOf test gs
   unfolding held
-  accounted test = rw (wraps u gs h, one-more) (omega (arith, from-count test u start gs))
+  accounted test = rw (wrap-from-empty u gs h, at-least-one-glyphs) (omega (arith, from-count test u emptyPending gs))
 
   pub accounted-lengths : length (glyphsOfAll (wrap u gs .lines)) + length (wrap u gs .dropped) + length (overWides u gs) ≡ length gs
   accounted-lengths = simp all-counted at (accounted (λ _. true))
 
--- so wrapping emits no more glyphs than a text line has; where the limit is 0, none
+-- wrapping emits no more glyphs than a text line has
 pub wrapped-few : (u : Rule) (gs : List Glyph) → length (glyphsOfAll (wrap u gs .lines)) ≤ length gs
 unfolding wrap
 wrapped-few u gs =

@@ -1,6 +1,6 @@
--- one-cell: where every glyph has one cell, no line is wider than the limit.
--- any-cells: where no glyph has more than 7, no line is wider than the limit and 13 more.
--- numbered-widths: no glyph of a record has more than 7, whatever the record's bits.
+-- one-cell: if every glyph has width 1, no line is wider than the limit.
+-- any-cells: if no glyph is wider than 7, no line is wider than the limit plus 13.
+-- numbered-widths: no glyph of a record is wider than 7, whatever the record's bits.
 use Prim.Native.Nat.{ℕ, suc, _+_, _-_, _≤_, _<_}
 use mathlib.Core.Path.{_≡_, refl, sym, ap, _∙_}
 use mathlib.Core.Bool.{Bool, true, false, cond, not, _&&_, _||_, true≢false, false≢true}
@@ -11,7 +11,7 @@ use lib.Dec.{eqb, leb, ltb}
 use Rattle.text.specs.Line.{Glyph, glyphFrom, numbered, total}
 use Rattle.text.proofs.Bools.{neither, cond-cases, cases}
 use Rattle.wrapping.specs.declared.Rule.{Rule}
-use Rattle.wrapping.specs.Wrapping.{Pending, Step, Wrapped, empty, start, overWide, mustJoin, takesSpaces, gathered, joined, full, fitting, afterFitting, emptied, appended, step, lastLines, atLeastOne, wrapFrom, wrap}
+use Rattle.wrapping.specs.Wrapping.{Pending, Step, Wrapped, empty, emptyPending, overWide, mustJoin, takesSpaces, gathered, joined, full, fitting, afterFitting, emptied, appended, step, lastLines, atLeastOne, wrapFrom, wrap}
 use Rattle.nothing_lost.specs.Glyphs.{Widths, NoWider, none, one}
 use Rattle.wrapping.proofs.Ways.{filled, appended-ways, filled-ways, step-ways}
 use Rattle.wrapping.proofs.Splits.{fitting-split}
@@ -66,55 +66,61 @@ module _ (u : Rule) (s : Pending) (g : Glyph) where
       go true f = (ltb-false (u .limit) (total (s .word) + g .width) (neither _ _ f .0), λ h. absurd (true≢false h))
       go false f = let h = ltb-false (u .limit) (total (s .word) + total (s .spaces) + g .width) f in (omega arith, λ _. omega arith)
 
--- Where row isn't empty, row, spaces and word have at most `tight` cells: below the limit one more glyph may come. A line has
--- at most `wide`: where row goes, a glyph at least goes with it, and one more may come.
-module _ (u : Rule) (least most tight wide : ℕ)
-    (t : tight + 1 ≡ u .limit + most) (w : wide + least ≡ tight + most) (p : 1 ≤ most) (o : least ≤ most) where
-  -- with n cells more, what a join would make of an empty row is no wider than a line may be
+-- Bounds on widths: a glyph's is from `least` to `most`. If row isn't empty, row, spaces and word have at most `tight`, as one
+-- glyph may be added below the limit. A line has at most `wide`, as row leaves with at least one glyph, and one may be added.
+record WidthBounds : Type 0 where
+  pub least : ℕ
+  pub most : ℕ
+  pub tight : ℕ
+  pub wide : ℕ
+
+module _ (u : Rule) (bounds : WidthBounds) (t : bounds .tight + 1 ≡ u .limit + bounds .most) (w : bounds .wide + bounds .least ≡ bounds .tight + bounds .most)
+    (p : 1 ≤ bounds .most) (o : bounds .least ≤ bounds .most) where
+  -- a join to an empty row, with n cells more, is no wider than `wide`
   record Ahead (s : Pending) (n : ℕ) : Type 0 where
-    pub word : total (s .word) + n ≤ wide
-    pub spaces : u .trim ≡ false → total (s .spaces) + total (s .word) + n ≤ wide
+    pub word : total (s .word) + n ≤ bounds .wide
+    pub spaces : u .trim ≡ false → total (s .spaces) + total (s .word) + n ≤ bounds .wide
 
   abbrev Tight : Pending → ℕ → Type 0
-  Tight s n = empty (s .row) ≡ false → total (s .row) + total (s .spaces) + total (s .word) + n ≤ tight
+  Tight s n = empty (s .row) ≡ false → total (s .row) + total (s .spaces) + total (s .word) + n ≤ bounds .tight
 
-  -- every glyph that is pending is as wide as a glyph may be
-  record Sized (s : Pending) : Type 0 where
-    pub row : Widths least most (s .row)
-    pub spaces : Widths least most (s .spaces)
-    pub word : Widths least most (s .word)
+  -- every pending glyph's width is from `least` to `most`
+  record WidthsBounded (s : Pending) : Type 0 where
+    pub row : Widths (bounds .least) (bounds .most) (s .row)
+    pub spaces : Widths (bounds .least) (bounds .most) (s .spaces)
+    pub word : Widths (bounds .least) (bounds .most) (s .word)
 
-  -- what holds of what is pending, and of a step
-  record Fine (s : Pending) : Type 0 where
-    pub sized : Sized s
+  -- Invariant of the pending state.
+  record PendingBounded (s : Pending) : Type 0 where
+    pub sized : WidthsBounded s
     pub ahead : Ahead s 0
     pub below : Tight s 0
 
   record Narrow (r : Step) : Type 0 where
-    pub lines : NoWider wide (r .lines)
-    pub fine : Fine (r .pending)
+    pub lines : NoWider (bounds .wide) (r .lines)
+    pub bounded : PendingBounded (r .pending)
 
-  gathered-fits : (s : Pending) → Fine s → total (gathered u s) ≤ wide
+  gathered-fits : (s : Pending) → PendingBounded s → total (gathered u s) ≤ bounds .wide
   unfolding gathered takesSpaces
   gathered-fits s f = go (s .row) (u .trim) (f .below) (f .ahead .spaces)
     where
-      go : (row : List Glyph) (trim : Bool) → (empty row ≡ false → total row + total (s .spaces) + total (s .word) + 0 ≤ tight)
-          → (trim ≡ false → total (s .spaces) + total (s .word) + 0 ≤ wide)
-          → total ((row ++ cond (not (empty row) || not trim) (s .spaces) []) ++ s .word) ≤ wide
+      go : (row : List Glyph) (trim : Bool) → (empty row ≡ false → total row + total (s .spaces) + total (s .word) + 0 ≤ bounds .tight)
+          → (trim ≡ false → total (s .spaces) + total (s .word) + 0 ≤ bounds .wide)
+          → total ((row ++ cond (not (empty row) || not trim) (s .spaces) []) ++ s .word) ≤ bounds .wide
       go [] true k a = omega (arith, f .ahead .word)
       go [] false k a = simp total-append (omega (arith, a refl))
       go (g ∷ row) trim k a = simp total-append (omega (arith, k refl))
 
-  gathered-sized : (s : Pending) → Sized s → Widths least most (gathered u s)
+  gathered-sized : (s : Pending) → WidthsBounded s → Widths (bounds .least) (bounds .most) (gathered u s)
   unfolding gathered
   gathered-sized s z =
-      let spaces = cond-cases (λ (gs : List Glyph). Widths least most gs) (takesSpaces u s) _ _ (λ _. z .spaces) (λ _. none) in
+      let spaces = cond-cases (λ (gs : List Glyph). Widths (bounds .least) (bounds .most) gs) (takesSpaces u s) _ _ (λ _. z .spaces) (λ _. none) in
       widths-append (widths-append (z .row) spaces) (z .word)
 
-  module _ (g : Glyph) (l : least ≤ g .width) (m : g .width ≤ most) where
-    appended-fine : (s : Pending) → Sized s → Ahead s (g .width) → Tight s (g .width) → Fine (appended s g)
-    appended-fine s z a k =
-        appended-ways s g (λ (t : Pending). Fine t)
+  module _ (g : Glyph) (l : bounds .least ≤ g .width) (m : g .width ≤ bounds .most) where
+    appended-bounded : (s : Pending) → WidthsBounded s → Ahead s (g .width) → Tight s (g .width) → PendingBounded (appended s g)
+    appended-bounded s z a k =
+        appended-ways s g (λ (t : Pending). PendingBounded t)
         (λ _.
         record {
           sized = record { row = z .row; spaces = widths-append (z .spaces) (one l m none); word = z .word };
@@ -128,31 +134,31 @@ module _ (u : Rule) (least most tight wide : ℕ)
           below = λ e. simp total-append (omega (arith, k e));
         })
 
-    filled-narrow : (s : Pending) → Sized s → total (s .row) ≤ wide → Ahead s (g .width) →
+    filled-narrow : (s : Pending) → WidthsBounded s → total (s .row) ≤ bounds .wide → Ahead s (g .width) →
         (full u s g ≡ false → Tight s (g .width)) → Narrow (filled u s g)
     unfolding emptied
     filled-narrow s z r a k =
         let left = total-after (u .limit - total (s .row)) (s .spaces) in
-        let z' : Sized (emptied u s) = record { row = none; spaces = widths-after _ (s .spaces) (z .spaces); word = z .word } in
+        let z' : WidthsBounded (emptied u s) = record { row = none; spaces = widths-after _ (s .spaces) (z .spaces); word = z .word } in
         let a' : Ahead (emptied u s) (g .width) = record { word = a .word; spaces = λ e. omega (arith, a .spaces e) } in
         filled-ways u s g (λ (t : Step). Narrow t)
         (λ _ _.
         let b : Ahead (emptied u s) 0 = record { word = omega (arith, a .word); spaces = λ e. omega (arith, a' .spaces e) } in
-        record { lines = one r none; fine = record { sized = z'; ahead = b; below = λ e. absurd (true≢false e) } })
-        (λ _ _. record { lines = one r none; fine = appended-fine (emptied u s) z' a' (λ e. absurd (true≢false e)) })
-        (λ e. record { lines = none; fine = appended-fine s z a (k e) })
+        record { lines = one r none; bounded = record { sized = z'; ahead = b; below = λ e. absurd (true≢false e) } })
+        (λ _ _. record { lines = one r none; bounded = appended-bounded (emptied u s) z' a' (λ e. absurd (true≢false e)) })
+        (λ e. record { lines = none; bounded = appended-bounded s z a (k e) })
 
-    step-narrow : (s : Pending) → Fine s → Narrow (step u s g)
+    step-narrow : (s : Pending) → PendingBounded s → Narrow (step u s g)
     unfolding overWide joined
     step-narrow s f =
         step-ways u s g (λ (t : Step). Narrow t)
-        (λ _. record { lines = none; fine = f })
+        (λ _. record { lines = none; bounded = f })
         (λ e _.
         let fits = ltb-false (u .limit) (g .width) e in
         let n =
         filled-narrow (joined u s) (record { row = gathered-sized s (f .sized); spaces = none; word = none }) (gathered-fits s f)
         (record { word = omega arith; spaces = λ _. omega arith }) (λ b _. omega (arith, not-full u (joined u s) g b .0)) in
-        record { lines = n .lines; fine = n .fine })
+        record { lines = n .lines; bounded = n .bounded })
         (λ _ j.
         cases (λ _. Narrow (filled u s g)) (empty (s .row))
         (λ e.
@@ -163,34 +169,34 @@ module _ (u : Rule) (least most tight wide : ℕ)
         let some = least-total (s .row) e (f .sized .row) in
         let below = f .below e in
         filled-narrow s (f .sized) (omega arith) (record { word = omega arith; spaces = λ _. omega arith })
-        (λ b _. cases (λ _. total (s .row) + total (s .spaces) + total (s .word) + g .width ≤ tight) (ltb 0 (g .width))
+        (λ b _. cases (λ _. total (s .row) + total (s .spaces) + total (s .word) + g .width ≤ bounds .tight) (ltb 0 (g .width))
         (λ h. omega (arith, not-full u s g b .1 (ltb-true 0 (g .width) h))) (λ h. omega (arith, ltb-false 0 (g .width) h)))))
 
-  last-narrow : (s : Pending) → Fine s → NoWider wide (lastLines u s)
+  last-narrow : (s : Pending) → PendingBounded s → NoWider (bounds .wide) (lastLines u s)
   unfolding lastLines
   last-narrow s f =
       no-wider-append
-      (cond-cases (λ (lines : List (List Glyph)). NoWider wide lines) (empty (s .row) && empty (s .word) && not (empty (s .spaces)) && u .trim) _ _
+      (cond-cases (λ (lines : List (List Glyph)). NoWider (bounds .wide) lines) (empty (s .row) && empty (s .word) && not (empty (s .spaces)) && u .trim) _ _
       (λ _. one (omega arith) none) (λ _. none))
-      (cond-cases (λ (lines : List (List Glyph)). NoWider wide lines) (empty (gathered u s)) _ _ (λ _. none) (λ _. one (gathered-fits s f) none))
+      (cond-cases (λ (lines : List (List Glyph)). NoWider (bounds .wide) lines) (empty (gathered u s)) _ _ (λ _. none) (λ _. one (gathered-fits s f) none))
 
-  from-narrow : (s : Pending) (gs : List Glyph) → Widths least most gs → Fine s → NoWider wide (wrapFrom u s gs .lines)
+  from-narrow : (s : Pending) (gs : List Glyph) → Widths (bounds .least) (bounds .most) gs → PendingBounded s → NoWider (bounds .wide) (wrapFrom u s gs .lines)
   from-narrow s [] z f = last-narrow s f
   from-narrow s (g ∷ gs) (one l m z) f =
       let n = step-narrow g l m s f in
-      no-wider-append (n .lines) (from-narrow (step u s g .pending) gs z (n .fine))
+      no-wider-append (n .lines) (from-narrow (step u s g .pending) gs z (n .bounded))
 
-  one-narrow : (lines : List (List Glyph)) → NoWider wide lines → NoWider wide (atLeastOne lines)
+  one-narrow : (lines : List (List Glyph)) → NoWider (bounds .wide) lines → NoWider (bounds .wide) (atLeastOne lines)
   one-narrow [] z = one {line = []} (omega arith) none
   one-narrow (line ∷ lines) z = z
 
-  lines-narrow : (gs : List Glyph) → Widths least most gs → NoWider wide (wrap u gs .lines)
+  lines-narrow : (gs : List Glyph) → Widths (bounds .least) (bounds .most) gs → NoWider (bounds .wide) (wrap u gs .lines)
   unfolding wrap
   lines-narrow gs z =
-      cond-cases (λ (w : Wrapped). NoWider wide (w .lines)) (eqb (u .limit) 0) _ _ (λ _. none)
+      cond-cases (λ (w : Wrapped). NoWider (bounds .wide) (w .lines)) (eqb (u .limit) 0) _ _ (λ _. none)
       (λ _.
-      one-narrow (wrapFrom u start gs .lines)
-      (from-narrow start gs z
+      one-narrow (wrapFrom u emptyPending gs .lines)
+      (from-narrow emptyPending gs z
       (record {
         sized = record { row = none; spaces = none; word = none };
         ahead = record { word = omega arith; spaces = λ _. omega arith };
@@ -198,10 +204,13 @@ module _ (u : Rule) (least most tight wide : ℕ)
       })))
 
 pub one-cell : (u : Rule) (gs : List Glyph) → Widths 1 1 gs → NoWider (u .limit) (wrap u gs .lines)
-one-cell u = lines-narrow u 1 1 (u .limit) (u .limit) refl refl (omega arith) (omega arith)
+one-cell u =
+    lines-narrow u (record { least = 1; most = 1; tight = u .limit; wide = u .limit }) refl refl (omega arith) (omega arith)
 
 pub any-cells : (u : Rule) (gs : List Glyph) → Widths 0 7 gs → NoWider (u .limit + 13) (wrap u gs .lines)
-any-cells u = lines-narrow u 0 7 (u .limit + 6) (u .limit + 13) (omega arith) (omega arith) (omega arith) (omega arith)
+any-cells u =
+    lines-narrow u (record { least = 0; most = 7; tight = u .limit + 6; wide = u .limit + 13 })
+    (omega arith) (omega arith) (omega arith) (omega arith)
 
 pub numbered-widths : (k : ℕ) (rs : List ℕ) → Widths 0 7 (numbered k rs)
 numbered-widths k [] = none

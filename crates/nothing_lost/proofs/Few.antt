@@ -9,7 +9,7 @@ use lib.Dec.{eqb}
 use lib.ListN.{length, length-append}
 use Rattle.text.specs.Line.{Glyph, total}
 use Rattle.wrapping.specs.declared.Rule.{Rule}
-use Rattle.wrapping.specs.Wrapping.{Pending, Step, Wrapped, empty, start, takesSpaces, gathered, joined, full, step, lastLines, atLeastOne, wrapFrom, wrap}
+use Rattle.wrapping.specs.Wrapping.{Pending, Step, Wrapped, empty, emptyPending, takesSpaces, gathered, joined, full, step, lastLines, atLeastOne, wrapFrom, wrap}
 use Rattle.text.proofs.Bools.{cond-cases}
 use Rattle.wrapping.proofs.Ways.{filled, filled-ways, step-ways}
 
@@ -24,7 +24,7 @@ step-few u s g =
     step-ways u s g (λ (t : Step). length (t .lines) ≤ 1)
     (λ _. omega arith) (λ _ _. filled-few u (joined u s) g) (λ _ _. filled-few u s g)
 
--- and so does the line's end: an empty line stands for spaces that are dropped, and then nothing is gathered
+-- the text line's end emits at most one line: if it emits the empty line for dropped spaces, nothing is gathered
 last-few : (u : Rule) (s : Pending) → length (lastLines u s) ≤ 1
 unfolding lastLines gathered takesSpaces
 last-few u s = go (s .row) (s .spaces) (s .word) (u .trim)
@@ -57,7 +57,7 @@ one-few : (n : ℕ) (lines : List (List Glyph)) → length lines ≤ max 1 n →
 one-few n [] h = omega arith
 one-few n (line ∷ lines) h = h
 
--- but the first glyph emits none: what is pending then has no width, and so is narrower than the limit
+-- the first glyph emits no line: what is pending then has width 0, below the limit
 unfilled : (u : Rule) (s : Pending) (g : Glyph) → 0 < u .limit → total (s .row) + total (s .spaces) + total (s .word) ≡ 0 →
     filled u s g .lines ≡ []
 unfolding full
@@ -66,13 +66,13 @@ unfilled u s g h e =
     filled-ways u s g (λ (t : Step). t .lines ≡ [])
     (λ b _. absurd (false≢true (sym f ∙ b))) (λ b _. absurd (false≢true (sym f ∙ b))) (λ _. refl)
 
-first-none : (u : Rule) (g : Glyph) → 0 < u .limit → step u start g .lines ≡ []
+first-none : (u : Rule) (g : Glyph) → 0 < u .limit → step u emptyPending g .lines ≡ []
 unfolding joined gathered takesSpaces
 first-none u g h =
-    step-ways u start g (λ (t : Step). t .lines ≡ [])
+    step-ways u emptyPending g (λ (t : Step). t .lines ≡ [])
     (λ _. refl)
-    (λ _ _. unfilled u (joined u start) g h (go (u .trim)))
-    (λ _ _. unfilled u start g h refl)
+    (λ _ _. unfilled u (joined u emptyPending) g h (go (u .trim)))
+    (λ _ _. unfilled u emptyPending g h refl)
   where
     go : (trim : Bool) → total (cond (not trim) [] [] ++ []) + 0 + 0 ≡ 0
     go true = refl
@@ -82,8 +82,8 @@ pub lines-few : (u : Rule) (gs : List Glyph) → length (wrap u gs .lines) ≤ m
 unfolding wrap
 lines-few u gs =
     cond-cases (λ (w : Wrapped). length (w .lines) ≤ max 1 (length gs)) (eqb (u .limit) 0) _ _
-    (λ _. omega arith) (λ e. one-few (length gs) (wrapFrom u start gs .lines) (go gs (eqb-false (u .limit) 0 e)))
+    (λ _. omega arith) (λ e. one-few (length gs) (wrapFrom u emptyPending gs .lines) (go gs (eqb-false (u .limit) 0 e)))
   where
-    go : (gs : List Glyph) → (u .limit ≡ 0 → ⊥) → length (wrapFrom u start gs .lines) ≤ max 1 (length gs)
-    go [] h = omega (arith, last-few u start)
-    go (g ∷ gs) h = rw (first-none u g (omega arith)) (omega (arith, from-few u (step u start g .pending) gs))
+    go : (gs : List Glyph) → (u .limit ≡ 0 → ⊥) → length (wrapFrom u emptyPending gs .lines) ≤ max 1 (length gs)
+    go [] h = omega (arith, last-few u emptyPending)
+    go (g ∷ gs) h = rw (first-none u g (omega arith)) (omega (arith, from-few u (step u emptyPending g .pending) gs))

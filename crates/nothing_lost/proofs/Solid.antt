@@ -8,11 +8,11 @@ use native.Mathlib.Omega.{arith}
 use lib.Dec.{eqb}
 use Rattle.text.specs.Line.{Glyph, total}
 use Rattle.wrapping.specs.declared.Rule.{Rule}
-use Rattle.wrapping.specs.Wrapping.{Pending, Step, Wrapped, start, overWide, takesSpaces, gathered, joined, unjoined, fitting, afterFitting, emptied, appended, silent, step, wrapFrom, wrap, notOverWide}
+use Rattle.wrapping.specs.Wrapping.{Pending, Step, Wrapped, emptyPending, overWide, takesSpaces, gathered, joined, unjoined, fitting, afterFitting, emptied, appended, silent, step, wrapFrom, wrap, notOverWide}
 use Rattle.nothing_lost.specs.Glyphs.{solids, glyphsOfAll}
 use Rattle.nothing_lost.proofs.Lists.{glyphs-append}
 use Rattle.text.proofs.Bools.{cond-cases}
-use Rattle.nothing_lost.proofs.Steps.{last-gathers, one-more, wraps}
+use Rattle.nothing_lost.proofs.Steps.{last-gathers, at-least-one-glyphs, wrap-from-empty}
 use Rattle.wrapping.proofs.Ways.{filled, appended-ways, drops-whitespace, filled-ways, step-ways}
 use Rattle.wrapping.proofs.Splits.{fitting-split}
 
@@ -34,11 +34,11 @@ fitting-solids room gs e =
     both-nil (solids (fitting room gs)) (solids (afterFitting room gs))
     (sym (solids-append (fitting room gs) (afterFitting room gs)) ∙ ap solids (sym (fitting-split room gs)) ∙ e)
 
--- the solid glyphs that are pending, where spaces has none
+-- pending solid glyphs, if spaces has none
 unfoldable held : Pending → List Glyph
 held s = solids (s .row) ++ solids (s .word)
 
--- the solid glyphs of a step's lines, and those pending after it, are those before it and the new ones
+-- A step keeps the solid glyphs: those of its lines and those pending after it are those pending before it and the new ones.
 record Keeps (before new : List Glyph) (t : Step) : Type 0 where
   pub same : solids (glyphsOfAll (t .lines)) ++ held (t .pending) ≡ before ++ new
   pub blank : solids (t .pending .spaces) ≡ []
@@ -104,7 +104,7 @@ skip-first u g gs = go (overWide u g)
     go true = refl
     go false = solids-append (g ∷ []) (notOverWide u gs)
 
--- so do a text line's further glyphs
+-- wrapping the remaining glyphs keeps the solid ones
 record Kept (before new : List Glyph) (w : Wrapped) : Type 0 where
   pub same : solids (glyphsOfAll (w .lines)) ≡ before ++ new
   pub gone : solids (w .dropped) ≡ []
@@ -124,10 +124,10 @@ from-keeps u s (g ∷ gs) blank =
 pub no-solid-lost : (u : Rule) (gs : List Glyph) → 0 < u .limit →
     solids (glyphsOfAll (wrap u gs .lines)) ≡ solids (notOverWide u gs)
 unfolding held
-no-solid-lost u gs h = rw (wraps u gs h, one-more) (from-keeps u start gs refl .same)
+no-solid-lost u gs h = rw (wrap-from-empty u gs h, at-least-one-glyphs) (from-keeps u emptyPending gs refl .same)
 
 pub dropped-whitespace : (u : Rule) (gs : List Glyph) → solids (wrap u gs .dropped) ≡ []
 unfolding wrap
 dropped-whitespace u gs =
     cond-cases (λ (w : Wrapped). solids (w .dropped) ≡ []) (eqb (u .limit) 0) _ _
-    (λ _. refl) (λ _. from-keeps u start gs refl .gone)
+    (λ _. refl) (λ _. from-keeps u emptyPending gs refl .gone)

@@ -1,4 +1,4 @@
--- What a text line's end emits, and how a text line is wrapped at a limit above 0.
+-- The glyphs emitted at a text line's end, and wrapping at a limit above 0.
 use Prim.Native.Nat.{_<_}
 use mathlib.Core.Path.{_≡_, refl}
 use mathlib.Core.Bool.{Bool, true, false, cond, not, _&&_}
@@ -7,10 +7,10 @@ use native.Mathlib.Omega.{arith}
 use borrow.Author.Tests.{ne-eqb}
 use Rattle.text.specs.Line.{Glyph}
 use Rattle.wrapping.specs.declared.Rule.{Rule}
-use Rattle.wrapping.specs.Wrapping.{Pending, empty, start, gathered, lastLines, atLeastOne, wrapFrom, wrap}
+use Rattle.wrapping.specs.Wrapping.{Pending, empty, emptyPending, gathered, lastLines, atLeastOne, wrapFrom, wrap}
 use Rattle.nothing_lost.specs.Glyphs.{glyphsOfAll}
 
--- the line's end emits what a join gathers, and empty lines
+-- the text line's end emits the glyphs that a join gathers
 pub last-gathers : (u : Rule) (s : Pending) → glyphsOfAll (lastLines u s) ≡ gathered u s
 unfolding lastLines
 last-gathers u s = last (empty (s .row) && empty (s .word) && not (empty (s .spaces)) && u .trim) (gathered u s)
@@ -21,14 +21,14 @@ last-gathers u s = last (empty (s .row) && empty (s .word) && not (empty (s .spa
     last true (g ∷ line) = append-nil (g ∷ line)
     last false (g ∷ line) = append-nil (g ∷ line)
 
--- so does a line that has emitted nothing
-pub one-more : (lines : List (List Glyph)) → glyphsOfAll (atLeastOne lines) ≡ glyphsOfAll lines
-one-more [] = refl
-one-more (line ∷ lines) = refl
+-- the added empty line has no glyph
+pub at-least-one-glyphs : (lines : List (List Glyph)) → glyphsOfAll (atLeastOne lines) ≡ glyphsOfAll lines
+at-least-one-glyphs [] = refl
+at-least-one-glyphs (line ∷ lines) = refl
 
--- at a limit above 0 a text line is wrapped from the start
-pub wraps : (u : Rule) (gs : List Glyph) → 0 < u .limit →
-    let all = wrapFrom u start gs in
+-- at a limit above 0 a text line is wrapped from the empty state
+pub wrap-from-empty : (u : Rule) (gs : List Glyph) → 0 < u .limit →
+    let all = wrapFrom u emptyPending gs in
     wrap u gs ≡ record { lines = atLeastOne (all .lines); dropped = all .dropped }
 unfolding wrap
-wraps u gs h = rw (ne-eqb (u .limit) 0 (λ (e : u .limit ≡ 0). omega arith))
+wrap-from-empty u gs h = rw (ne-eqb (u .limit) 0 (λ (e : u .limit ≡ 0). omega arith))

@@ -1,1 +1,1 @@
-// No code: theorems over the wrapping rules, in proofs/.
+// No code: theorems about the wrapping rules, in proofs/.

@@ -1,35 +1,35 @@
-// The framed notice: every call open to callers, and its types. No call requires anything, and each states its whole answer, where it
-// is declared. Nothing else in these crates is meant to be called.
+// The public API of the framed notice: all calls and their types. No call has a precondition, and each one's contract, where it
+// is declared, gives its whole answer. Nothing else in these crates is meant to be called.
 
-// The settings.
+// Settings.
 pub use block::Block;
 pub use block::BorderSet;
 pub use block::Borders;
 pub use block::Effect;
 pub use block::Shadow;
-pub use compose::Wrap;
 pub use layout::Rect;
+pub use line_composer::Wrap;
 pub use padding::Padding;
 pub use paragraph::Notice;
 pub use text::Alignment;
 pub use text::TitlePosition;
 
-// What the calls answer.
-pub use draw_block::Framed;
-pub use draw_notice::Drawn;
-pub use inner::InnerArea;
-pub use lines::Listed;
-pub use measure::Measured;
+// Answers.
+pub use draw_block::BlockAnswer;
+pub use draw_notice::NoticeAnswer;
+pub use inner::InnerAnswer;
+pub use list_lines::ListAnswer;
+pub use measure::MeasureAnswer;
 pub use refuse::Refusal;
-pub use rows::Rows;
-pub use tally::Counts;
-pub use tally::Tallied;
+pub use render_lines::DrawCounts;
+pub use tally::TallyAnswer;
+pub use tally::TallyCounts;
 
-// The calls.
+// Calls.
 pub use draw_block::draw_block;
 pub use draw_notice::draw_notice;
 pub use inner::inner;
-pub use lines::list_lines;
+pub use list_lines::list_lines;
 pub use measure::line_count;
 pub use measure::line_width;
 pub use tally::tally;

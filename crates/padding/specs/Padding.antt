@@ -1,7 +1,7 @@
--- Document 01's padding.rs: the padding at the four sides.
+-- Document 01, 'Inner area and frame (block.rs, padding.rs)': the padding of the four sides.
 use Prim.Native.Nat.{ℕ}
 use Rattle.padding.specs.declared.Padding.{Padding}
 
--- left, right, top, bottom
+-- padding with the given left, right, top and bottom
 abbrev pub paddingOf : ℕ → ℕ → ℕ → ℕ → Padding
 paddingOf left right top bottom = record { left = left; right = right; top = top; bottom = bottom }

@@ -1,10 +1,10 @@
-// padding.rs: the cells left free inside the borders, and how a padding is made.
+// Padding of a block, and its constructors (block/padding.rs).
 ghost use mathlib.Core.Path.{_≡_};
 ghost use Prim.Native.Nat.{_*_};
 ghost use Rattle.num.specs.Held.{held};
 ghost use Rattle.padding.specs.Padding.{paddingOf};
 
-// The cells left free inside the borders.
+// Cells left free between the borders and the inner area.
 pub struct Padding {
     pub left: u16,
     pub right: u16,
@@ -24,7 +24,6 @@ impl Padding {
         }
     }
 
-    // No padding.
     pub fn zero() -> Padding
         ensures { λ r. ⌜ r ≡ paddingOf 0 0 0 0 ⌝ }
     {
@@ -49,7 +48,7 @@ impl Padding {
         Padding::new(value, value, value, value)
     }
 
-    // As wide as it is high to the eye, where a cell is twice as high as wide. Twice the value is a sum, held at 65,535.
+    // Returns a padding that looks even, as a cell is about twice as high as wide. Doubling saturates at 65,535.
     pub fn proportional(value: u16) -> Padding
         ensures { λ r. ⌜ r ≡ paddingOf (held (2 * value)) (held (2 * value)) value value ⌝ }
     {

@@ -1,5 +1,5 @@
--- same-counts: what the pages' answers count adds up to the tally of the text at the inner width, whatever the glyphs' widths.
--- Where a line starts makes no difference to what of it is placed or clipped, and each line is on one page.
+-- same-counts: the counts of the pages' answers add up to the tally of the text at the inner width, for glyphs of any width. A
+-- line's start column doesn't change how many of its glyphs are placed or clipped, and each line is on exactly one page.
 use Prim.Native.Nat.{ℕ, zero, suc, _+_, _-_, _*_, _<_, _≤_}
 use mathlib.Core.Path.{_≡_, refl, sym, ap, _∙_}
 use mathlib.Core.Bool.{Bool, false, _&&_}
@@ -19,18 +19,18 @@ use Rattle.refuse.specs.declared.Verdict.the-variants.{Accepted}
 use Rattle.wrapping.specs.declared.Rule.{Rule}
 use Rattle.wrapping.specs.Rule.{ruleOf}
 use Rattle.text.proofs.Bools.{cases}
-use Rattle.compose.specs.declared.Method.the-variants.{Wrapped}
-use Rattle.compose.specs.Lines.{Line, lines}
-use Rattle.compose.specs.Places.{starts, placed, clipped}
+use Rattle.line_composer.specs.declared.Method.the-variants.{WordWrap}
+use Rattle.line_composer.specs.Lines.{Line, lines}
+use Rattle.line_composer.specs.Places.{starts, isPlaced, isClipped}
 use Rattle.render_line.specs.RenderLine.{lineOffset, drawnStarts, placedIn, clippedIn}
-use Rattle.rows.specs.declared.Rows.{Rows}
-use Rattle.rows.specs.Rows.{linesDrawn, rowsDrawn, sumOf, placedOn, clippedOn}
-use Rattle.rows.proofs.Bounds.{sum-append}
-use Rattle.line_counts.specs.declared.LineCounts.{LineCounts}
-use Rattle.line_counts.specs.Tallying.{lineCounts}
+use Rattle.render_lines.specs.declared.DrawCounts.{DrawCounts}
+use Rattle.render_lines.specs.Rows.{linesDrawn, rowsDrawn, sumOf, placedOn, clippedOn}
+use Rattle.render_lines.proofs.Bounds.{sum-append}
+use Rattle.tally_lines.specs.declared.LineCounts.{LineCounts}
+use Rattle.tally_lines.specs.TallyingExtra.{lineCounts}
 use Rattle.tally.specs.Call as tally
 use Rattle.tally.specs.Tally.{tallyOf}
-use Rattle.tally.proofs.TallyCounts.{own-alignment}
+use Rattle.tally.proofs.EveryGlyph.{default-alignment-irrelevant}
 use Rattle.paragraph.specs.Notice.{noticeLines, innerAreaOf, insideCounts, noticeCounts}
 use Rattle.draw_notice.specs.Call.{Call, verdictOf, rowsOf, countsOf}
 use Rattle.pages.specs.Pages.{callAt, pageCall, innerArea, composedLines, pageCount, pagesOf, scrollOf}
@@ -39,21 +39,21 @@ use Rattle.pages.proofs.Offset.{offset-fits, offset-none}
 use Rattle.pages.proofs.Reached.{wrapped-lines}
 use Rattle.pages.proofs.Screen.{inner-some}
 
--- ---- where a line starts
+-- ---- the start column of a line
 
--- a glyph that ends in the area is placed, unless it has no width, and isn't clipped
+-- a glyph that ends within the area isn't clipped, and is placed unless its width is 0
 within-area : (area start width : ℕ) → start + width ≤ area
     → ((ltb 0 width && ltb start area) ≡ ltb 0 width) × ((ltb 0 width && leb area start) ≡ false)
 within-area area start zero h = (refl, refl)
 within-area area start (suc width) h = simp (lt-ltb 0 (suc width) (omega arith), lt-ltb start area (omega arith), lt-leb area start (omega arith)) (refl, refl)
 
--- so a line that fits is placed whole, wherever it starts
+-- glyphs have the same counts from column a as from column b; true if they fit the area from both
 record SameFrom (area a b : ℕ) (gs : List Glyph) : Type 0 where
-  pub same-placed : countOf (placed area) (startsFrom a gs) ≡ countOf (placed area) (startsFrom b gs)
-  pub same-clipped : countOf (clipped area) (startsFrom a gs) ≡ countOf (clipped area) (startsFrom b gs)
+  pub same-placed : countOf (isPlaced area) (startsFrom a gs) ≡ countOf (isPlaced area) (startsFrom b gs)
+  pub same-clipped : countOf (isClipped area) (startsFrom a gs) ≡ countOf (isClipped area) (startsFrom b gs)
 
 same-from : (area a b : ℕ) (gs : List Glyph) → a + total gs ≤ area → b + total gs ≤ area → SameFrom area a b gs
-unfolding placed clipped
+unfolding isPlaced isClipped
 same-from area a b [] p q = record { same-placed = refl; same-clipped = refl }
 same-from area a b (g ∷ gs) p q =
     let first = within-area area a (g .width) (omega arith) in
@@ -64,15 +64,15 @@ same-from area a b (g ∷ gs) p q =
       same-clipped = rw (first .1, second .1, rest .same-clipped);
     }
 
--- and of a line that doesn't fit the start is 0
+-- a line has the same counts as drawn and from column 0; one that doesn't fit starts at 0 anyway
 pub drawn-counts : (area : ℕ) (line : Line)
-    → (placedIn area line ≡ countOf (placed area) (startsFrom 0 (line .glyphs))) × (clippedIn area line ≡ countOf (clipped area) (startsFrom 0 (line .glyphs)))
+    → (placedIn area line ≡ countOf (isPlaced area) (startsFrom 0 (line .glyphs))) × (clippedIn area line ≡ countOf (isClipped area) (startsFrom 0 (line .glyphs)))
 unfolding placedIn clippedIn drawnStarts
 drawn-counts area line =
     let width : ℕ = total (line .glyphs) in
     let start : ℕ = lineOffset (line .alignment) area width in
-    cases (λ _. (countOf (placed area) (startsFrom start (line .glyphs)) ≡ countOf (placed area) (startsFrom 0 (line .glyphs)))
-    × (countOf (clipped area) (startsFrom start (line .glyphs)) ≡ countOf (clipped area) (startsFrom 0 (line .glyphs))))
+    cases (λ _. (countOf (isPlaced area) (startsFrom start (line .glyphs)) ≡ countOf (isPlaced area) (startsFrom 0 (line .glyphs)))
+    × (countOf (isClipped area) (startsFrom start (line .glyphs)) ≡ countOf (isClipped area) (startsFrom 0 (line .glyphs))))
     (ltb area width)
     (λ e. rw (offset-none (line .alignment) area width (omega (arith, ltb-true area width e))) (refl, refl))
     (λ e.
@@ -80,7 +80,7 @@ drawn-counts area line =
     let same = same-from area start 0 (line .glyphs) (offset-fits (line .alignment) area width fits) (omega arith) in
     (same .same-placed, same .same-clipped))
 
--- so lines count as their glyphs do that start at 0
+-- summing a count over lines counts their glyphs, each line starting at 0
 sum-starts : (test : Start → Bool) (count : Line → ℕ) → ((line : Line) → count line ≡ countOf test (startsFrom 0 (line .glyphs)))
     → (ls : List Line) → sumOf count ls ≡ countOf test (starts ls)
 sum-starts test count same [] = refl
@@ -100,7 +100,7 @@ module _ (f : Line → ℕ) (h : ℕ) (ls : List Line) where
   abbrev page-sum : ℕ → ℕ
   page-sum page = sumOf f (take h (drop (page * h) ls))
 
-  -- n pages from page a on have every line that is left
+  -- n pages from page a on contain all remaining lines
   pages-from : (a n : ℕ) → length ls ≤ (a + n) * h → summed a n page-sum ≡ sumOf f (drop (a * h) ls)
   pages-from a zero all = rw (drop-of-length-le ls {i = a * h} (omega arith))
   pages-from a (suc n) all =
@@ -122,30 +122,30 @@ pages-length h ls some =
     ∙ pages-sum (λ _. 1) h ls some
     ∙ sym (length-sum ls)
 
--- ---- the notice's pages
+-- ---- the pages of a notice
 
--- a tally counts a text's lines whatever their own alignment
-tally-own : (u : Rule) (own : Alignment) (text : List ℕ) → 0 < u .limit
+-- the tally's counts of lines hold for every default alignment
+tally-own : (u : Rule) (default : Alignment) (text : List ℕ) → 0 < u .limit
     → record { lines = tallyOf u text .lines; placed = tallyOf u text .placed; clipped = tallyOf u text .clipped; «zero_width» = tallyOf u text .«zero_width» }
-    ≡ lineCounts (u .limit) (lines u Wrapped own text)
+    ≡ lineCounts (u .limit) (lines u WordWrap default text)
 unfolding tallyOf lineCounts
-tally-own u own text some =
-    rw (ne-eqb (u .limit) 0 (λ (e : u .limit ≡ 0). omega arith)) (own-alignment u text Left own)
+tally-own u default text some =
+    rw (ne-eqb (u .limit) 0 (λ (e : u .limit ≡ 0). omega arith)) (default-alignment-irrelevant u text Left default)
 
 module _ (i : Call) (w : WrappedNotice i) (accepted : (scroll : ℕ) → verdictOf (callAt i scroll) ≡ Accepted) where
-  -- what a page counts
+  -- the counts of a page
   page-counts : (page : ℕ)
       → let here = take (innerArea i .height) (drop (scrollOf i page) (composedLines i)) in
       countsOf (pageCall i page) ≡ record { rows = length here; placed = sumOf (placedIn (innerArea i .width)) here; clipped = sumOf (clippedIn (innerArea i .width)) here }
   unfolding countsOf rowsOf noticeCounts insideCounts innerArea composedLines innerAreaOf noticeLines rowsDrawn placedOn clippedOn linesDrawn
   page-counts page = rw (accepted (scrollOf i page), w .some-cell)
 
-  -- a count of the lines' glyphs, added up over the pages
-  pages-count : (part : Rows → ℕ) (count : Line → ℕ) (test : Start → Bool)
+  -- a count of glyphs, summed over the pages, is that of all lines
+  pages-count : (part : DrawCounts → ℕ) (count : Line → ℕ) (test : Start → Bool)
       → ((page : ℕ) → part (countsOf (pageCall i page)) ≡ sumOf count (take (innerArea i .height) (drop (scrollOf i page) (composedLines i))))
       → ((line : Line) → count line ≡ countOf test (startsFrom 0 (line .glyphs)))
       → summed 0 (pagesOf i) (λ page. part (countsOf (pageCall i page)))
-      ≡ countOf test (starts (lines (ruleOf (innerArea i .width) (w .trim)) Wrapped (i .notice .alignment) (i .text)))
+      ≡ countOf test (starts (lines (ruleOf (innerArea i .width) (w .trim)) WordWrap (i .notice .alignment) (i .text)))
   unfolding pagesOf
   pages-count part count test on-page of-line =
       summed-same 0 (pagesOf i) _ _ on-page
@@ -163,18 +163,18 @@ module _ (i : Call) (w : WrappedNotice i) (accepted : (scroll : ℕ) → verdict
         answered = answered;
         rows =
             rw answered
-            (summed-same 0 (pagesOf i) _ _ (λ page. ap (λ (c : Rows). c .rows) (page-counts page))
+            (summed-same 0 (pagesOf i) _ _ (λ page. ap (λ (c : DrawCounts). c .rows) (page-counts page))
             ∙ pages-length (innerArea i .height) (composedLines i) (inner-some i w .1)
             ∙ ap length (wrapped-lines i w)
             ∙ sym (ap (λ (c : LineCounts). c .lines) tally));
         placed =
             rw answered
-            (pages-count (λ c. c .placed) (placedIn width) (placed width)
-            (λ page. ap (λ (c : Rows). c .placed) (page-counts page)) (λ line. drawn-counts width line .0)
+            (pages-count (λ c. c .placed) (placedIn width) (isPlaced width)
+            (λ page. ap (λ (c : DrawCounts). c .placed) (page-counts page)) (λ line. drawn-counts width line .0)
             ∙ sym (ap (λ (c : LineCounts). c .placed) tally));
         clipped =
             rw answered
-            (pages-count (λ c. c .clipped) (clippedIn width) (clipped width)
-            (λ page. ap (λ (c : Rows). c .clipped) (page-counts page)) (λ line. drawn-counts width line .1)
+            (pages-count (λ c. c .clipped) (clippedIn width) (isClipped width)
+            (λ page. ap (λ (c : DrawCounts). c .clipped) (page-counts page)) (λ line. drawn-counts width line .1)
             ∙ sym (ap (λ (c : LineCounts). c .clipped) tally));
       }

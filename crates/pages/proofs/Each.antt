@@ -1,4 +1,4 @@
--- Laws of `each`: lists made number by number, in one list.
+-- Laws of `each`.
 use Prim.Native.Nat.{ℕ, zero, suc, _+_, _*_, _<_, _≤_}
 use mathlib.Core.Path.{_≡_, refl, sym, ap, _∙_}
 use mathlib.Core.List.{List, [], _++_, append-assoc}
@@ -7,7 +7,7 @@ use native.Mathlib.Omega.{arith}
 use Rattle.pages.specs.Reading.{each}
 
 module _ {A : Type 0} where
-  -- the lists need only agree at the numbers there are
+  -- the functions need to agree only from a to a + n
   pub each-same : (a n : ℕ) (f g : ℕ → List A) → ((k : ℕ) → a ≤ k → k < a + n → f k ≡ g k) → each a n f ≡ each a n g
   each-same a zero f g h = refl
   each-same a (suc n) f g h =
@@ -19,11 +19,9 @@ module _ {A : Type 0} where
   nothing a zero = refl
   nothing a (suc n) = nothing (suc a) n
 
-  -- empty lists make an empty one
   pub each-none : (a n : ℕ) (f : ℕ → List A) → ((k : ℕ) → a ≤ k → k < a + n → f k ≡ []) → each a n f ≡ []
   each-none a n f h = each-same a n f (λ k. []) h ∙ nothing a n
 
-  -- the first m numbers, and then the others
   pub each-add : (a m n : ℕ) (f : ℕ → List A) → each a (m + n) f ≡ each a m f ++ each (a + m) n f
   each-add a zero n f = rw (zero-add, add-zero)
   each-add a (suc m) n f =
@@ -37,11 +35,10 @@ module _ {A : Type 0} where
       let next : suc (x + a) ≡ x + suc a = omega arith in
       rw next (ap (λ (l : List A). f (x + a) ++ l) (shifted x (suc a) n f))
 
-  -- counted from 0
   pub each-shift : (x n : ℕ) (f : ℕ → List A) → each x n f ≡ each 0 n (λ k. f (x + k))
   each-shift x n f = ap (λ (a : ℕ). each a n f) (sym (add-zero x)) ∙ shifted x 0 n f
 
-  -- n times h numbers, one after another
+  -- n blocks of h indices are n * h indices
   times : (h a n : ℕ) (f : ℕ → List A) → each a n (λ p. each 0 h (λ k. f (p * h + k))) ≡ each (a * h) (n * h) f
   times h a zero f = let none : zero * h ≡ 0 = omega arith in rw none
   times h a (suc n) f =

@@ -1,4 +1,4 @@
--- Where a line starts: `lineOffset`.
+-- Bounds of `lineOffset`, the start column of a line.
 use Prim.Native.Nat.{ℕ, _+_, _≤_}
 use mathlib.Core.Path.{_≡_, refl}
 use native.Mathlib.Omega.{arith}
@@ -6,7 +6,7 @@ use Rattle.text.specs.declared.Alignment.{Alignment}
 use Rattle.text.specs.declared.Alignment.the-variants.{Left, Center, Right}
 use Rattle.render_line.specs.RenderLine.{lineOffset}
 
--- a line that fits ends in the area, and one that doesn't starts at its left edge
+-- a line that fits ends within the area, and one that doesn't starts at column 0
 pub offset-fits : (a : Alignment) (area line : ℕ) → line ≤ area → lineOffset a area line + line ≤ area
 unfolding lineOffset
 offset-fits Left area line h = omega arith

@@ -1,11 +1,11 @@
--- Demand 3. Theorem `pages`: what is read over all the pages of a wrapped notice of one-cell glyphs. Theorem `page-counts`: what the
--- pages' answers count, for glyphs of any widths. Theorem `demand-three`: both, and the tally of every accepted text.
+-- Demand 3. Theorem `pages`: the symbols read over all the pages of a wrapped notice of one-cell glyphs. Theorem `page-counts`:
+-- the counts of the pages' answers, for glyphs of any width. Theorem `demand-three`: both, and the tally of every accepted text.
 use mathlib.Core.Path.{_≡_, refl, sym, ap, _∙_}
 use mathlib.Core.List.{map, map-map}
 use Rattle.text.specs.Line.{Glyph, glyphsFrom}
 use Rattle.wrapping.specs.Rule.{ruleOf}
 use Rattle.nothing_lost.specs.Glyphs.{solids}
-use Rattle.tally.proofs.TallyCounts.{tally-counts}
+use Rattle.tally.proofs.EveryGlyph.{tally-counts}
 use Rattle.draw_notice.specs.Call.{Call}
 use Rattle.draw_notice.proofs.Answers.{text-sound}
 use Rattle.pages.specs.Pages.{innerArea, composedLines, scrollOf, Placement, placements}
@@ -17,7 +17,7 @@ use Rattle.pages.proofs.Reached.{wrapped-lines, reached-16, text-accept
 use Rattle.pages.proofs.Text.{fit-text, placed-glyphs}
 use Rattle.pages.proofs.Counts.{same-counts}
 
--- every page can be asked for, whatever the glyphs' widths
+-- every page's scroll row fits in 16 bits and its call is accepted
 pages-reached : (i : Call) → WrappedNotice i → Reached i
 pages-reached i w page there = (reached-16 i w page there, accepted-at i w (scrollOf i page))
 
@@ -25,12 +25,12 @@ pub pages : (i : Call) → WrappedNotice i → OneCell (glyphsFrom 0 (i .text)) 
 unfolding placements
 pages i w cells =
     let inner = innerArea i in
-    let own = i .notice .alignment in
+    let default = i .notice .alignment in
     let rule = ruleOf (inner .width) (w .trim) in
     let opens = text-sound i (w .accepted) .opens in
-    let fit : Fit (inner .width) (composedLines i) = rw (wrapped-lines i w) (fit-text rule own (i .text) (inner-some i w .0) opens cells) in
+    let fit : Fit (inner .width) (composedLines i) = rw (wrapped-lines i w) (fit-text rule default (i .text) (inner-some i w .0) opens cells) in
     let places = pages-read i w fit in
-    let glyphs : map (λ (p : Placement). p .glyph) (placements i) ≡ solids (glyphsFrom 0 (i .text)) = rw (wrapped-lines i w) (placed-glyphs inner rule own (i .text) refl (inner-some i w .0) opens cells) in
+    let glyphs : map (λ (p : Placement). p .glyph) (placements i) ≡ solids (glyphsFrom 0 (i .text)) = rw (wrapped-lines i w) (placed-glyphs inner rule default (i .text) refl (inner-some i w .0) opens cells) in
     record {
       reached = pages-reached i w;
       symbols =

@@ -1,5 +1,6 @@
--- reached-16: 16 bits of scroll reach every page, for a page that is there starts with a line, and a text has no more lines than records.
--- text-accepted: the tally at the inner width refuses no text that the notice is drawn with.
+-- reached-16: every page's scroll row fits in 16 bits, since each page starts with a line and a text has no more lines than
+-- records.
+-- text-accepted: the tally at the inner width accepts every text that `draw_notice` accepts.
 use Prim.Native.Nat.{ℕ, _+_, _-_, _*_, _<_, _≤_}
 use mathlib.Core.Path.{_≡_}
 use mathlib.Core.List.{List}
@@ -17,9 +18,9 @@ use Rattle.refuse.proofs.Calls.{no-cause}
 use Rattle.block.specs.declared.Block.{Block}
 use Rattle.block.specs.Inner.{innerOf}
 use Rattle.wrapping.specs.Rule.{ruleOf}
-use Rattle.compose.specs.declared.Method.the-variants.{Wrapped}
-use Rattle.compose.specs.Lines.{lines}
-use Rattle.compose.proofs.Bounds.{lines-short}
+use Rattle.line_composer.specs.declared.Method.the-variants.{WordWrap}
+use Rattle.line_composer.specs.Lines.{lines}
+use Rattle.line_composer.proofs.Bounds.{lines-short}
 use Rattle.tally.specs.Call as tally
 use Rattle.paragraph.specs.Notice.{noticeLines, innerAreaOf}
 use Rattle.draw_notice.specs.Call.{Call, causesOf, verdictOf, screenIn}
@@ -28,12 +29,12 @@ use Rattle.pages.specs.Pages.{innerArea, composedLines, pageCount, pages
 use Rattle.pages.specs.Reading.{WrappedNotice, pagesTally}
 use Rattle.pages.proofs.Screen.{screen-sized, inner-some}
 
--- a page that is there starts with a line
+-- the first row of each page has a line
 pub page-starts : (n h page : ℕ) → page < pageCount n h → 0 < h → page * h < n
 page-starts n h page there some =
     omega (arith, div-add-mod' (n + (h - 1)) h, mod-lt (n + (h - 1)) some, mul-le-mul-right h there)
 
--- an inner area is no wider than what it lies in
+-- an inner area is no wider than its area
 inner-narrow : (b : Block) (titles : List ℕ) (area : Rect) → innerOf b titles area .width ≤ area .width
 unfolding innerOf
 inner-narrow b titles area = omega arith
@@ -57,8 +58,8 @@ module _ (i : Call) (w : WrappedNotice i) where
       let causes = causesOf mostAccepted i in
       rw (no-cause causes TextLength (w .accepted), no-cause causes TextHeads (w .accepted), le-ltb 4096 (innerArea i .width) (omega (arith, few-columns)))
 
-  -- its lines are wrapped ones, and no more than the text's records
-  pub wrapped-lines : composedLines i ≡ lines (ruleOf (innerArea i .width) (w .trim)) Wrapped (i .notice .alignment) (i .text)
+  -- the notice's lines are wrapped, and no more than the text's records
+  pub wrapped-lines : composedLines i ≡ lines (ruleOf (innerArea i .width) (w .trim)) WordWrap (i .notice .alignment) (i .text)
   unfolding composedLines noticeLines
   wrapped-lines = rw (w .wrapped)
 

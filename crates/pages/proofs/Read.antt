@@ -1,5 +1,5 @@
--- Theorem `pages-read`: where the lines fit, each row of a page reads as its line, and the rows of all pages are the lines in order;
--- rows past the last line read as nothing.
+-- Theorem `pages-read`: if the lines fit, reading a row of a page gives its line, and reading all pages gives the lines in order;
+-- rows past the last line give nothing.
 use Prim.Native.Nat.{ℕ, zero, suc, _+_, _-_, _*_, _<_, _≤_}
 use mathlib.Core.Path.{_≡_, refl, sym, ap, _∙_}
 use mathlib.Core.List.{List, [], _∷_, _++_, map, map-map, map-append, append-nil}
@@ -9,9 +9,9 @@ use lib.Arith.{digits-div}
 use lib.ListN.{length, getD, List·getD-eq-default}
 use Rattle.text.specs.Line.{Start, total}
 use Rattle.layout.specs.declared.Rect.{Rect}
-use Rattle.compose.specs.Lines.{Line}
+use Rattle.line_composer.specs.Lines.{Line}
 use Rattle.render_line.specs.RenderLine.{drawnStarts, lineOn}
-use Rattle.rows.specs.Rows.{noLine}
+use Rattle.render_lines.specs.Rows.{noLine}
 use Rattle.draw_notice.specs.Call.{Call, cellsAfter}
 use Rattle.pages.specs.Pages.{pageCall, innerArea, composedLines, pageCount, pagesOf, scrollOf, Placement, placementOf, solidPlaced, placementsFrom, placements}
 use Rattle.pages.specs.Reading.{Seen, seen, each, look, pagesRead, OneCell, WrappedNotice}
@@ -21,11 +21,11 @@ use Rattle.pages.proofs.Row.{seenAt, row-reads}
 use Rattle.pages.proofs.Screen.{inner-some}
 use Rattle.pages.proofs.Cells.{cellBefore, lineNumbered, before-blank, cell-there}
 
--- what is to be seen of a line that has a number
+-- the symbols to be read for the line with an index
 unfoldable lineSeen : Rect → ℕ → Line → List Seen
 lineSeen inner number line = map seen (map (placementOf inner number) (solidPlaced (inner .width) (drawnStarts (inner .width) line)))
 
--- of the line in row j of a page, it is seen on that page and in that row
+-- the line in row j of a page is read on that page and in that row
 line-seen : (inner : Rect) (page j : ℕ) (line : Line) → j < inner .height
     → map (seenAt page (inner .y + j) (inner .x)) (solidPlaced (inner .width) (drawnStarts (inner .width) line)) ≡ lineSeen inner (page * inner .height + j) line
 unfolding lineSeen placementOf
@@ -38,12 +38,12 @@ line-seen inner page j line h =
     ∙ ap (λ (p : ℕ). map (seenAt p (inner .y + (number - p * inner .height)) (inner .x)) glyphs) (digits-div page h)
     ∙ ap (λ (k : ℕ). map (seenAt page (inner .y + k) (inner .x)) glyphs) own-row)
 
--- where there is no line, nothing is
+-- nothing is read for `noLine`
 no-line : (inner : Rect) (number : ℕ) → lineSeen inner number noLine ≡ []
 unfolding lineSeen drawnStarts
 no-line inner number = refl
 
--- the lines in order, each with its number
+-- the symbols of the lines, line by line
 lines-seen : (inner : Rect) (number : ℕ) (lines : List Line)
     → each 0 (length lines) (λ k. lineSeen inner (number + k) (getD lines k noLine)) ≡ map seen (placementsFrom inner number lines)
 unfolding lineSeen
@@ -55,17 +55,17 @@ lines-seen inner number (line ∷ rest) =
     ∙ each-same 0 (length rest) (λ k. f (1 + k)) (λ k. lineSeen inner (suc number + k) (getD rest k noLine))
     (λ k _ _. let one : 1 + k ≡ suc k = omega arith in let next : number + suc k ≡ suc number + k = omega arith in rw (one, next))
     ∙ lines-seen inner (suc number) rest in
-    let own : List Placement = map (placementOf inner number) (solidPlaced (inner .width) (drawnStarts (inner .width) line)) in
-    rw (add-zero, others) (sym (map-append seen own (placementsFrom inner (suc number) rest)))
+    let default : List Placement = map (placementOf inner number) (solidPlaced (inner .width) (drawnStarts (inner .width) line)) in
+    rw (add-zero, others) (sym (map-append seen default (placementsFrom inner (suc number) rest)))
 
--- of lines that fit each one does, and where there is none, `noLine` does
+-- if the lines fit, each of them does, and so does `noLine` past the last
 fit-at : (width : ℕ) (lines : List Line) (number : ℕ) → Fit width lines
     → OneCell (getD lines number noLine .glyphs) × (total (getD lines number noLine .glyphs) ≤ width)
 fit-at width [] number fit = (tt, omega arith)
 fit-at width (line ∷ rest) zero fit = fit .0
 fit-at width (line ∷ rest) (suc number) fit = fit-at width rest number (fit .1)
 
--- the pages have a row for each line
+-- the pages have at least as many rows as there are lines
 pages-enough : (n h : ℕ) → 0 < h → n ≤ pageCount n h * h
 pages-enough n h some = omega (arith, div-add-mod' (n + (h - 1)) h, mod-lt (n + (h - 1)) some)
 
@@ -73,11 +73,11 @@ module _ (i : Call) (w : WrappedNotice i) (fit : Fit (innerArea i .width) (compo
   abbrev inner : Rect
   inner = innerArea i
 
-  -- what is seen of a cell of the screen on a page
+  -- the symbol read in a cell of a page
   abbrev lookAt : ℕ → ℕ → ℕ → List Seen
   lookAt page row column = look page row column (getD (cellsAfter (pageCall i page)) (row * i .columns + column) 0)
 
-  -- a row of a page reads as its line
+  -- reading a row of a page gives its line
   row-there : (page j : ℕ) → j < inner .height
       → each (inner .x) (inner .width) (lookAt page (inner .y + j)) ≡ lineSeen inner (scrollOf i page + j) (lineNumbered i (scrollOf i page + j))
   unfolding lineNumbered
@@ -92,19 +92,19 @@ module _ (i : Call) (w : WrappedNotice i) (fit : Fit (innerArea i .width) (compo
       (fits .0) (fits .1) (λ column q. before-blank i w j column h q)
       ∙ line-seen inner page j (lineNumbered i number) h
 
-  -- and a page as its lines
+  -- reading a page gives its lines
   page-there : (page : ℕ) → each (inner .y) (inner .height) (λ row. each (inner .x) (inner .width) (lookAt page row))
       ≡ each 0 (inner .height) (λ j. lineSeen inner (scrollOf i page + j) (lineNumbered i (scrollOf i page + j)))
   page-there page =
       each-shift (inner .y) (inner .height) (λ row. each (inner .x) (inner .width) (lookAt page row))
       ∙ each-same 0 (inner .height) _ _ (λ j _ q. row-there page j (omega arith))
 
-  -- past the last line nothing is seen
+  -- past the last line nothing is read
   past-lines : (number : ℕ) → length (composedLines i) ≤ number → lineSeen inner number (lineNumbered i number) ≡ []
   unfolding lineNumbered
   past-lines number h = ap (lineSeen inner number) (List·getD-eq-default (composedLines i) noLine h) ∙ no-line inner number
 
--- All pages together show the lines' solid glyphs in their places, and nothing else.
+-- all pages together show the lines' non-whitespace glyphs in their places, and nothing else
 pub pages-read : (i : Call) → WrappedNotice i → Fit (innerArea i .width) (composedLines i) → pagesRead i ≡ map seen (placements i)
 unfolding pagesRead pagesOf placements lineNumbered
 pages-read i w fit =

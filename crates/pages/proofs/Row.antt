@@ -1,4 +1,4 @@
--- Reading one row: cells with the blank symbol on which one line of one-cell glyphs was drawn read as the line's solid glyphs.
+-- Reading one row: a line of one-cell glyphs drawn on blank symbols reads as the line's non-whitespace glyphs.
 use Prim.Native.Nat.{ℕ, zero, suc, _+_, _-_, _<_, _≤_}
 use mathlib.Core.Path.{_≡_, refl, sym, ap, _∙_}
 use mathlib.Core.Bool.{Bool, true, false, cond, not, _&&_, and-false}
@@ -10,8 +10,8 @@ use lib.Dec.{eqb}
 use Rattle.text.specs.Line.{Glyph, Start, total, startsFrom}
 use Rattle.cell.specs.Cell.{cellFrom, blankSymbol}
 use Rattle.cell.proofs.Fields.{styled-symbol, symbol-set}
-use Rattle.compose.specs.Lines.{Line}
-use Rattle.compose.specs.Places.{placed}
+use Rattle.line_composer.specs.Lines.{Line}
+use Rattle.line_composer.specs.Places.{isPlaced}
 use Rattle.render_glyphs.specs.RenderGlyphs.{glyphOn, glyphsOn}
 use Rattle.render_line.specs.RenderLine.{drawnStarts, lineOn}
 use Rattle.render_line.proofs.Moving.{glyphs-before}
@@ -20,24 +20,24 @@ use Rattle.pages.specs.Reading.{Seen, each, look, OneCell}
 use Rattle.pages.proofs.Each.{each-none, each-add}
 use Rattle.pages.proofs.Offset.{offset-fits}
 
--- a glyph as it is seen on a page and in a row, its line's columns being counted from x
+-- the symbol read for a glyph on a page and row, its start counted from column x
 abbrev pub seenAt : ℕ → ℕ → ℕ → Start → Seen
 seenAt page row x s = record { page = page; row = row; column = x + s .start; symbol = s .glyph .symbol }
 
--- a cell with the blank symbol isn't seen
+-- a cell with the blank symbol reads as nothing
 look-blank : (page row column cell : ℕ) → cellFrom cell .symbol ≡ blankSymbol → look page row column cell ≡ []
 unfolding look
 look-blank page row column cell e = simp (eq-eqb (cellFrom cell .symbol) blankSymbol e)
 
 module _ (styles : List ℕ) (style width page row x : ℕ) where
-  -- a cell with a placed glyph's symbol is seen as that glyph, unless the glyph is whitespace
-  look-glyph : (s : Start) (rest : List Start) (cell : ℕ) → cellFrom cell .symbol ≡ s .glyph .symbol → placed width s ≡ true
+  -- a cell with a placed glyph's symbol reads as that glyph, unless the glyph is whitespace
+  look-glyph : (s : Start) (rest : List Start) (cell : ℕ) → cellFrom cell .symbol ≡ s .glyph .symbol → isPlaced width s ≡ true
       → s .glyph .whitespace ≡ eqb (s .glyph .symbol) blankSymbol
       → look page row (x + s .start) cell ++ map (seenAt page row x) rest
-      ≡ map (seenAt page row x) (cond (placed width s && not (s .glyph .whitespace)) (s ∷ rest) rest)
+      ≡ map (seenAt page row x) (cond (isPlaced width s && not (s .glyph .whitespace)) (s ∷ rest) rest)
   unfolding look
   look-glyph s rest cell e p w =
-      let solid : (placed width s && not (s .glyph .whitespace)) ≡ not (eqb (s .glyph .symbol) blankSymbol)
+      let solid : (isPlaced width s && not (s .glyph .whitespace)) ≡ not (eqb (s .glyph .symbol) blankSymbol)
       = ap (λ (b : Bool). b && not (s .glyph .whitespace)) p ∙ ap not w in
       rw (e, solid) (go (eqb (s .glyph .symbol) blankSymbol))
     where
@@ -46,26 +46,26 @@ module _ (styles : List ℕ) (style width page row x : ℕ) where
       go true = refl
       go false = refl
 
-  -- a glyph of a cell or more that starts left of the edge is placed
-  is-placed : (s : Start) → 0 < s .glyph .width → s .start < width → placed width s ≡ true
-  unfolding placed
+  -- a glyph of width above 0 that starts left of the edge is placed
+  is-placed : (s : Start) → 0 < s .glyph .width → s .start < width → isPlaced width s ≡ true
+  unfolding isPlaced
   is-placed s p q = simp (lt-ltb 0 (s .glyph .width) p, lt-ltb (s .start) width q)
 
-  -- a placed glyph's own cell gets its symbol
-  glyph-symbol : (s : Start) (cell : ℕ) → placed width s ≡ true → cellFrom (glyphOn styles style width s (s .start) cell) .symbol ≡ s .glyph .symbol
+  -- a placed glyph's first cell gets its symbol
+  glyph-symbol : (s : Start) (cell : ℕ) → isPlaced width s ≡ true → cellFrom (glyphOn styles style width s (s .start) cell) .symbol ≡ s .glyph .symbol
   unfolding glyphOn
   glyph-symbol s cell p = simp (p, eq-eqb (s .start) (s .start) refl) (styled-symbol _ _ ∙ styled-symbol _ _ ∙ symbol-set (s .glyph .symbol) cell)
 
-  -- and the cells right of it are left as they are
+  -- the cells right of it are unchanged
   glyph-after : (s : Start) (column cell : ℕ) → s .start < column → glyphOn styles style width s column cell ≡ cell
   unfolding glyphOn
   glyph-after s column cell h = simp (ne-eqb column (s .start) (λ e. omega arith), and-false)
 
-  -- the cells that a line's glyphs leave, as they are seen
+  -- the symbol read in a column after the glyphs are drawn
   abbrev lookOn : ℕ → List Glyph → (ℕ → ℕ) → ℕ → List Seen
   lookOn start gs cell column = look page row (x + column) (glyphsOn styles style width (startsFrom start gs) column (cell column))
 
-  -- from the first glyph's column on
+  -- the columns from the first glyph's on
   from-start : (gs : List Glyph) (start n : ℕ) (cell : ℕ → ℕ) → OneCell gs → total gs ≤ n → start + n ≤ width
       → ((column : ℕ) → start ≤ column → column < start + n → cellFrom (cell column) .symbol ≡ blankSymbol)
       → each start n (lookOn start gs cell) ≡ map (seenAt page row x) (solidPlaced width (startsFrom start gs))
@@ -76,7 +76,7 @@ module _ (styles : List ℕ) (style width page row x : ℕ) where
       let s : Start = record { start = start; glyph = g } in
       let wide : g .width ≡ 1 = one .0 .0 in
       let next : start + g .width ≡ suc start = omega arith in
-      let put : placed width s ≡ true = is-placed s (omega arith) (omega arith) in
+      let put : isPlaced width s ≡ true = is-placed s (omega arith) (omega arith) in
       let after : ℕ → ℕ = λ column. glyphOn styles style width s column (cell column) in
       let rest : List Start = solidPlaced width (startsFrom (start + g .width) gs) in
       let others : each (suc start) n (lookOn (start + g .width) gs after) ≡ map (seenAt page row x) rest
@@ -89,7 +89,7 @@ module _ (styles : List ℕ) (style width page row x : ℕ) where
       ap (λ (l : List Seen). lookOn (start + g .width) gs after start ++ l) others
       ∙ look-glyph s rest (glyphsOn styles style width (startsFrom (start + g .width) gs) start (after start)) first put (one .0 .1)
 
-  -- a whole row
+  -- all columns of the row
   whole-row : (gs : List Glyph) (start : ℕ) (cell : ℕ → ℕ) → OneCell gs → start + total gs ≤ width
       → ((column : ℕ) → column < width → cellFrom (cell column) .symbol ≡ blankSymbol)
       → each 0 width (lookOn start gs cell) ≡ map (seenAt page row x) (solidPlaced width (startsFrom start gs))
@@ -105,7 +105,7 @@ module _ (styles : List ℕ) (style width page row x : ℕ) where
       ∙ ap (λ (l : List Seen). l ++ each (0 + start) (width - start) f) before
       ∙ rw zero-add (from-start gs start (width - start) cell one (omega arith) (omega arith) (λ column p q. blank column (omega arith)))
 
--- a line that fits, read from the row it was drawn on
+-- reading the row of a line that fits gives its non-whitespace glyphs
 pub row-reads : (styles : List ℕ) (style width page row x : ℕ) (line : Line) (cell : ℕ → ℕ) → OneCell (line .glyphs) → total (line .glyphs) ≤ width
     → ((column : ℕ) → column < width → cellFrom (cell column) .symbol ≡ blankSymbol)
     → each 0 width (λ column. look page row (x + column) (lineOn styles style width line column (cell column)))

@@ -1,6 +1,6 @@
--- From the glyphs of a text to those that its lines place, where every glyph has one cell.
--- fit-text: the lines are no wider than the limit, and their glyphs are of one cell as the text's are.
--- placed-glyphs: the glyphs placed that aren't whitespace are the text's, in text order.
+-- For a text of one-cell glyphs: from its glyphs to those that its lines place.
+-- fit-text: the lines are no wider than the limit and consist of one-cell glyphs.
+-- placed-glyphs: the non-whitespace glyphs placed are those of the text, in text order.
 use Prim.Native.Nat.{ℕ, suc, _+_, _<_, _≤_}
 use mathlib.Core.Path.{_≡_, refl, ap, _∙_, subst}
 use mathlib.Core.Bool.{Bool, true, false, cond, not, _&&_}
@@ -22,12 +22,12 @@ use Rattle.nothing_lost.proofs.Lists.{glyphs-append}
 use Rattle.nothing_lost.proofs.Solid.{solids-append, no-solid-lost}
 use Rattle.nothing_lost.proofs.Accounted.{accounted}
 use Rattle.nothing_lost.proofs.Bounds.{no-wider-append, one-cell}
-use Rattle.compose.specs.declared.Method.the-variants.{Wrapped}
-use Rattle.compose.specs.Lines.{Line, lines}
-use Rattle.compose.specs.Places.{placed}
+use Rattle.line_composer.specs.declared.Method.the-variants.{WordWrap}
+use Rattle.line_composer.specs.Lines.{Line, lines}
+use Rattle.line_composer.specs.Places.{isPlaced}
 use Rattle.render_line.specs.RenderLine.{drawnStarts}
 use Rattle.text.proofs.TextLines.{opens-none}
-use Rattle.line_counts.proofs.Emitted.{lists, wrapped, lines-wrapped}
+use Rattle.tally_lines.proofs.Emitted.{lists, wrapped, lines-wrapped}
 use Rattle.pages.specs.Pages.{Placement, placementOf, solidPlaced, placementsFrom}
 use Rattle.pages.specs.Reading.{OneCell}
 use Rattle.pages.proofs.Fit.{Fit}
@@ -35,7 +35,7 @@ use Rattle.pages.proofs.Offset.{offset-fits}
 
 -- ---- the glyphs of the lines are the text's
 
--- a glyph that isn't as `OneCell` asks: wrapping accounts for glyphs by tests, and no glyph of the text passes this one
+-- whether a glyph violates `OneCell`, as a Bool, since the laws on wrapping count glyphs by such tests
 abbrev unfit : Glyph → Bool
 unfit g = not (eqb (g .width) 1 && cond (g .whitespace) (eqb (g .symbol) blankSymbol) (not (eqb (g .symbol) blankSymbol)))
 
@@ -64,7 +64,7 @@ one-wide [] h = none
 one-wide (g ∷ gs) h = one {g = g} (omega (arith, h .0 .0)) (omega (arith, h .0 .0)) (one-wide gs (h .1))
 
 module _ (u : Rule) (some : 0 < u .limit) where
-  -- wrapping makes no glyph of its own
+  -- wrapping adds no glyph
   wrapped-fit : (ls : List TextLine) → countOf unfit (glyphsOfAll (wrapped u ls)) ≤ countOf unfit (lineGlyphs ls)
   wrapped-fit [] = omega arith
   wrapped-fit (line ∷ rest) = simp (glyphs-append, count-append) (omega (arith, accounted u (glyphsOf line) some unfit, wrapped-fit rest))
@@ -96,7 +96,7 @@ fit-lists most (line ∷ rest) e (one h n) =
     let parts = count-append unfit (line .glyphs) (glyphsOfAll (lists rest)) in
     ((all-fit (line .glyphs) (omega arith), h), fit-lists most rest (omega arith) n)
 
--- ---- and those that are placed
+-- ---- the glyphs of the lines that are placed
 
 abbrev shown : List Placement → List Glyph
 shown ps = map (λ (p : Placement). p .glyph) ps
@@ -108,7 +108,7 @@ module _ (inner : Rect) (number : ℕ) where
 
   starts-placed : (start : ℕ) (gs : List Glyph) → OneCell gs → start + total gs ≤ inner .width
       → shown (map (placementOf inner number) (placedFrom start gs)) ≡ solids gs
-  unfolding placed placementOf
+  unfolding isPlaced placementOf
   starts-placed start [] h k = refl
   starts-placed start (g ∷ gs) h k =
       rw (lt-ltb 0 (g .width) (omega (arith, h .0 .0)), lt-ltb start (inner .width) (omega (arith, h .0 .0)))
@@ -141,19 +141,19 @@ module _ (text : List ℕ) (opens : Opens text) where
   lines-fit : OneCell (glyphsFrom 0 text) → countOf unfit (lineGlyphs (linesFrom 0 text)) ≡ 0
   lines-fit cells = ap (countOf unfit) same-glyphs ∙ none-unfit (glyphsFrom 0 text) cells
 
-pub fit-text : (u : Rule) (own : Alignment) (text : List ℕ) → 0 < u .limit → Opens text → OneCell (glyphsFrom 0 text)
-    → Fit (u .limit) (lines u Wrapped own text)
-fit-text u own text some opens cells =
+pub fit-text : (u : Rule) (default : Alignment) (text : List ℕ) → 0 < u .limit → Opens text → OneCell (glyphsFrom 0 text)
+    → Fit (u .limit) (lines u WordWrap default text)
+fit-text u default text some opens cells =
     let fit = lines-fit text opens cells in
-    fit-lists (u .limit) (lines u Wrapped own text)
-    (rw (lines-wrapped u own text) (omega (arith, wrapped-fit u some (linesFrom 0 text))))
-    (rw (lines-wrapped u own text) (wrapped-narrow u some (linesFrom 0 text) fit))
+    fit-lists (u .limit) (lines u WordWrap default text)
+    (rw (lines-wrapped u default text) (omega (arith, wrapped-fit u some (linesFrom 0 text))))
+    (rw (lines-wrapped u default text) (wrapped-narrow u some (linesFrom 0 text) fit))
 
-pub placed-glyphs : (inner : Rect) (u : Rule) (own : Alignment) (text : List ℕ) → u .limit ≡ inner .width → 0 < u .limit → Opens text
+pub placed-glyphs : (inner : Rect) (u : Rule) (default : Alignment) (text : List ℕ) → u .limit ≡ inner .width → 0 < u .limit → Opens text
     → OneCell (glyphsFrom 0 text)
-    → map (λ (p : Placement). p .glyph) (placementsFrom inner 0 (lines u Wrapped own text)) ≡ solids (glyphsFrom 0 text)
-placed-glyphs inner u own text limit some opens cells =
-    all-placed inner 0 (lines u Wrapped own text) (subst (λ (most : ℕ). Fit most (lines u Wrapped own text)) limit (fit-text u own text some opens cells))
-    ∙ ap (λ (ls : List (List Glyph)). solids (glyphsOfAll ls)) (lines-wrapped u own text)
+    → map (λ (p : Placement). p .glyph) (placementsFrom inner 0 (lines u WordWrap default text)) ≡ solids (glyphsFrom 0 text)
+placed-glyphs inner u default text limit some opens cells =
+    all-placed inner 0 (lines u WordWrap default text) (subst (λ (most : ℕ). Fit most (lines u WordWrap default text)) limit (fit-text u default text some opens cells))
+    ∙ ap (λ (ls : List (List Glyph)). solids (glyphsOfAll ls)) (lines-wrapped u default text)
     ∙ wrapped-solids u some (linesFrom 0 text) (lines-fit text opens cells)
     ∙ ap solids (same-glyphs text opens)

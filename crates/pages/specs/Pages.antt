@@ -1,5 +1,5 @@
--- Document 01, 'Rows, pages, tally': "Demand 3's pages", and where they have each glyph. A notice is given by a call of `draw_notice`, and
--- its pages are calls of it: their verdict, cells and counts are the call's own.
+-- Document 01, 'Rows, pages, tally': "Demand 3's pages" and the place of each glyph on them. A notice is given by a call of
+-- `draw_notice`, and each of its pages is such a call, with the call's verdict, cells and counts.
 use Prim.Native.Nat.{ℕ, suc, _+_, _-_, _*_, _/_}
 use mathlib.Core.Bool.{cond, not, _&&_}
 use mathlib.Core.List.{List, [], _∷_, _++_, map}
@@ -7,8 +7,8 @@ use lib.ListN.{length, replicate}
 use Rattle.text.specs.Line.{Glyph, Start}
 use Rattle.cell.specs.Cell.{blankCell}
 use Rattle.layout.specs.declared.Rect.{Rect}
-use Rattle.compose.specs.Lines.{Line}
-use Rattle.compose.specs.Places.{placed}
+use Rattle.line_composer.specs.Lines.{Line}
+use Rattle.line_composer.specs.Places.{isPlaced}
 use Rattle.render_line.specs.RenderLine.{drawnStarts}
 use Rattle.paragraph.specs.declared.Notice.{Notice}
 use Rattle.paragraph.specs.Notice.{noticeLines, innerAreaOf}
@@ -30,7 +30,7 @@ scrolledTo scroll n =
 abbrev pub blankCells : Call → List ℕ
 blankCells i = replicate (i .columns * i .rows) blankCell
 
--- the notice drawn on blank cells, from a scroll row on
+-- the call that draws the notice on blank cells from a scroll row on
 abbrev pub callAt : Call → ℕ → Call
 callAt i scroll =
     record {
@@ -66,8 +66,8 @@ scrollOf i page = page * innerArea i .height
 abbrev pub pageCall : Call → ℕ → Call
 pageCall i page = callAt i (scrollOf i page)
 
--- "Line i, from 0, is on page i / h, rounded down, in the inner area's row i less page × h. A glyph's column is the inner area's left
--- edge plus its start as drawn." Row and column are the screen's here.
+-- "Line i, from 0, is on page i / h, rounded down, in the inner area's row i less page × h. A glyph's column is the inner area's
+-- left edge plus its start as drawn." Row and column are those of the screen.
 pub record Placement : Type 0 where
   pub page : ℕ
   pub row : ℕ
@@ -84,12 +84,12 @@ placementOf inner number s =
       glyph = s .glyph;
     }
 
--- the glyphs of a line that are placed in so many columns and aren't whitespace
+-- the non-whitespace glyphs of a line that are placed, at a width
 abbrev pub solidPlaced : ℕ → List Start → List Start
 solidPlaced width [] = []
-solidPlaced width (s ∷ rest) = cond (placed width s && not (s .glyph .whitespace)) (s ∷ solidPlaced width rest) (solidPlaced width rest)
+solidPlaced width (s ∷ rest) = cond (isPlaced width s && not (s .glyph .whitespace)) (s ∷ solidPlaced width rest) (solidPlaced width rest)
 
--- those of lines, the first of which has the number given, line by line
+-- the placements of lines, the first of which has index `number`
 abbrev pub placementsFrom : Rect → ℕ → List Line → List Placement
 placementsFrom inner number [] = []
 placementsFrom inner number (line ∷ rest) =

@@ -1,4 +1,4 @@
--- Demand 3: what is read over all the pages, and the notices of which it speaks.
+-- Demand 3, 'Nothing is lost', quoted from the demands (docs/PROMISES.md): the symbols read over all pages, the notices it covers.
 use Prim.Native.Nat.{ℕ, zero, suc, _+_, _*_, _<_}
 use mathlib.Core.Path.{_≡_}
 use mathlib.Core.Bool.{Bool, false, cond}
@@ -10,29 +10,29 @@ use Rattle.cell.specs.Cell.{cellFrom, blankSymbol}
 use Rattle.layout.specs.Rect.{isEmpty}
 use Rattle.refuse.specs.declared.Verdict.the-variants.{Accepted}
 use Rattle.nothing_lost.specs.Glyphs.{solids}
-use Rattle.compose.specs.declared.Wrap.the-variants.{On}
-use Rattle.compose.specs.Lines.{dropped}
+use Rattle.line_composer.specs.declared.Wrap.the-variants.{On}
+use Rattle.line_composer.specs.Lines.{dropped}
 use Rattle.tally.specs.Call as tally
 use Rattle.draw_notice.specs.Call.{Call, verdictOf, countsOf, cellsAfter}
 use Rattle.pages.specs.Pages.{Placement, innerArea, pagesOf, scrollOf, pageCall, placements}
 
--- a symbol read on a page, in a row and a column of the screen
+-- a symbol read on a page, at a row and column of the screen
 pub record Seen : Type 0 where
   pub page : ℕ
   pub row : ℕ
   pub column : ℕ
   pub symbol : ℕ
 
--- what is to be seen of a glyph in its place
+-- the symbol to be read for a placed glyph
 abbrev pub seen : Placement → Seen
 seen p = record { page = p .page; row = p .row; column = p .column; symbol = p .glyph .symbol }
 
--- f a, f (a + 1) and on, n of them, in one list
+-- concatenation of f a, f (a + 1), … f (a + n - 1)
 abbrev pub each : {A : Type 0} → ℕ → ℕ → (ℕ → List A) → List A
 each a zero f = []
 each a (suc n) f = f a ++ each (suc a) n f
 
--- a cell's symbol, unless it is the blank one
+-- a cell's symbol, or nothing if it is the blank one
 unfoldable pub look : ℕ → ℕ → ℕ → ℕ → List Seen
 look page row column cell =
     cond (eqb (cellFrom cell .symbol) blankSymbol) [] (record { page = page; row = row; column = column; symbol = cellFrom cell .symbol } ∷ [])
@@ -46,7 +46,7 @@ pagesRead i =
     each (inner .x) (inner .width) (λ column.
     look page row column (getD (cellsAfter (pageCall i page)) (row * i .columns + column) 0))))
 
--- the sum of a count over all the pages
+-- the sum f a + f (a + 1) + … + f (a + n - 1)
 abbrev pub summed : ℕ → ℕ → (ℕ → ℕ) → ℕ
 summed a zero f = 0
 summed a (suc n) f = f a + summed (suc a) n f
@@ -67,8 +67,8 @@ pub record WrappedNotice (i : Call) : Type 0 where
 abbrev pub Reached : Call → Type 0
 Reached i = (page : ℕ) → page < pagesOf i → (scrollOf i page < 65536) × (verdictOf (pageCall i page) ≡ Accepted)
 
--- Demand 3, the pages: all together they show each glyph of the text that isn't whitespace once, in text order, in its place, and
--- nothing else. So "Inner cells without a glyph hold the blank symbol": any other symbol would be read.
+-- Demand 3, the pages: together they show each non-whitespace glyph of the text once, in text order, in its place, and nothing
+-- else. So "Inner cells without a glyph hold the blank symbol": any other symbol would be read.
 pub record NothingLost (i : Call) : Type 0 where
   pub reached : Reached i
   -- "the symbols … are exactly those of its text's non-whitespace glyphs"
@@ -78,8 +78,8 @@ pub record NothingLost (i : Call) : Type 0 where
   -- "Each is there once, in text order"
   pub glyphs : map (λ (p : Placement). p .glyph) (placements i) ≡ solids (glyphsFrom 0 (i .text))
 
--- Demand 3, the counts of a tally call, for glyphs of any widths: "placed + clipped + zero-width + over-wide + dropped = glyphs", "and
--- every dropped glyph is whitespace".
+-- Demand 3, the counts of a tally call, for glyphs of any width: "placed + clipped + zero-width + over-wide + dropped = glyphs",
+-- "and every dropped glyph is whitespace".
 pub record AllCounted (call : tally.Call) : Type 0 where
   pub all-glyphs :
       let c = tally.countsOf call in
@@ -90,8 +90,8 @@ pub record AllCounted (call : tally.Call) : Type 0 where
 abbrev pub pagesTally : Call → Bool → tally.Call
 pagesTally i trim = tally.callOf (i .text) (innerArea i .width) trim
 
--- Beyond demand 3's words, and tying its pages to its counts, for glyphs of any widths: the tally of the text at the inner width is
--- answered, and what the pages' answers count adds up to it.
+-- More than demand 3 asks; it relates the pages to the counts, for glyphs of any width: the tally of the text at the inner width
+-- is accepted, and the counts of the pages' answers add up to it.
 pub record SameCounts (i : Call) (trim : Bool) : Type 0 where
   pub reached : Reached i
   pub answered : tally.verdictOf (pagesTally i trim) ≡ Accepted
@@ -99,8 +99,8 @@ pub record SameCounts (i : Call) (trim : Bool) : Type 0 where
   pub placed : summed 0 (pagesOf i) (λ page. countsOf (pageCall i page) .placed) ≡ tally.countsOf (pagesTally i trim) .placed
   pub clipped : summed 0 (pagesOf i) (λ page. countsOf (pageCall i page) .clipped) ≡ tally.countsOf (pagesTally i trim) .clipped
 
--- Demand 3, all of it: the pages of every such notice whose glyphs are one cell wide; the tally of every accepted text at every limit
--- above 0, whatever its glyphs' widths; and the pages' counts, which are the tally's.
+-- Demand 3 as one claim: the pages of every such notice whose glyphs are one cell wide; the tally of every accepted text at every
+-- limit above 0, for glyphs of any width; and the pages' counts, which are the tally's.
 pub record DemandThree : Type 0 where
   pub nothing-lost : (i : Call) → WrappedNotice i → OneCell (glyphsFrom 0 (i .text)) → NothingLost i
   pub all-counted : (call : tally.Call) → tally.verdictOf call ≡ Accepted → 0 < call .limit → AllCounted call

@@ -1,1 +1,1 @@
-// Demand 3: what is read over all the pages of a notice. It has no code: its theorems are in proofs/.
+// Demand 3: the symbols read over all the pages of a notice. Definitions and theorems only, in specs/ and proofs/; no code.

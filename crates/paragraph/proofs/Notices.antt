@@ -1,4 +1,4 @@
--- The notice on the cells that its area and the screen share: one law for each way through the code.
+-- The notice in the intersection of its area and the screen: one law for each path through `render`.
 use Prim.Native.Nat.{ℕ, _<_}
 use mathlib.Core.Path.{_≡_, refl, sym, _∙_}
 use mathlib.Core.Bool.{Bool, true, false, not, _||_, or-true, true≢false}
@@ -14,18 +14,18 @@ use Rattle.block.specs.Inner.{innerOf}
 use Rattle.buffer.specs.declared.Screen.{Screen}
 use Rattle.buffer.specs.declared.Ink.the-variants.{Style}
 use Rattle.buffer.specs.Drawing.{drawn, over, inOrder, areaOf, styleAt}
-use Rattle.buffer.specs.Ink.{inked}
-use Rattle.buffer.specs.Parts.{OnScreen}
+use Rattle.buffer.specs.InkExtra.{inked}
+use Rattle.buffer.specs.PartsExtra.{OnScreen}
 use Rattle.buffer.proofs.Drawn.{drawn-also}
 use Rattle.buffer.proofs.Order.{first-then, only-drawn, only-spared}
-use Rattle.frame.specs.Frame.{frame}
-use Rattle.buffer.specs.Screen.{HasCells}
-use Rattle.frame.proofs.Frames.{met-on-screen}
-use Rattle.rows.specs.declared.Rows.{Rows}
+use Rattle.render_block.specs.Frame.{frame}
+use Rattle.buffer.specs.PartsExtra.{HasCells}
+use Rattle.render_block.proofs.Frames.{met-on-screen}
+use Rattle.render_lines.specs.declared.DrawCounts.{DrawCounts}
 use Rattle.paragraph.specs.declared.Notice.{Notice}
-use Rattle.paragraph.specs.Notice.{noRows, innerAreaOf, insideOf, insideCounts, noticeOf, noticeCounts}
+use Rattle.paragraph.specs.Notice.{noDrawCounts, innerAreaOf, insideOf, insideCounts, noticeOf, noticeCounts}
 
--- what is taken of nothing leaves nothing
+-- the inner area of an empty area is empty
 empty-inner : (b : Block) (titles : List ℕ) (met : Rect) → isEmpty met ≡ true → isEmpty (innerOf b titles met) ≡ true
 unfolding innerOf
 empty-inner b titles met e = go (eqb (met .width) 0) (eqb (met .height) 0) refl refl e
@@ -45,44 +45,44 @@ module _ (columns : ℕ) (styles text titles : List ℕ) (screen : Screen) (n : 
   style-and-frame met style first last e p q = first-then columns _ (_ ∷ []) cells first last (rw e at p) q
 
   module _ (area all met : Rect) (a : all ≡ areaOf screen) (m : met ≡ meet area all) (empty : Bool) (f : empty ≡ isEmpty met) where
-    met-is : met ≡ meet area (areaOf screen)
-    met-is = rw a at m
+    met-is-meeting : met ≡ meet area (areaOf screen)
+    met-is-meeting = rw a at m
 
     -- an empty meeting draws no cell
     pub notice-left : empty ≡ true → 0 < columns → cells ≡ drawn columns (noticeOf styles screen text titles n area) cells
     unfolding noticeOf
     notice-left g some =
-        let h : isEmpty (meet area (areaOf screen)) ≡ true = rw met-is at (sym f ∙ g) in
+        let h : isEmpty (meet area (areaOf screen)) ≡ true = rw met-is-meeting at (sym f ∙ g) in
         only-spared columns (not (isEmpty (meet area (areaOf screen)))) _ cells some (rw h)
 
-    -- any other: frame, then inner area
+    -- a non-empty meeting gets the frame, then the inner area
     pub notice-drawn : empty ≡ false → 0 < columns → (first last : List ℕ)
         → first ≡ drawn columns (inOrder (over met (styled (styleAt styles (n .style))) ∷ frame styles screen titles (n .block) met ∷ [])) cells
         → last ≡ drawn columns (insideOf styles text n (innerOf (n .block) titles met)) first
         → last ≡ drawn columns (noticeOf styles screen text titles n area) cells
     unfolding noticeOf innerAreaOf
     notice-drawn g some first last p q =
-        let h : isEmpty (meet area (areaOf screen)) ≡ false = rw met-is at (sym f ∙ g) in
+        let h : isEmpty (meet area (areaOf screen)) ≡ false = rw met-is-meeting at (sym f ∙ g) in
         only-drawn columns (not (isEmpty (meet area (areaOf screen)))) _ cells some last (rw h)
-        (rw met-is at (drawn-also columns _ (insideOf styles text n (innerOf (n .block) titles met)) cells first last p q))
+        (rw met-is-meeting at (drawn-also columns _ (insideOf styles text n (innerOf (n .block) titles met)) cells first last p q))
 
-    pub notice-counted : (r : Rows) → r ≡ insideCounts text n (innerOf (n .block) titles met) → r ≡ noticeCounts screen text titles n area
+    pub notice-counted : (r : DrawCounts) → r ≡ insideCounts text n (innerOf (n .block) titles met) → r ≡ noticeCounts screen text titles n area
     unfolding noticeCounts innerAreaOf
-    notice-counted r q = rw met-is at q
+    notice-counted r q = rw met-is-meeting at q
 
-    -- the inner area of an empty meeting is empty, so that nothing is counted
-    pub notice-none : empty ≡ true → noRows ≡ noticeCounts screen text titles n area
+    -- an empty meeting has an empty inner area, so nothing is counted
+    pub notice-none : empty ≡ true → noDrawCounts ≡ noticeCounts screen text titles n area
     unfolding noticeCounts innerAreaOf insideCounts
     notice-none g =
         let h : isEmpty met ≡ true = sym f ∙ g in
-        let e : isEmpty (innerOf (n .block) titles (meet area (areaOf screen))) ≡ true = rw met-is at (empty-inner (n .block) titles met h) in
+        let e : isEmpty (innerOf (n .block) titles (meet area (areaOf screen))) ≡ true = rw met-is-meeting at (empty-inner (n .block) titles met h) in
         rw e
 
 -- a screen with cells has a column
 pub some-columns : (screen : Screen) (count : ℕ) → HasCells screen count → 0 < screen .columns
 some-columns screen count h = h .columns
 
--- and a meeting that isn't empty still lies on it when the frame is drawn
+-- a non-empty meeting is still on the screen after the frame is drawn
 pub met-still : (screen : Screen) (count now : ℕ) (area all met : Rect) (empty : Bool) → HasCells screen count → all ≡ areaOf screen → met ≡ meet area all
     → empty ≡ isEmpty met → empty ≡ false → now ≡ count → OnScreen screen now met
 met-still screen count now area all met empty h a m f g e = rw e (met-on-screen screen count area all met empty h a m f g)

@@ -1,4 +1,4 @@
--- Document 01, 'Rows, pages, tally (paragraph.rs)': what a notice draws, and what its answer counts.
+-- Document 01, 'Rows, pages, tally (paragraph.rs)': the drawing of a notice and the counts in its answer.
 use Prim.Native.Nat.{ℕ}
 use mathlib.Core.Bool.{cond, not}
 use mathlib.Core.List.{List, [], _∷_}
@@ -8,18 +8,18 @@ use Rattle.layout.specs.Rect.{meet, isEmpty}
 use Rattle.block.specs.Inner.{innerOf}
 use Rattle.buffer.specs.declared.Screen.{Screen}
 use Rattle.buffer.specs.Drawing.{Drawing, over, onlyIf, inOrder, areaOf, styleAt}
-use Rattle.frame.specs.Frame.{frame}
-use Rattle.compose.specs.Lines.{Line, lines}
-use Rattle.compose.specs.Wrap.{methodOf, ruleAt}
-use Rattle.rows.specs.declared.Rows.{Rows}
-use Rattle.rows.specs.Rows.{textOn, rowsDrawn, placedOn, clippedOn}
+use Rattle.render_block.specs.Frame.{frame}
+use Rattle.line_composer.specs.Lines.{Line, lines}
+use Rattle.line_composer.specs.Wrap.{methodOf, ruleAt}
+use Rattle.render_lines.specs.declared.DrawCounts.{DrawCounts}
+use Rattle.render_lines.specs.Rows.{textOn, rowsDrawn, placedOn, clippedOn}
 use Rattle.paragraph.specs.declared.Notice.{Notice}
 
--- a notice's lines, "composed with the inner width as the limit"
+-- the lines of a notice, "composed with the inner width as the limit"
 unfoldable pub noticeLines : Notice → List ℕ → ℕ → List Line
 noticeLines n text width = lines (ruleAt (n .wrap) width) (methodOf (n .wrap)) (n .alignment) text
 
--- "inner area of the met area": of a notice that is drawn in an area of a screen
+-- "inner area of the met area"
 unfoldable pub innerAreaOf : Screen → List ℕ → Notice → Rect → Rect
 innerAreaOf screen titles n area = innerOf (n .block) titles (meet area (areaOf screen))
 
@@ -31,8 +31,8 @@ insideOf styles text n inner =
     ∷ onlyIf (not (isEmpty inner)) (textOn styles (n .«text_style») (noticeLines n text (inner .width)) inner (n .scroll))
     ∷ [])
 
--- "A notice is drawn as a `Paragraph` is: frame, inner area of the met area, …". 'Inner area and frame': "an empty meeting draws no
--- cell. Then, over the met area: the paragraph style where a notice is drawn, block style, …"
+-- "A notice is drawn as a `Paragraph` is: frame, inner area of the met area, …". 'Inner area and frame': "an empty meeting draws
+-- no cell. Then, over the met area: the paragraph style where a notice is drawn, block style, …"
 unfoldable pub noticeOf : List ℕ → Screen → List ℕ → List ℕ → Notice → Rect → Drawing
 noticeOf styles screen text titles n area =
     let met = meet area (areaOf screen) in
@@ -44,21 +44,21 @@ noticeOf styles screen text titles n area =
     ∷ []))
 
 -- "the counts are 0"
-abbrev pub noRows : Rows
-noRows = record { rows = 0; placed = 0; clipped = 0 }
+abbrev pub noDrawCounts : DrawCounts
+noDrawCounts = record { rows = 0; placed = 0; clipped = 0 }
 
--- "The answer carries the rows drawn, glyphs placed and clipped." "An empty inner area gets no line, and the counts are 0": so where the
--- meeting is empty, whose inner area is empty too.
-unfoldable pub insideCounts : List ℕ → Notice → Rect → Rows
+-- "The answer carries the rows drawn, glyphs placed and clipped." "An empty inner area gets no line, and the counts are 0". If
+-- the meeting is empty, so is its inner area.
+unfoldable pub insideCounts : List ℕ → Notice → Rect → DrawCounts
 insideCounts text n inner =
     let composed = noticeLines n text (inner .width) in
     cond (isEmpty inner)
-    noRows
+    noDrawCounts
     (record {
       rows = rowsDrawn composed inner (n .scroll);
       placed = placedOn composed inner (n .scroll);
       clipped = clippedOn composed inner (n .scroll);
     })
 
-unfoldable pub noticeCounts : Screen → List ℕ → List ℕ → Notice → Rect → Rows
+unfoldable pub noticeCounts : Screen → List ℕ → List ℕ → Notice → Rect → DrawCounts
 noticeCounts screen text titles n area = insideCounts text n (innerAreaOf screen titles n area)

@@ -1,11 +1,11 @@
-// What a notice draws: paragraph.rs' `render`.
+// Drawing of a notice: paragraph.rs: `Paragraph::render` and `Paragraph::render_paragraph`.
 use block::Block;
 use buffer::Ink;
 use buffer::Screen;
-use compose::Wrap;
-use draw_lines::Inside;
 use layout::Rect;
-use rows::Rows;
+use line_composer::Wrap;
+use render_lines::DrawCounts;
+use render_text::TextSettings;
 use text::Alignment;
 ghost use mathlib.Core.Path.{_≡_};
 ghost use mathlib.Core.Bool.{false};
@@ -16,15 +16,16 @@ ghost use Rattle.text.specs.Line.{Opens};
 ghost use Rattle.cell.specs.Cell.{styled};
 ghost use Rattle.layout.specs.Rect.{isEmpty};
 ghost use Rattle.buffer.specs.Drawing.{drawn, over, inOrder, styleAt};
-ghost use Rattle.buffer.specs.Parts.{OnScreen};
-ghost use Rattle.buffer.specs.Screen.{HasCells};
+ghost use Rattle.buffer.specs.PartsExtra.{OnScreen};
+ghost use Rattle.buffer.specs.PartsExtra.{HasCells};
 ghost use Rattle.block.specs.Causes.{SymbolsFit};
 ghost use Rattle.block.specs.Inner.{innerOf};
-ghost use Rattle.frame.specs.Frame.{frame};
-ghost use Rattle.rows.specs.Drawing.{Composable};
+ghost use Rattle.render_block.specs.Frame.{frame};
+ghost use Rattle.render_lines.specs.DrawingExtra.{Composable};
 ghost use Rattle.paragraph.specs.Notice.{insideOf, insideCounts, noticeOf, noticeCounts};
 
-// A notice: its block, its style and its text's, its own alignment, how its lines are composed, and the first line drawn.
+// Settings of a notice (paragraph.rs: `Paragraph`). `style` and `text_style` are style numbers, `alignment` is the default of its lines,
+// `scroll` the first line drawn.
 pub struct Notice {
     pub block: Block,
     pub style: u8,
@@ -34,8 +35,9 @@ pub struct Notice {
     pub scroll: u16,
 }
 
-// Draws what stands in the frame of a rectangle that lies on the screen: an empty inner area gets nothing.
-fn draw_inside(
+// Draws the text in the inner area of `met`, which is on the screen; nothing if the inner area is empty.
+// (paragraph.rs: `Paragraph::render_paragraph`)
+fn render_paragraph(
     screen: Screen,
     cells: &mut [u64],
     styles: &[u64],
@@ -43,7 +45,7 @@ fn draw_inside(
     titles: &[u32],
     met: Rect,
     notice: Notice,
-) -> Rows
+) -> DrawCounts
     requires { ⌜ Composable (now text) × (screen .columns < 2 ^ 15) × (screen .rows < 2 ^ 15) ⌝ }
     requires { ⌜ OnScreen screen (length (now cells)) met ⌝ }
     ensures cells { λ r.
@@ -53,9 +55,9 @@ fn draw_inside(
     ensures counts { λ r. ⌜ r ≡ insideCounts (now (text .entry)) notice (innerOf (notice .block) (now (titles .entry)) met) ⌝ }
 {
     let block = notice.block;
-    let inner = block.inner_area(titles, met);
+    let inner = block.inner(titles, met);
     if inner.is_empty() {
-        return Rows {
+        return DrawCounts {
             rows: 0,
             placed: 0,
             clipped: 0,
@@ -63,18 +65,18 @@ fn draw_inside(
     }
     let alignment = notice.alignment;
     let wrap = notice.wrap;
-    let inside = Inside {
+    let inside = TextSettings {
         style: notice.style,
         text_style: notice.text_style,
         alignment,
         wrap,
         scroll: notice.scroll,
     };
-    draw_lines::draw_lines(screen, cells, styles, text, inner, inside)
+    render_text::render_text(screen, cells, styles, text, inner, inside)
 }
 
-// Draws the notice's style over a rectangle that lies on the screen and isn't empty, and its frame around it, with its shadow.
-fn draw_frame(
+// Applies the notice's style to `met`, which is on the screen and not empty, then draws the frame and its shadow.
+fn render_style_and_frame(
     screen: Screen,
     cells: &mut [u64],
     styles: &[u64],
@@ -91,11 +93,12 @@ fn draw_frame(
 {
     let ink = Ink::Style(buffer::style_at(styles, notice.style));
     buffer::paint_area(screen, cells, met, ink);
-    frame::draw_frame(screen, cells, styles, titles, notice.block, met);
+    render_block::render_frame(screen, cells, styles, titles, notice.block, met);
 }
 
-// Draws a notice over what its area and the screen share, and its shadow beside it; nothing where they share no cell.
-pub fn draw_on(
+// Draws a notice in the intersection of its area and the screen, and its shadow; nothing if the intersection is empty.
+// (paragraph.rs: `Paragraph::render`)
+pub fn render(
     screen: Screen,
     cells: &mut [u64],
     styles: &[u64],
@@ -103,7 +106,7 @@ pub fn draw_on(
     titles: &[u32],
     area: Rect,
     notice: Notice,
-) -> Rows
+) -> DrawCounts
     requires { ⌜ SymbolsFit (notice .block) × HasCells screen (length (now cells)) × Opens (now titles) ⌝ }
     requires { ⌜ Composable (now text) ⌝ }
     ensures cells { λ r.
@@ -113,12 +116,12 @@ pub fn draw_on(
 {
     let met = area.intersection(screen.area());
     if met.is_empty() {
-        return Rows {
+        return DrawCounts {
             rows: 0,
             placed: 0,
             clipped: 0,
         };
     }
-    draw_frame(screen, cells, styles, titles, met, notice);
-    draw_inside(screen, cells, styles, text, titles, met, notice)
+    render_style_and_frame(screen, cells, styles, titles, met, notice);
+    render_paragraph(screen, cells, styles, text, titles, met, notice)
 }

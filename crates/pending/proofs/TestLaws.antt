@@ -1,4 +1,4 @@
--- What the methods compute, one law for each way through the code: `search` finds their premises at each return.
+-- One law for each path through the methods; `search` finds the premises at each return.
 use Prim.Native.Nat.{ℕ, _+_, _≤_, _<_}
 use mathlib.Core.Path.{_≡_}
 use mathlib.Core.Bool.{Bool, true, false, _&&_}
@@ -7,9 +7,9 @@ use lib.Dec.{leb, ltb}
 use Rattle.wrapping.specs.declared.Run.{Run}
 use Rattle.wrapping.specs.declared.Rule.{Rule}
 use Rattle.pending.specs.declared.Pending.{Pending}
-use Rattle.pending.specs.declared.Last.the-variants.{Emit, Nothing}
-use Rattle.wrapping.specs.Runs.{emptyRun, appendRun}
-use Rattle.pending.specs.Tests.{gatherRun, overflowing, joins, fullRun, lastRun}
+use Rattle.pending.specs.declared.LastRun.the-variants.{Emit, Nothing}
+use Rattle.wrapping.specs.RunsExtra.{emptyRun, appendRun}
+use Rattle.pending.specs.TestsExtra.{gatherRun, overflowing, joins, fullRun, lastRun}
 
 -- ---- step 2
 
@@ -67,7 +67,7 @@ module _ (u : Rule) (p : Pending) (w : ℕ) where
   unfolding fullRun
   full-not h k = simp (lt-leb _ _ h, le-ltb _ _ k)
 
--- ---- the line's end
+-- ---- the text line's end
 
 module _ (trim emitted : Bool) (p : Pending) (last none : Run) (is : last ≡ gatherRun trim p) (q : none ≡ emptyRun) where
   pub last-nothing : last .end ≡ 0 → p .spaces .end ≡ 0 → emitted ≡ true → Nothing ≡ lastRun trim emitted p

@@ -1,13 +1,13 @@
-// What is pending of a text line, and what the wrapper asks of it: reflow.rs' `WordWrapper`, its pending graphemes as runs of records.
+// Pending part of the word wrapper's state, and the tests of `WordWrapper::process_input` in reflow.rs on it.
 
 use wrapping::Rule;
 use wrapping::Run;
 ghost use mathlib.Core.Path.{_≡_};
 ghost use mathlib.Core.Bool.{_&&_};
 ghost use Prim.Native.Nat.{_+_, _^_, _<_};
-ghost use Rattle.pending.specs.Tests.{gatherRun, overflowing, joins, fullRun, lastRun};
+ghost use Rattle.pending.specs.TestsExtra.{gatherRun, overflowing, joins, fullRun, lastRun};
 
-// Row, spaces and word, and whether the glyph before was solid.
+// Row, spaces and word, and whether the previous glyph was solid.
 pub struct Pending {
     pub row: Run,
     pub spaces: Run,
@@ -15,15 +15,15 @@ pub struct Pending {
     pub solid: bool,
 }
 
-// What a text line's end emits: a line, or none.
-pub enum Last {
+// What a text line's end emits: a line, or nothing.
+pub enum LastRun {
     Emit(Run),
     Nothing,
 }
 
 impl Pending {
-    // Row, then spaces if row isn't empty or trim is off, then word.
-    pub fn gathered(self, trim: bool) -> Run
+    // Returns row, then spaces if row isn't empty or trim is off, then word.
+    pub fn gather(self, trim: bool) -> Run
         requires { ⌜ self .row .width + self .spaces .width + self .word .width < 2 ^ 32 ⌝ }
         ensures { λ r. ⌜ r ≡ gatherRun trim self ⌝ }
     {
@@ -40,7 +40,7 @@ impl Pending {
         long.append(word)
     }
 
-    // A word ends where whitespace follows a solid glyph.
+    // Whether a word ends: whitespace after a solid glyph.
     fn ends_word(self, space: bool) -> bool
         ensures { λ r. ⌜ r ≡ (space && self .solid) ⌝ }
     {
@@ -50,7 +50,7 @@ impl Pending {
         false
     }
 
-    // What waits, with a glyph of width w, would overflow an empty row.
+    // Whether spaces and word, with a glyph of width w, would overflow an empty row.
     fn overflows(self, rule: Rule, w: usize) -> bool
         requires { ⌜ self .row .width + self .spaces .width + self .word .width + w < 2 ^ 32 ⌝ }
         ensures { λ r. ⌜ r ≡ overflowing rule self w ⌝ }
@@ -61,7 +61,7 @@ impl Pending {
         rule.limit < self.word.width + self.spaces.width + w
     }
 
-    // Step 2's test.
+    // Step 2: whether spaces and word must be joined to row.
     pub fn must_join(self, rule: Rule, w: usize, space: bool) -> bool
         requires { ⌜ self .row .width + self .spaces .width + self .word .width + w < 2 ^ 32 ⌝ }
         ensures { λ r. ⌜ r ≡ joins rule self w space ⌝ }
@@ -75,7 +75,7 @@ impl Pending {
         false
     }
 
-    // Step 3's test.
+    // Step 3: whether row must be emitted.
     pub fn is_full(self, rule: Rule, w: usize) -> bool
         requires { ⌜ self .row .width + self .spaces .width + self .word .width + w < 2 ^ 32 ⌝ }
         ensures { λ r. ⌜ r ≡ fullRun rule self w ⌝ }
@@ -84,23 +84,23 @@ impl Pending {
             || (0 < w && rule.limit <= self.row.width + self.spaces.width + self.word.width)
     }
 
-    // The line's end, where `emitted` says that a line was emitted before.
-    pub fn last_line(self, trim: bool, emitted: bool) -> Last
+    // Returns the line emitted at the text line's end; `emitted` is whether the text line has emitted one before.
+    pub fn last_line(self, trim: bool, emitted: bool) -> LastRun
         requires { ⌜ self .row .width + self .spaces .width + self .word .width < 2 ^ 32 ⌝ }
         ensures { λ r. ⌜ r ≡ lastRun trim emitted self ⌝ }
     {
-        let last = self.gathered(trim);
+        let last = self.gather(trim);
         let none = Run::empty();
         let spaces = self.spaces;
         if last.end == 0 {
             if spaces.end == 0 {
                 if emitted {
-                    return Last::Nothing;
+                    return LastRun::Nothing;
                 }
-                return Last::Emit(none);
+                return LastRun::Emit(none);
             }
-            return Last::Emit(none);
+            return LastRun::Emit(none);
         }
-        Last::Emit(last)
+        LastRun::Emit(last)
     }
 }

@@ -1,4 +1,4 @@
-// Prints the notice that a file or standard input holds in its packed form.
+// Reads a packed notice from a file or standard input, and prints it.
 fn main() {
-    previewing::run();
+    preview_run::run();
 }

@@ -1,4 +1,4 @@
--- What inputs are like for which a cause doesn't hold: each fact that a call needs of what it accepted.
+-- Facts about accepted inputs that follow when a cause doesn't hold.
 use Prim.Native.Nat.{ℕ, _*_, _≤_, _<_}
 use mathlib.Core.Path.{_≡_, sym, _∙_}
 use mathlib.Core.Bool.{false, not, _||_, and-eq-true-iff}
@@ -18,14 +18,14 @@ use Rattle.refuse.specs.Refusal.{firstCause}
 use Rattle.refuse.specs.Causes.{mostAccepted, textCauses, lineCauses, oneTo, screenWrong, textTooLong, textHeadWrong, textHeadsWrong, tooManyGlyphs, positionThree, headZerosSet, titlesWrong, limitWrong}
 use Rattle.refuse.proofs.Calls.{no-cause}
 
--- no cause 1
-pub record Sized (most : Ceilings) (columns rows cells : ℕ) : Type 0 where
+-- the screen, if cause 1 doesn't hold
+pub record ScreenAccepted (most : Ceilings) (columns rows cells : ℕ) : Type 0 where
   pub some-columns : 0 < columns
   pub most-columns : columns ≤ most .columns
   pub most-rows : rows ≤ most .rows
   pub all-cells : cells ≡ columns * rows
 
-pub sized : (most : Ceilings) (columns rows cells : ℕ) → screenWrong most columns rows cells ≡ false → Sized most columns rows cells
+pub sized : (most : Ceilings) (columns rows cells : ℕ) → screenWrong most columns rows cells ≡ false → ScreenAccepted most columns rows cells
 unfolding screenWrong
 sized most columns rows cells e =
     let sizes = not (oneTo (most .columns) columns) || not (oneTo (most .rows) rows) in
@@ -40,16 +40,16 @@ sized most columns rows cells e =
       all-cells = eqb-true cells (columns * rows) (not-false _ (right .1));
     }
 
--- no cause 3
+-- cause 3 doesn't hold
 pub text-short : (most : Ceilings) (text : List ℕ) → textTooLong most text ≡ false → length text ≤ most .records
 text-short most text e = ltb-false (most .records) (length text) e
 
--- no cause 4
+-- cause 4 doesn't hold
 pub text-opens : (text : List ℕ) → textHeadsWrong text ≡ false → Opens text
 unfolding textHeadsWrong
 text-opens text e = neither (notOpening text) (some textHeadWrong text) e .0
 
--- no cause 5: of its five tests, that the records open with a head
+-- cause 5 doesn't hold; of its five tests, only that the records open with a head
 pub titles-open : (most : Ceilings) (titles : List ℕ) → titlesWrong most titles ≡ false → Opens titles
 unfolding titlesWrong
 titles-open most titles e =
@@ -59,24 +59,24 @@ titles-open most titles e =
     let with-opening = neither (counts || notOpening titles) (some positionThree lines) with-positions .0 in
     neither counts (notOpening titles) with-opening .1
 
--- neither: what a call that goes through a text needs of it
-pub record Sound (text : List ℕ) : Type 0 where
+-- the text, if causes 3 and 4 don't hold: the facts that a call which reads it needs
+pub record TextAccepted (text : List ℕ) : Type 0 where
   pub short : length text ≤ mostAccepted .records
   pub few : FewRecords text
   pub opens : Opens text
 
-pub sound : (text : List ℕ) → textTooLong mostAccepted text ≡ false → textHeadsWrong text ≡ false → Sound text
+pub sound : (text : List ℕ) → textTooLong mostAccepted text ≡ false → textHeadsWrong text ≡ false → TextAccepted text
 sound text l h =
     let short = text-short mostAccepted text l in
     record { short = short; few = omega arith; opens = text-opens text h }
 
--- no cause 8
+-- cause 8 doesn't hold
 pub limit-low : (most : Ceilings) (limit : ℕ) → limitWrong most limit ≡ false → limit ≤ most .limit
 limit-low most limit e = ltb-false (most .limit) limit e
 
--- v is what the checks answered of a call that composes the lines of a text at a limit
+-- v is the verdict of a call that composes the lines of a text at a limit
 module _ (text : List ℕ) (limit : ℕ) (v : Verdict) (e : v ≡ firstCause (lineCauses mostAccepted text limit)) (a : v ≡ Accepted) where
-  pub lines-sound : Sound text
+  pub lines-sound : TextAccepted text
   unfolding lineCauses textCauses
   lines-sound =
       let causes = lineCauses mostAccepted text limit in

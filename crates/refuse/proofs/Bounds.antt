@@ -1,4 +1,4 @@
--- What is accepted, ceiling by ceiling: the last number that passes and the first that is refused.
+-- For each ceiling, the largest value that is accepted and the smallest that is refused.
 use Prim.Native.Nat.{ℕ}
 use mathlib.Core.Path.{_≡_, refl}
 use mathlib.Core.Bool.{true, false}

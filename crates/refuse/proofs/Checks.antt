@@ -1,4 +1,4 @@
--- Laws of the checks without a loop, one for each way through the code.
+-- Laws of the checks without a loop, one for each path through the code.
 use Prim.Native.Nat.{ℕ, _*_, _-_, _<_, _≤_, _^_}
 use mathlib.Core.Path.{_≡_, refl, ap}
 use mathlib.Core.Bool.{Bool, true, false, not, _&&_, _||_}
@@ -12,7 +12,7 @@ use Rattle.text.specs.Record.{isHead, styleOf, positionOf, zerosOf}
 use Rattle.refuse.specs.declared.Ceilings.{Ceilings}
 use Rattle.text.specs.Line.{notOpening}
 use Rattle.refuse.specs.Causes.{oneTo, screenWrong, textHeadWrong, noStyle}
-use Rattle.refuse.specs.Scan.{titleWrong, glyphNoStyle}
+use Rattle.refuse.specs.ScanExtra.{titleWrong, glyphNoStyle}
 
 -- cause 1
 pub product-fits : (a b : ℕ) → a < 2 ^ 32 → b < 2 ^ 32 → a * b < 2 ^ 64
@@ -36,25 +36,25 @@ module _ (most : Ceilings) (columns rows cells : ℕ) (a : Bool) (p : a ≡ oneT
 
 pub ruleset screens = (columns-wrong, rows-wrong, cells-wrong, product-fits)
 
--- records that open without a head
+-- whether records open with a head
 module _ (rs : List ℕ) where
   pub opens-empty : length rs ≡ 0 → false ≡ notOpening rs
-  opens-empty e = at rs e
+  opens-empty e = go rs e
     where
-      at : (l : List ℕ) → length l ≡ 0 → false ≡ notOpening l
-      at [] e = refl
-      at (r ∷ l) e = absurd (omega arith)
+      go : (l : List ℕ) → length l ≡ 0 → false ≡ notOpening l
+      go [] e = refl
+      go (r ∷ l) e = absurd (omega arith)
 
   pub opens-first : (b : Bool) → (length rs ≡ 0 → ⊥) → b ≡ isHead (getD rs 0 0) → not b ≡ notOpening rs
-  opens-first b n e = at rs n e
+  opens-first b n e = go rs n e
     where
-      at : (l : List ℕ) → (length l ≡ 0 → ⊥) → b ≡ isHead (getD l 0 0) → not b ≡ notOpening l
-      at [] n e = absurd (n refl)
-      at (r ∷ l) n e = ap not e
+      go : (l : List ℕ) → (length l ≡ 0 → ⊥) → b ≡ isHead (getD l 0 0) → not b ≡ notOpening l
+      go [] n e = absurd (n refl)
+      go (r ∷ l) n e = ap not e
 
 pub ruleset opening = (opens-empty, opens-first)
 
--- cause 4, of one record
+-- cause 4 for one record
 module _ (r : ℕ) (b : Bool) (e : b ≡ isHead r) where
   pub head-zeros : (zeros : ℕ) → b ≡ true → zeros ≡ zerosOf r → (zeros ≡ 0 → ⊥) → not (eqb zeros 0) ≡ textHeadWrong r
   head-zeros zeros t p n = rw (← e, t, ← p) (simp (ne-eqb zeros 0 n))
@@ -67,7 +67,7 @@ module _ (r : ℕ) (b : Bool) (e : b ≡ isHead r) where
 
 pub ruleset heads = (head-zeros, head-position, head-none)
 
--- cause 5, of one title
+-- cause 5 for one title
 module _ (most : Ceilings) (head glyphs : ℕ) where
   pub title-long : most .«title_glyphs» < glyphs → true ≡ titleWrong most head glyphs
   unfolding titleWrong
@@ -83,7 +83,7 @@ module _ (most : Ceilings) (head glyphs : ℕ) where
 
 pub ruleset titled = (title-long, title-position, title-zeros)
 
--- cause 6, of one record
+-- cause 6 for one record
 module _ (count r : ℕ) (b : Bool) (e : b ≡ isHead r) where
   pub no-glyph : b ≡ true → false ≡ glyphNoStyle count r
   no-glyph t = rw (← e, t)

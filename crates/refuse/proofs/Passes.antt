@@ -1,4 +1,4 @@
--- A pass over lent numbers that stops at the first of which a test holds.
+-- A loop over a slice that stops at the first element that passes a test.
 use Prim.Native.Nat.{ℕ, _+_, _<_, _≤_}
 use mathlib.Core.Path.{_≡_, refl, sym, ap, _∙_}
 use mathlib.Core.Bool.{Bool, true, false, not, cond, _&&_, _||_}
@@ -14,9 +14,9 @@ use Rattle.refuse.specs.declared.Ceilings.{Ceilings}
 use Rattle.text.specs.Lists.{some}
 use Rattle.text.specs.Line.{notOpening}
 use Rattle.refuse.specs.Causes.{zerosSet, stylesWrong, textHeadWrong, textHeadsWrong, noStyle, styleNumbersWrong, glyphStyles}
-use Rattle.refuse.specs.Scan.{glyphNoStyle}
+use Rattle.refuse.specs.ScanExtra.{glyphNoStyle}
 
--- the numbers left say what all say
+-- Before each turn: no element before index i passes the test, so that the remaining ones decide the result.
 pub record Passing (test : ℕ → Bool) (l : List ℕ) (i : ℕ) : Type 0 where
   pub within : i ≤ length l
   pub same : some test (drop i l) ≡ some test l
@@ -26,20 +26,20 @@ module _ (test : ℕ → Bool) (l : List ℕ) where
   pass-starts = record { within = omega arith; same = refl }
 
   module _ (i : ℕ) (c : Passing test l i) where
-    at : i < length l → some test l ≡ (test (getD l i 0) || some test (drop (i + 1) l))
-    at h =
+    some-split : i < length l → some test l ≡ (test (getD l i 0) || some test (drop (i + 1) l))
+    some-split h =
         let d : drop i l ≡ getD l i 0 ∷ drop (i + 1) l = rw (add-one, drop-cons l i 0) in
         sym (c .same) ∙ ap (some test) d
 
     pub pass-goes : (x : Bool) → i < length l → x ≡ test (getD l i 0) → x ≡ false → Passing test l (i + 1)
     pass-goes x h e f =
         let k : test (getD l i 0) ≡ false = sym e ∙ f in
-        record { within = omega arith; same = sym (at h ∙ ap (λ (t : Bool). t || some test (drop (i + 1) l)) k) }
+        record { within = omega arith; same = sym (some-split h ∙ ap (λ (t : Bool). t || some test (drop (i + 1) l)) k) }
 
     pub pass-hits : (x : Bool) → i < length l → x ≡ test (getD l i 0) → x ≡ true → true ≡ some test l
     pass-hits x h e t =
         let k : test (getD l i 0) ≡ true = sym e ∙ t in
-        sym (at h ∙ ap (λ (t : Bool). t || some test (drop (i + 1) l)) k)
+        sym (some-split h ∙ ap (λ (t : Bool). t || some test (drop (i + 1) l)) k)
 
     pub pass-ends : length l ≤ i → false ≡ some test l
     pass-ends h =
@@ -68,7 +68,7 @@ module _ (text : List ℕ) (b : Bool) (e : b ≡ notOpening text) where
   unfolding textHeadsWrong
   text-opens x f p = rw (← e, f) p
 
--- cause 6: a test of each record is one of each glyph's style number
+-- cause 6: testing each record is testing the style number of each glyph
 pub glyphs-tested : (count : ℕ) (rs : List ℕ) → some (glyphNoStyle count) rs ≡ some (noStyle count) (glyphStyles rs)
 glyphs-tested count [] = refl
 glyphs-tested count (r ∷ rs) = go (isHead r) (glyphs-tested count rs)

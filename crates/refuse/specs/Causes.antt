@@ -1,4 +1,4 @@
--- Document 01, 'Why a call is refused': a definition for each row of the table, over the inputs it looks at.
+-- Document 01, 'Why a call is refused': a definition for each row of the table, on the inputs that it concerns.
 use Prim.Native.Nat.{ℕ, _*_}
 use mathlib.Core.Bool.{Bool, cond, not, _&&_, _||_}
 use mathlib.Core.List.{List, [], _∷_, _++_}
@@ -16,7 +16,7 @@ use Rattle.refuse.specs.Refusal.{Cause, _if_}
 abbrev pub mostAccepted : Ceilings
 mostAccepted = record { columns = 512; rows = 256; styles = 64; records = 16384; titles = 16; «title_glyphs» = 256; limit = 4096 }
 
--- a number is 1 to the most given
+-- 1 ≤ n ≤ most
 abbrev pub oneTo : ℕ → ℕ → Bool
 oneTo most n = leb 1 n && leb n most
 
@@ -66,7 +66,7 @@ titlesWrong most records =
 abbrev pub noStyle : ℕ → ℕ → Bool
 noStyle count number = leb count number
 
--- the style numbers of glyphs
+-- the style numbers of the glyphs among records
 abbrev pub glyphStyles : List ℕ → List ℕ
 glyphStyles [] = []
 glyphStyles (r ∷ rs) = cond (isHead r) (glyphStyles rs) (styleOf r ∷ glyphStyles rs)
@@ -89,15 +89,15 @@ limitWrong most limit = ltb (most .limit) limit
 abbrev pub listTooShort : ℕ → ℕ → Bool
 listTooShort entries lines = ltb entries lines
 
--- Causes that several calls have one after another, of a call that has a screen and styles: 1, 2
+-- Lists of causes that several calls share. For calls with a screen and styles: 1, 2
 unfoldable pub screenCauses : Ceilings → ℕ → ℕ → ℕ → List ℕ → List Cause
 screenCauses most columns rows cells styles =
     Screen if screenWrong most columns rows cells ∷ StylesCause if stylesWrong most styles ∷ []
 
--- and of one that has a text: 3, 4
+-- for calls with a text: 3, 4
 unfoldable pub textCauses : Ceilings → List ℕ → List Cause
 textCauses most text = TextLength if textTooLong most text ∷ TextHeads if textHeadsWrong text ∷ []
 
--- and of one that composes the lines of a text at a limit: 3, 4, 8
+-- for calls that compose the lines of a text at a limit: 3, 4, 8
 unfoldable pub lineCauses : Ceilings → List ℕ → ℕ → List Cause
 lineCauses most text limit = textCauses most text ++ (Limit if limitWrong most limit ∷ [])

@@ -1,3 +1,3 @@
 pub mod Refusal
 pub mod Causes
-pub mod Scan
+pub mod ScanExtra

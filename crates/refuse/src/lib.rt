@@ -1,9 +1,9 @@
-// Why a call is refused: the causes and their numbers. `check_settings` and `check_records` have the checks.
+// Causes of refusal and their numbers; `check_settings`, `check_records` and `check_block` have the checks.
 ghost use mathlib.Core.Path.{_≡_};
 ghost use Rattle.refuse.specs.Refusal.{refusalNumber, verdictNumber};
 ghost use Rattle.refuse.specs.Causes.{mostAccepted};
 
-// The table's causes, in its order.
+// Causes of refusal, in the order of document 01's table.
 pub enum Refusal {
     Screen,
     Styles,
@@ -16,13 +16,13 @@ pub enum Refusal {
     ListLength,
 }
 
-// What the checks of a call come to.
+// Result of a call's checks.
 pub enum Verdict {
     Accepted,
     Refused(Refusal),
 }
 
-// The most that a call accepts.
+// Largest sizes that a call accepts.
 pub struct Ceilings {
     pub columns: u32,
     pub rows: u32,
@@ -33,7 +33,7 @@ pub struct Ceilings {
     pub limit: u16,
 }
 
-// The ceilings that document 01 gives.
+// The ceilings of document 01.
 pub const ACCEPTED: Ceilings = Ceilings {
     columns: 512,
     rows: 256,
@@ -45,7 +45,7 @@ pub const ACCEPTED: Ceilings = Ceilings {
 };
 
 impl Ceilings {
-    // Those of every call.
+    // Returns the ceilings of every call.
     pub fn accepted() -> Ceilings
         ensures { λ r. ⌜ r ≡ mostAccepted ⌝ }
     {
@@ -54,7 +54,7 @@ impl Ceilings {
 }
 
 impl Refusal {
-    // The table's number.
+    // Returns the number of a cause in document 01's table.
     pub fn number(self) -> u32
         ensures { λ r. ⌜ r ≡ refusalNumber self ⌝ }
     {
@@ -73,7 +73,7 @@ impl Refusal {
 }
 
 impl Verdict {
-    // The table's number, or 0 where the call is accepted.
+    // Returns the number of the cause, or 0 if the call is accepted.
     pub fn number(self) -> u32
         ensures { λ r. ⌜ r ≡ verdictNumber self ⌝ }
     {

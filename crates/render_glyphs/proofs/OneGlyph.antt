@@ -1,4 +1,4 @@
--- One glyph of a line, written on its row.
+-- One glyph written on a row.
 use Prim.Native.Nat.{ℕ, _<_}
 use mathlib.Core.Path.{_≡_, _∙_}
 use mathlib.Core.Bool.{cond}
@@ -11,10 +11,10 @@ use Rattle.text.specs.Line.{Start, glyphFrom}
 use Rattle.cell.specs.Cell.{withSymbol, styled}
 use Rattle.buffer.specs.Drawing.{changed, styleAt}
 use Rattle.buffer.proofs.Changed.{changed-same, changed-one}
-use Rattle.compose.specs.Places.{placed}
+use Rattle.line_composer.specs.Places.{isPlaced}
 use Rattle.render_glyphs.specs.RenderGlyphs.{glyphOn}
 
--- a glyph of a number that starts in a column
+-- the glyph of a record, with its record number and start column
 abbrev pub startOf : ℕ → ℕ → ℕ → Start
 startOf number column word = record { start = column; glyph = glyphFrom number word }
 
@@ -24,7 +24,7 @@ pub glyph-written : (styles : List ℕ) (style column word : ℕ) (row : List �
     → number ≡ styleOf word → own-style ≡ styleAt styles number → with-symbol ≡ withSymbol symbol (getD row column 0)
     → with-text-style ≡ styled text-style with-symbol → cell ≡ styled own-style with-text-style
     → set row column cell ≡ changed (glyphOn styles style (length row) (startOf 0 column word)) row
-unfolding glyphOn placed
+unfolding glyphOn isPlaced
 glyph-written styles style column word row symbol text-style number own-style with-symbol with-text-style cell h some p q n r s t e =
     let write : ℕ → ℕ = λ c. styled (styleAt styles (styleOf word)) (styled (styleAt styles style) (withSymbol (symbolOf word) c)) in
     rw (e, t, s, r, n, q, p) (changed-one write column row)

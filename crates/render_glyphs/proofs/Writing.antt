@@ -1,4 +1,4 @@
--- The glyphs of a line, written on its row one after another.
+-- The loop of `write_glyphs`: the glyphs of a line written on its row in turn.
 use Prim.Native.Nat.{ℕ, _+_, _*_, _≤_, _<_}
 use mathlib.Core.Path.{_≡_, refl, sym, ap, _∙_}
 use mathlib.Core.Bool.{Bool, true, false, cond}
@@ -17,17 +17,17 @@ use Rattle.wrapping.specs.declared.Rule.{Rule}
 use Rattle.wrapping.specs.Wrapping.{overWide, notOverWide}
 use Rattle.buffer.specs.Drawing.{changed}
 use Rattle.buffer.proofs.Changed.{length-changed, changed-same, changed-none, changed-then}
-use Rattle.compose.specs.Places.{placed, clipped}
+use Rattle.line_composer.specs.Places.{isPlaced, isClipped}
 use Rattle.render_glyphs.specs.RenderGlyphs.{glyphOn, glyphsOn}
-use Rattle.render_glyphs.specs.Writing.{startsOf, Wrote}
+use Rattle.render_glyphs.specs.WritingExtra.{startsOf, Wrote}
 use Rattle.render_glyphs.proofs.OneGlyph.{startOf}
 
--- the glyphs from record i on, of which the first starts in a column
+-- the glyphs from record i on, the first starting in the given column
 abbrev pub startsLeft : Rule → List ℕ → ℕ → ℕ → List Start
 startsLeft u records column i = startsFrom column (notOverWide u (numbered i (drop i records)))
 
--- a row on which the glyphs before record i are written: what the others still make of it is what all make of the first row, and
--- the counts of both come to those of all
+-- Invariant of `write_glyphs`: the glyphs before record i are written. Writing the others on the row gives the same cells as
+-- writing all on the old row, and the counts so far plus those of the others are those of all.
 pub record Writing (styles : List ℕ) (style : ℕ) (u : Rule) (records old row : List ℕ) (column placed-count clipped-count i : ℕ) : Type 0 where
   pub reached : i ≤ length records
   pub same-length : length row ≡ length old
@@ -35,26 +35,25 @@ pub record Writing (styles : List ℕ) (style : ℕ) (u : Rule) (records old row
   pub few : placed-count + clipped-count ≤ i
   pub same-cells : changed (glyphsOn styles style (length old) (startsLeft u records column i)) row
       ≡ changed (glyphsOn styles style (length old) (startsOf u 0 records)) old
-  pub same-placed : placed-count + countOf (placed (length old)) (startsLeft u records column i) ≡ countOf (placed (length old)) (startsOf u 0 records)
-  pub same-clipped : clipped-count + countOf (clipped (length old)) (startsLeft u records column i) ≡ countOf (clipped (length old)) (startsOf u 0 records)
+  pub same-placed : placed-count + countOf (isPlaced (length old)) (startsLeft u records column i) ≡ countOf (isPlaced (length old)) (startsOf u 0 records)
+  pub same-clipped : clipped-count + countOf (isClipped (length old)) (startsLeft u records column i) ≡ countOf (isClipped (length old)) (startsOf u 0 records)
 
--- the number of a glyph plays no part in drawing it
+-- drawing a glyph doesn't depend on its record number
 number-unread : (styles : List ℕ) (style area number column word i cell : ℕ)
     → glyphOn styles style area (startOf number column word) i cell ≡ glyphOn styles style area (startOf 0 column word) i cell
-unfolding glyphOn placed
+unfolding glyphOn isPlaced
 number-unread styles style area number column word i cell = refl
 
 -- a glyph that isn't placed changes no cell
-unplaced : (styles : List ℕ) (style area : ℕ) (s : Start) (row : List ℕ) → placed area s ≡ false → row ≡ changed (glyphOn styles style area s) row
+unplaced : (styles : List ℕ) (style area : ℕ) (s : Start) (row : List ℕ) → isPlaced area s ≡ false → row ≡ changed (glyphOn styles style area s) row
 unfolding glyphOn
 unplaced styles style area s row e = sym (changed-same _ (λ i cell. cell) row (λ i cell _. simp e) ∙ changed-none row)
 
--- a glyph may be counted before those after it, or with them
+-- counting a glyph now or with the remaining ones gives the same sum
 counted : (test : Start → Bool) (n : ℕ) (b : Bool) (s : Start) (ss : List Start) → test s ≡ b → n + cond b 1 0 + countOf test ss ≡ n + countOf test (s ∷ ss)
 counted test n b s ss e = rw e (add-assoc n (cond b 1 0) (countOf test ss))
 
 module _ (styles : List ℕ) (style : ℕ) (u : Rule) (records old : List ℕ) where
-  -- before the first turn none is written
   pub writing-starts : Writing styles style u records old old 0 0 0 0
   writing-starts =
       record {
@@ -68,7 +67,6 @@ module _ (styles : List ℕ) (style : ℕ) (u : Rule) (records old : List ℕ) w
       }
 
   module _ (row : List ℕ) (column placed-count clipped-count i : ℕ) (w : Writing styles style u records old row column placed-count clipped-count i) where
-    -- after the last turn all are
     pub writing-done : length records ≤ i → Wrote styles style (startsOf u 0 records) old row (record { placed = placed-count; clipped = clipped-count })
     writing-done h =
         let none : drop i records ≡ [] = drop-of-length-le records h in
@@ -82,7 +80,7 @@ module _ (styles : List ℕ) (style : ℕ) (u : Rule) (records old : List ℕ) w
       abbrev here : Start
       here = startOf i column (getD records i 0)
 
-      -- record i is over-wide, or a glyph of the line
+      -- record i is skipped if over-wide, else it is the next glyph of the line
       skipped : u .limit < width → startsLeft u records column i ≡ startsLeft u records column (i + 1)
       unfolding overWide
       skipped o =
@@ -95,7 +93,6 @@ module _ (styles : List ℕ) (style : ℕ) (u : Rule) (records old : List ℕ) w
           let t : ltb (u .limit) (widthOf (getD records i 0)) ≡ false = le-ltb (u .limit) (widthOf (getD records i 0)) (omega arith) in
           rw (e, add-one i, drop-cons records i 0 h, t)
 
-      -- a turn passes over it
       pub writing-skips : u .limit < width → Writing styles style u records old row column placed-count clipped-count (i + 1)
       writing-skips o =
           record {
@@ -108,8 +105,8 @@ module _ (styles : List ℕ) (style : ℕ) (u : Rule) (records old : List ℕ) w
             same-clipped = rw (skipped o) at (w .same-clipped);
           }
 
-      -- or counts it as what it is, and writes it if it is placed
-      turned : (next : List ℕ) (a b : Bool) (m n : ℕ) → width ≤ u .limit → placed (length old) here ≡ a → clipped (length old) here ≡ b
+      -- a turn on a glyph of the line counts it, and writes it if it is placed
+      turned : (next : List ℕ) (a b : Bool) (m n : ℕ) → width ≤ u .limit → isPlaced (length old) here ≡ a → isClipped (length old) here ≡ b
           → m ≡ placed-count + cond a 1 0 → n ≡ clipped-count + cond b 1 0 → m + n ≤ placed-count + clipped-count + 1
           → next ≡ changed (glyphOn styles style (length old) (startOf 0 column (getD records i 0))) row
           → Writing styles style u records old next (column + width) m n (i + 1)
@@ -126,16 +123,16 @@ module _ (styles : List ℕ) (style : ℕ) (u : Rule) (records old : List ℕ) w
                 ∙ changed-same _ _ row
                 (λ j cell _. ap (glyphsOn styles style (length old) others j) (sym (number-unread styles style (length old) i column (getD records i 0) j cell)))
                 ∙ (rw (kept f) at (w .same-cells));
-            same-placed = rw r (counted (placed (length old)) placed-count a here others p ∙ (rw (kept f) at (w .same-placed)));
-            same-clipped = rw s (counted (clipped (length old)) clipped-count b here others q ∙ (rw (kept f) at (w .same-clipped)));
+            same-placed = rw r (counted (isPlaced (length old)) placed-count a here others p ∙ (rw (kept f) at (w .same-placed)));
+            same-clipped = rw s (counted (isClipped (length old)) clipped-count b here others q ∙ (rw (kept f) at (w .same-clipped)));
           }
 
-      -- one of width 0 is neither placed nor clipped, and takes no column
+      -- a glyph of width 0 is neither placed nor clipped, and takes no column
       pub writing-passes : width ≤ u .limit → width ≡ 0 → Writing styles style u records old row column placed-count clipped-count (i + 1)
-      unfolding placed clipped
+      unfolding isPlaced isClipped
       writing-passes f z =
           let none : ltb 0 (widthOf (getD records i 0)) ≡ false = le-ltb 0 (widthOf (getD records i 0)) (omega arith) in
-          let out : placed (length old) (startOf 0 column (getD records i 0)) ≡ false = rw none in
+          let out : isPlaced (length old) (startOf 0 column (getD records i 0)) ≡ false = rw none in
           rw (z, add-zero) at
           (turned row false false placed-count clipped-count f (rw none) (rw none) (omega arith) (omega arith) (omega arith)
           (unplaced styles style (length old) (startOf 0 column (getD records i 0)) row out))
@@ -145,24 +142,24 @@ module _ (styles : List ℕ) (style : ℕ) (u : Rule) (records old : List ℕ) w
         some = lt-ltb 0 (widthOf (getD records i 0)) (omega (arith, n))
 
         module _ (next : List ℕ) (m k : ℕ) where
-          -- one that starts left of the edge is placed
+          -- a glyph that starts left of the edge is placed
           pub writing-places : (written : List ℕ) → column < length row
               → written ≡ changed (glyphOn styles style (length row) (startOf 0 column (getD records i 0))) row
               → next ≡ written → m ≡ placed-count + 1 → k ≡ clipped-count
               → Writing styles style u records old next (column + width) m k (i + 1)
-          unfolding placed clipped
+          unfolding isPlaced isClipped
           writing-places written b d g p q =
               let c : column < length old = omega (arith, w .same-length) in
               turned next true false m k f (rw some (lt-ltb _ _ c)) (rw some (lt-leb _ _ c)) (omega arith) (omega arith) (omega arith)
               (g ∙ (rw (w .same-length) at d))
 
-          -- and any other clipped
+          -- any other is clipped
           pub writing-clips : length row ≤ column → next ≡ row → m ≡ placed-count → k ≡ clipped-count + 1
               → Writing styles style u records old next (column + width) m k (i + 1)
-          unfolding placed clipped
+          unfolding isPlaced isClipped
           writing-clips b g p q =
               let c : length old ≤ column = omega (arith, w .same-length) in
-              let out : placed (length old) (startOf 0 column (getD records i 0)) ≡ false = rw some (le-ltb _ _ c) in
+              let out : isPlaced (length old) (startOf 0 column (getD records i 0)) ≡ false = rw some (le-ltb _ _ c) in
               turned next false true m k f (rw some (le-ltb _ _ c)) (rw some (le-leb _ _ c)) (omega arith) (omega arith) (omega arith)
               (g ∙ unplaced styles style (length old) (startOf 0 column (getD records i 0)) row out)
 

@@ -1,2 +1,2 @@
 pub mod RenderGlyphs
-pub mod Writing
+pub mod WritingExtra

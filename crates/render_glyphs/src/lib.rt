@@ -1,4 +1,4 @@
-// The glyphs of a composed line, written on a part of a row.
+// Writing of a composed line's glyphs on a row: the loop of paragraph.rs: `render_line`.
 use text::glyph;
 use wrapping::Rule;
 ghost use mathlib.Core.Path.{_≡_};
@@ -8,15 +8,15 @@ ghost use Rattle.text.specs.Record.{widthOf};
 ghost use Rattle.text.specs.Line.{glyphFrom, FewRecords};
 ghost use Rattle.buffer.specs.Drawing.{changed};
 ghost use Rattle.render_glyphs.specs.RenderGlyphs.{glyphOn};
-ghost use Rattle.render_glyphs.specs.Writing.{startsOf, Wrote};
+ghost use Rattle.render_glyphs.specs.WritingExtra.{startsOf, Wrote};
 
-// How many glyphs are placed, and how many are clipped.
-pub struct Glyphs {
+// Counts of the glyphs placed and clipped on a row.
+pub struct GlyphCounts {
     pub placed: u32,
     pub clipped: u32,
 }
 
-// Writes a glyph in the cell of its column: the symbol, then the text style, then its own style.
+// Writes a glyph in the cell of its column: its symbol, then the text style, then its own style.
 fn write_glyph(row: &mut [u64], styles: &[u64], style: u8, column: usize, word: u32)
     requires { ⌜ (column < length (now row)) × (0 < widthOf word) ⌝ }
     ensures { λ _.
@@ -26,18 +26,19 @@ fn write_glyph(row: &mut [u64], styles: &[u64], style: u8, column: usize, word: 
     let symbol = glyph::symbol(word) as u64;
     let text_style = buffer::style_at(styles, style);
     let own_style = buffer::style_at(styles, glyph::style(word) as u8);
-    let written = cell::apply_style(text_style, cell::set_symbol(symbol, row[column]));
-    row[column] = cell::apply_style(own_style, written);
+    let written = cell::set_style(text_style, cell::set_symbol(symbol, row[column]));
+    row[column] = cell::set_style(own_style, written);
 }
 
-// Writes the glyphs of a line's records on the cells from its start column on. Those that are wider than the limit aren't its own.
+// Writes the glyphs of a line's records on the cells from its start column on. Skips those wider than the limit, which aren't
+// part of the line.
 pub fn write_glyphs(
     row: &mut [u64],
     styles: &[u64],
     style: u8,
     rule: Rule,
     records: &[u32],
-) -> Glyphs
+) -> GlyphCounts
     requires { ⌜ FewRecords (now records) ⌝ }
     ensures { λ r. ⌜ Wrote (now (styles .entry)) style (startsOf rule 0 (now (records .entry))) (now (row .entry)) (now (row .exit)) r ⌝ }
 {
@@ -63,5 +64,5 @@ pub fn write_glyphs(
         }
         column += width;
     }
-    Glyphs { placed, clipped }
+    GlyphCounts { placed, clipped }
 }

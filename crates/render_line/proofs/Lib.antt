@@ -1,3 +1,4 @@
 pub mod Offsets
 pub mod Moving
 pub mod LineDrawn
+pub mod RowDrawn

@@ -1,4 +1,4 @@
--- A composed line on its row: the cells from its start column on are lent, and come back with its glyphs on them.
+-- A composed line on its row: its glyphs are written on the borrowed slice of cells from its start column on.
 use Prim.Native.Nat.{ℕ, _+_, _-_, _≤_, _<_}
 use mathlib.Core.Path.{_≡_, sym, ap, _∙_}
 use mathlib.Core.Logic.{dite}
@@ -12,83 +12,110 @@ use Rattle.text.specs.Line.{Glyph, numbered, total, startsFrom}
 use Rattle.wrapping.specs.declared.Rule.{Rule}
 use Rattle.wrapping.specs.Wrapping.{notOverWide}
 use Rattle.buffer.specs.Drawing.{changed}
-use Rattle.buffer.specs.Parts.{windowed}
-use Rattle.buffer.proofs.Changed.{changed-same, part-length, part-lent}
+use Rattle.buffer.specs.PartsExtra.{windowed}
+use Rattle.buffer.proofs.Changed.{changed-same, part-length, part-borrowed}
 use Rattle.buffer.proofs.Within.{within-inside, within-before}
-use Rattle.compose.specs.declared.Composed.{Composed}
-use Rattle.compose.specs.Lines.{lineAt}
-use Rattle.compose.specs.Places.{placed, clipped}
-use Rattle.render_glyphs.specs.declared.Glyphs.{Glyphs}
+use Rattle.line_composer.specs.declared.WrappedLine.{WrappedLine}
+use Rattle.line_composer.specs.Lines.{Line, lineAt}
+use Rattle.line_composer.specs.Places.{isPlaced, isClipped}
+use Rattle.render_glyphs.specs.declared.GlyphCounts.{GlyphCounts}
 use Rattle.render_glyphs.specs.RenderGlyphs.{glyphsOn}
-use Rattle.render_glyphs.specs.Writing.{startsOf, Wrote}
+use Rattle.render_glyphs.specs.WritingExtra.{startsOf, Wrote}
 use Rattle.render_line.specs.RenderLine.{lineOffset, drawnStarts, lineOn, placedIn, clippedIn}
 use Rattle.render_line.proofs.Moving.{placed-same, clipped-same, glyphs-same, glyphs-before}
 
--- a part of the text, lent, is a slice of it
-slice-lent : (first end : ℕ) (text : List ℕ) → first ≤ end → end ≤ length text → take (end - first) (drop first text) ≡ slice first end text
-slice-lent first end text p q =
+-- a borrowed `&text[first..end]` is a slice of the text
+slice-borrowed : (first end : ℕ) (text : List ℕ) → first ≤ end → end ≤ length text → take (end - first) (drop first text) ≡ slice first end text
+slice-borrowed first end text p q =
     let e : first + (end - first) ≡ end = omega arith in
     sym (ap (drop first) (rw e at (take-add first (end - first) text))
     ∙ drop-at (take first text) (take (end - first) (drop first text)) first (length-take-le first text (omega arith)))
 
-module _ (styles : List ℕ) (style : ℕ) (u : Rule) (text row : List ℕ) (line : Composed) (start : ℕ) (part : List ℕ) (counts : Glyphs)
-    (ordered : line .first ≤ line .end) (within : line .end ≤ length text) (width : line .width ≡ total (lineAt u text line .glyphs))
-    (offset : start ≡ lineOffset (line .alignment) (length row) (line .width)) (low : start ≤ length row)
-    (wrote : Wrote styles style (startsOf u 0 (take (line .end - line .first) (drop (line .first) text))) (take (length row - start) (drop start row)) part counts) where
+-- Inputs of `write_line`.
+pub record LineCall : Type 0 where
+  pub styles : List ℕ
+  pub style : ℕ
+  pub rule : Rule
+  pub text : List ℕ
+  pub row : List ℕ
+  pub line : WrappedLine
+
+abbrev pub lineCall : List ℕ → ℕ → Rule → List ℕ → List ℕ → WrappedLine → LineCall
+lineCall styles style rule text row line = record { styles = styles; style = style; rule = rule; text = text; row = row; line = line }
+
+-- State of `write_line` after `write_glyphs`: the line's records are within the text, its width and start column are those of the
+-- rule, and `part` is the slice of the row from the start column on, with the glyphs written.
+pub record LineWritten (v : LineCall) (start : ℕ) (part : List ℕ) (counts : GlyphCounts) : Type 0 where
+  pub ordered : v .line .first ≤ v .line .end
+  pub within : v .line .end ≤ length (v .text)
+  pub width : v .line .width ≡ total (lineAt (v .rule) (v .text) (v .line) .glyphs)
+  pub offset : start ≡ lineOffset (v .line .alignment) (length (v .row)) (v .line .width)
+  pub low : start ≤ length (v .row)
+  pub wrote : Wrote (v .styles) (v .style) (startsOf (v .rule) 0 (take (v .line .end - v .line .first) (drop (v .line .first) (v .text))))
+      (take (length (v .row) - start) (drop start (v .row))) part counts
+
+module _ (v : LineCall) (start : ℕ) (part : List ℕ) (counts : GlyphCounts) (w : LineWritten v start part counts) where
+  abbrev line : WrappedLine
+  line = v .line
+
+  abbrev area : ℕ
+  area = length (v .row)
+
   abbrev room : ℕ
-  room = length row - start
+  room = area - start
 
   abbrev records : List ℕ
-  records = take (line .end - line .first) (drop (line .first) text)
+  records = take (line .end - line .first) (drop (line .first) (v .text))
 
-  abbrev lent : List ℕ
-  lent = take room (drop start row)
+  abbrev borrowed : List ℕ
+  borrowed = take room (drop start (v .row))
 
-  edge : start + room ≡ length row
-  edge = omega arith
+  abbrev composed : Line
+  composed = lineAt (v .rule) (v .text) line
 
-  lent-length : length lent ≡ room
-  lent-length = part-length start (length row) row low (omega arith)
+  edge : start + room ≡ area
+  edge = omega (arith, w .low)
 
-  starts-are : startsFrom (start + 0) (notOverWide u (numbered (line .first) records)) ≡ drawnStarts (length row) (lineAt u text line)
+  borrowed-length : length borrowed ≡ room
+  borrowed-length = part-length start area (v .row) (w .low) (omega arith)
+
+  starts-drawn : startsFrom (start + 0) (notOverWide (v .rule) (numbered (line .first) records)) ≡ drawnStarts area composed
   unfolding drawnStarts lineAt
-  starts-are = rw (add-zero, offset, width, slice-lent (line .first) (line .end) text ordered within)
+  starts-drawn = rw (add-zero, w .offset, w .width, slice-borrowed (line .first) (line .end) (v .text) (w .ordered) (w .within))
 
-  pub line-placed : counts .placed ≡ placedIn (length row) (lineAt u text line)
+  pub line-placed : counts .placed ≡ placedIn area composed
   unfolding placedIn
   line-placed =
-      (rw lent-length at (wrote .is-placed))
-      ∙ (rw (edge, starts-are) at (sym (placed-same start room u (line .first) 0 0 records)))
+      (rw borrowed-length at (w .wrote .is-placed))
+      ∙ (rw (edge, starts-drawn) at (sym (placed-same start room (v .rule) (line .first) 0 0 records)))
 
-  pub line-clipped : counts .clipped ≡ clippedIn (length row) (lineAt u text line)
+  pub line-clipped : counts .clipped ≡ clippedIn area composed
   unfolding clippedIn
   line-clipped =
-      (rw lent-length at (wrote .is-clipped))
-      ∙ (rw (edge, starts-are) at (sym (clipped-same start room u (line .first) 0 0 records)))
+      (rw borrowed-length at (w .wrote .is-clipped))
+      ∙ (rw (edge, starts-drawn) at (sym (clipped-same start room (v .rule) (line .first) 0 0 records)))
 
-  -- a cell of the row is before the line's start, or one of those lent
-  abbrev Drawn : ℕ → ℕ → Type 0
-  Drawn i cell =
-      windowed start (length row) (glyphsOn styles style room (startsOf u 0 records)) i cell
-      ≡ lineOn styles style (length row) (lineAt u text line) i cell
+  -- the glyphs written on the slice give the cell of the rule in column i of the row
+  abbrev CellAgrees : ℕ → ℕ → Type 0
+  CellAgrees i cell =
+      windowed start area (glyphsOn (v .styles) (v .style) room (startsOf (v .rule) 0 records)) i cell
+      ≡ lineOn (v .styles) (v .style) area composed i cell
 
-  cell-before : (i cell : ℕ) → i < start → Drawn i cell
+  cell-before : (i cell : ℕ) → i < start → CellAgrees i cell
   unfolding lineOn
   cell-before i cell p =
-      let glyphs : List Glyph = notOverWide u (numbered (line .first) records) in
-      simp (within-before start (length row) i p)
-      (sym (rw starts-are at (glyphs-before styles style (length row) (start + 0) glyphs i cell (omega arith))))
+      let glyphs : List Glyph = notOverWide (v .rule) (numbered (line .first) records) in
+      simp (within-before start area i p)
+      (sym (rw starts-drawn at (glyphs-before (v .styles) (v .style) area (start + 0) glyphs i cell (omega arith))))
 
-  cell-lent : (i cell : ℕ) → i < length row → start ≤ i → Drawn i cell
+  cell-borrowed : (i cell : ℕ) → i < area → start ≤ i → CellAgrees i cell
   unfolding lineOn
-  cell-lent i cell h p =
+  cell-borrowed i cell h p =
       let e : start + (i - start) ≡ i = omega arith in
-      simp (within-inside start (length row) i p h)
-      (rw (edge, starts-are, e) at (sym (glyphs-same start room u (line .first) 0 0 records styles style (i - start) cell)))
+      simp (within-inside start area i p h)
+      (rw (edge, starts-drawn, e) at (sym (glyphs-same start room (v .rule) (line .first) 0 0 records (v .styles) (v .style) (i - start) cell)))
 
-  pub line-drawn : take start row ++ (part ++ drop room (drop start row)) ≡ changed (lineOn styles style (length row) (lineAt u text line)) row
+  pub line-drawn : take start (v .row) ++ (part ++ drop room (drop start (v .row))) ≡ changed (lineOn (v .styles) (v .style) area composed) (v .row)
   line-drawn =
-      part-lent (glyphsOn styles style room (startsOf u 0 records)) start (length row) row part low (omega arith) (rw lent-length at (wrote .cells))
-      ∙ changed-same _ _ row (λ i cell h. dite (decLt i start) (cell-before i cell) (λ n. cell-lent i cell h (omega (arith, n))))
-
-pub ruleset line-drawing = (line-drawn, line-placed, line-clipped)
+      part-borrowed (glyphsOn (v .styles) (v .style) room (startsOf (v .rule) 0 records)) start area (v .row) part (w .low) (omega arith) (rw borrowed-length at (w .wrote .cells))
+      ∙ changed-same _ _ (v .row) (λ i cell h. dite (decLt i start) (cell-before i cell) (λ n. cell-borrowed i cell h (omega (arith, n))))

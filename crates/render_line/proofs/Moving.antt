@@ -1,4 +1,4 @@
--- The glyphs of records that start at 0, and the same at a line's start column: columns, starts and the right edge move together.
+-- Glyphs drawn from column 0 and from a line's start column: columns, starts and the right edge shift together.
 use Prim.Native.Nat.{ℕ, zero, suc, compare, compare·suc-suc, _+_, _<_}
 use mathlib.Core.Path.{_≡_, refl, _∙_}
 use mathlib.Core.Bool.{Bool, true, false, cond, and-false}
@@ -12,12 +12,12 @@ use Rattle.text.specs.Line.{Glyph, Start, glyphFrom, numbered, startsFrom}
 use Rattle.text.specs.Lists.{countOf}
 use Rattle.wrapping.specs.declared.Rule.{Rule}
 use Rattle.wrapping.specs.Wrapping.{overWide, notOverWide}
-use Rattle.compose.specs.Places.{placed, clipped}
+use Rattle.line_composer.specs.Places.{isPlaced, isClipped}
 use Rattle.render_glyphs.specs.RenderGlyphs.{glyphOn, glyphsOn}
 use Rattle.render_glyphs.proofs.OneGlyph.{startOf}
 
--- what holds of no glyphs, and of a glyph before others of which it holds, holds of all the glyphs of records; their numbers may
--- differ, and the first list starts so many columns further
+-- induction over the glyphs of the same records at two places: the record numbers may differ, and the first list starts a columns
+-- further right
 along : (a : ℕ) (P : List Start → List Start → Type 0) → P [] []
     → ((m n column word : ℕ) (ss ts : List Start) → P ss ts → P (startOf m (a + column) word ∷ ss) (startOf n column word ∷ ts))
     → (u : Rule) (m n column : ℕ) (records : List ℕ)
@@ -36,7 +36,7 @@ along a P none more u m n column (r ∷ rs) =
     go true others = others column
     go false others = more m n column r _ _ (rw add-assoc (others (column + widthOf r)))
 
--- tests of numbers that move together
+-- comparisons are unchanged if both sides are shifted
 compare-moved : (a m n : ℕ) → compare (a + m) (a + n) ≡ compare m n
 compare-moved zero m n = simp zero-add
 compare-moved (suc a) m n = simp (suc-add, compare·suc-suc) (compare-moved a m n)
@@ -48,12 +48,12 @@ eqb-moved : (a m n : ℕ) → eqb (a + m) (a + n) ≡ eqb m n
 eqb-moved a m n = rw (compare-moved a m n)
 
 module _ (a area m n column word : ℕ) where
-  placed-moved : placed (a + area) (startOf m (a + column) word) ≡ placed area (startOf n column word)
-  unfolding placed
+  placed-moved : isPlaced (a + area) (startOf m (a + column) word) ≡ isPlaced area (startOf n column word)
+  unfolding isPlaced
   placed-moved = rw (← add-suc, leb-moved a (suc column) area)
 
-  clipped-moved : clipped (a + area) (startOf m (a + column) word) ≡ clipped area (startOf n column word)
-  unfolding clipped
+  clipped-moved : isClipped (a + area) (startOf m (a + column) word) ≡ isClipped area (startOf n column word)
+  unfolding isClipped
   clipped-moved = rw (leb-moved a area column)
 
   glyph-moved : (styles : List ℕ) (style i cell : ℕ)
@@ -68,14 +68,14 @@ module _ (a area : ℕ) (u : Rule) (m n column : ℕ) (records : List ℕ) where
   abbrev unmoved : List Start
   unmoved = startsFrom column (notOverWide u (numbered n records))
 
-  pub placed-same : countOf (placed (a + area)) moved ≡ countOf (placed area) unmoved
+  pub placed-same : countOf (isPlaced (a + area)) moved ≡ countOf (isPlaced area) unmoved
   placed-same =
-      along a (λ ss ts. countOf (placed (a + area)) ss ≡ countOf (placed area) ts) refl
+      along a (λ ss ts. countOf (isPlaced (a + area)) ss ≡ countOf (isPlaced area) ts) refl
       (λ m n c word ss ts e. rw (placed-moved a area m n c word, e)) u m n column records
 
-  pub clipped-same : countOf (clipped (a + area)) moved ≡ countOf (clipped area) unmoved
+  pub clipped-same : countOf (isClipped (a + area)) moved ≡ countOf (isClipped area) unmoved
   clipped-same =
-      along a (λ ss ts. countOf (clipped (a + area)) ss ≡ countOf (clipped area) ts) refl
+      along a (λ ss ts. countOf (isClipped (a + area)) ss ≡ countOf (isClipped area) ts) refl
       (λ m n c word ss ts e. rw (clipped-moved a area m n c word, e)) u m n column records
 
   pub glyphs-same : (styles : List ℕ) (style i cell : ℕ) → glyphsOn styles style (a + area) moved (a + i) cell ≡ glyphsOn styles style area unmoved i cell

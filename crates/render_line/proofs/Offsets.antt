@@ -1,4 +1,4 @@
--- The start column of a line, one law for each arm of the code.
+-- The start column of a line: one law for each arm of `get_line_offset`.
 use Prim.Native.Nat.{ℕ, _-_, _/_}
 use mathlib.Core.Path.{_≡_}
 use Rattle.text.specs.declared.Alignment.{Alignment}

@@ -1,4 +1,4 @@
--- What a shadow draws, one law for each way through the code.
+-- Drawing a shadow: one law for each path through the code.
 use Prim.Native.Nat.{ℕ}
 use mathlib.Core.Path.{_≡_, refl, sym, _∙_}
 use mathlib.Core.Bool.{Bool, true, false}
@@ -15,20 +15,20 @@ use Rattle.block.specs.declared.Shadow.the-variants.{Absent, Present}
 use Rattle.buffer.specs.declared.Ink.the-variants.{Style, Symbol as SymbolInk}
 use Rattle.buffer.specs.declared.Screen.{Screen}
 use Rattle.buffer.specs.Drawing.{drawn, inOrder, styleAt}
-use Rattle.buffer.specs.Ink.{inked, SymbolFits}
-use Rattle.buffer.specs.Parts.{OnScreen}
+use Rattle.buffer.specs.InkExtra.{inked, SymbolFits}
+use Rattle.buffer.specs.PartsExtra.{OnScreen}
 use Rattle.buffer.proofs.Drawn.{drawn-also, drawn-same, drawn-none}
 use Rattle.buffer.proofs.OnScreen.{meeting-on-screen}
-use Rattle.shadow.specs.Shadow.{shadowArea, besides, effectOf, shadowOf}
-use Rattle.shadow.specs.Fitting.{EffectFits, ShadowFits}
+use Rattle.shadow.specs.Shadow.{shadowArea, onlyOutside, effectOf, shadowOf}
+use Rattle.shadow.specs.FittingExtra.{EffectFits, ShadowFits}
 use Rattle.shadow.proofs.Keeps.{shadow-empty}
 
--- what a style as an ink makes of a cell
+-- a style ink sets the style
 style-ink : (style : ℕ) → inked (Style style) ≡ styled style
 unfolding inked
 style-ink style = refl
 
--- and what a symbol does
+-- a symbol ink sets the symbol
 symbol-ink : (symbol : ℕ) → inked (SymbolInk symbol) ≡ withSymbol symbol
 unfolding inked
 symbol-ink symbol = refl
@@ -38,32 +38,32 @@ module _ (columns : ℕ) (base area : Rect) (effect : Effect) (cells : List ℕ)
   pub overlay-drawn : effect ≡ Overlay → cells ≡ drawn columns (effectOf base area effect) cells
   overlay-drawn e = rw e (sym (drawn-none columns cells))
 
-  -- a symbol is drawn
-  pub symbol-drawn : (symbol : ℕ) (next : List ℕ) → effect ≡ Symbol symbol → next ≡ drawn columns (besides base area (inked (SymbolInk symbol))) cells
+  -- a symbol effect draws its symbol
+  pub symbol-drawn : (symbol : ℕ) (next : List ℕ) → effect ≡ Symbol symbol → next ≡ drawn columns (onlyOutside base area (inked (SymbolInk symbol))) cells
       → next ≡ drawn columns (effectOf base area effect) cells
   symbol-drawn symbol next e p = rw e (rw symbol-ink at p)
 
-  -- the style, and then the effect
-  pub cells-drawn : (style : ℕ) (next last : List ℕ) → next ≡ drawn columns (besides base area (inked (Style style))) cells
+  -- the style, then the effect
+  pub cells-drawn : (style : ℕ) (next last : List ℕ) → next ≡ drawn columns (onlyOutside base area (inked (Style style))) cells
       → last ≡ drawn columns (effectOf base area effect) next
-      → last ≡ drawn columns (inOrder (besides base area (styled style) ∷ effectOf base area effect ∷ [])) cells
-  cells-drawn style next last p q = drawn-also columns (besides base area (styled style)) (effectOf base area effect) cells next last (rw style-ink at p) q
+      → last ≡ drawn columns (inOrder (onlyOutside base area (styled style) ∷ effectOf base area effect ∷ [])) cells
+  cells-drawn style next last p q = drawn-also columns (onlyOutside base area (styled style)) (effectOf base area effect) cells next last (rw style-ink at p) q
 
--- the symbol of an effect that fits has no more than 21 bits
+-- the symbol of an effect that fits has at most 21 bits
 pub effect-fits : (effect : Effect) (symbol : ℕ) → effect ≡ Symbol symbol → EffectFits effect → SymbolFits (SymbolInk symbol)
 effect-fits effect symbol e h = rw e at h
 
 pub ruleset effects = (overlay-drawn, symbol-drawn, cells-drawn, effect-fits)
 
 module _ (styles : List ℕ) (s : Screen) (base : Rect) (shadow : Shadow) (cells : List ℕ) where
-  -- no shadow draws nothing
+  -- an absent shadow draws nothing
   pub absent-drawn : shadow ≡ Absent → cells ≡ drawn (s .columns) (shadowOf styles s base shadow) cells
   unfolding shadowOf
   absent-drawn e = rw e (sym (drawn-none (s .columns) cells))
 
-  -- the shadow's area was worked out for the offsets a and b, which are its own
+  -- the shadow's area was computed from the offsets a and b, which equal its x and y
   module _ (effect : Effect) (style : ℕ) (x y a b : ℤ) (area : Rect) where
-    -- where it is empty, nothing is drawn
+    -- if the area is empty, nothing is drawn
     pub empty-drawn : (n : ℕ) (test : Bool) → shadow ≡ Present effect style x y → area ≡ shadowArea s base a b → a ≡ x → b ≡ y → test ≡ isEmpty area → test ≡ true
         → OnScreen s n base → cells ≡ drawn (s .columns) (shadowOf styles s base shadow) cells
     empty-drawn n test e p q r t h on =
@@ -72,19 +72,19 @@ module _ (styles : List ℕ) (s : Screen) (base : Rect) (shadow : Shadow) (cells
         (λ column row cell _. rw e (shadow-empty styles s base effect style x y column row cell none))
         ∙ drawn-none (s .columns) cells)
 
-    -- where it isn't, its cells are
+    -- otherwise its cells are drawn
     pub present-drawn : (look : ℕ) (next : List ℕ) → shadow ≡ Present effect style x y → area ≡ shadowArea s base a b → a ≡ x → b ≡ y → look ≡ styleAt styles style
-        → next ≡ drawn (s .columns) (inOrder (besides base area (styled look) ∷ effectOf base area effect ∷ [])) cells
+        → next ≡ drawn (s .columns) (inOrder (onlyOutside base area (styled look) ∷ effectOf base area effect ∷ [])) cells
         → next ≡ drawn (s .columns) (shadowOf styles s base shadow) cells
     unfolding shadowOf
     present-drawn look next e p q r t h = rw (e, ← q, ← r, ← p, ← t) h
 
--- an area that isn't empty lies on the screen
+-- a non-empty shadow area lies on the screen
 pub shadow-on-screen : (s : Screen) (n : ℕ) (base area : Rect) (x y : ℤ) (test : Bool) → area ≡ shadowArea s base x y → test ≡ isEmpty area → test ≡ false
     → OnScreen s n base → OnScreen s n area
 shadow-on-screen s n base area x y test e t h on = meeting-on-screen s n area (on .columns) (on .size) (offsetBy base x y) e (sym t ∙ h)
 
--- the effect of a shadow that fits does so too
+-- if a shadow's symbol fits a cell, so does its effect's
 pub shadow-fits : (shadow : Shadow) (effect : Effect) (style : ℕ) (x y : ℤ) → shadow ≡ Present effect style x y → ShadowFits shadow → EffectFits effect
 shadow-fits shadow effect style x y e h = rw e at h
 

@@ -1,2 +1,2 @@
 pub mod Shadow
-pub mod Fitting
+pub mod FittingExtra

@@ -1,4 +1,4 @@
--- Document 01, 'Inner area and frame', the shadow (block/shadow.rs).
+-- Document 01, 'Inner area and frame (block.rs, padding.rs)': the drawing of a shadow (block/shadow.rs).
 use Prim.Native.Nat.{ℕ}
 use mathlib.Core.List.{List, [], _∷_}
 use lib.IntN.{ℤ}
@@ -17,17 +17,17 @@ abbrev pub shadowArea : Screen → Rect → ℤ → ℤ → Rect
 shadowArea screen base x y = meet (offsetBy base x y) (areaOf screen)
 
 -- "the block's own cells are spared"
-abbrev pub besides : Rect → Rect → (ℕ → ℕ) → Drawing
-besides base area f = sparing base (over area f)
+abbrev pub onlyOutside : Rect → Rect → (ℕ → ℕ) → Drawing
+onlyOutside base area f = sparing base (over area f)
 
 -- "Its effect is an overlay, which does no more, or a symbol, which they then get"
 abbrev pub effectOf : Rect → Rect → Effect → Drawing
 effectOf base area Overlay = inOrder []
-effectOf base area (Symbol symbol) = besides base area (withSymbol symbol)
+effectOf base area (Symbol symbol) = onlyOutside base area (withSymbol symbol)
 
 -- "Its cells on the screen get the shadow's style"; "a block may have no shadow"
 unfoldable pub shadowOf : List ℕ → Screen → Rect → Shadow → Drawing
 shadowOf styles screen base Absent = inOrder []
 shadowOf styles screen base (Present effect style x y) =
     let area = shadowArea screen base x y in
-    inOrder (besides base area (styled (styleAt styles style)) ∷ effectOf base area effect ∷ [])
+    inOrder (onlyOutside base area (styled (styleAt styles style)) ∷ effectOf base area effect ∷ [])

@@ -1,4 +1,4 @@
--- Laws of a style's fields: packing a style loses none.
+-- Laws of a style's fields: packing loses none.
 use Prim.Native.Nat.{ℕ, _+_, _*_, _/_, _%_, _^_, _<_}
 use mathlib.Core.Path.{_≡_}
 use mathlib.Core.Bool.{Bool, true, false, cond}
@@ -6,7 +6,7 @@ use native.Mathlib.Omega.{arith}
 use lib.Dec.{eqb}
 use Rattle.style.specs.Style.{Style, styleFrom, stylePacked}
 
--- each field below the first bit fits its bits
+-- each field below the first bit fits in its bits
 pub record Fits (s : Style) : Type 0 where
   pub foreground-fits : s .foreground < 2 ^ 8
   pub background-fits : s .background < 2 ^ 8
@@ -22,52 +22,60 @@ read-bit : (on : Bool) (bit : ℕ) → bit ≡ cond on 1 0 → eqb bit 1 ≡ on
 read-bit true bit e = rw e
 read-bit false bit e = rw e
 
--- i and j are the two bits that say whether a colour is given
-module _
-    (i f j b a r z : ℕ) (hi : i < 2) (hf : f < 2 ^ 8) (hj : j < 2) (hb : b < 2 ^ 8) (ha : a < 2 ^ 9) (hr : r < 2 ^ 9) (hz : z < 2 ^ 28)
-  where
-    abbrev word : ℕ
-    word = i * 2 ^ 63 + f * 2 ^ 55 + j * 2 ^ 54 + b * 2 ^ 46 + a * 2 ^ 37 + r * 2 ^ 28 + z
+-- each field, read back from the packed word; i and j are the two bits that say whether a colour is given
+module _ (i j : ℕ) (hi : i < 2) (hj : j < 2) (s : Style) (h : Fits s) where
+  abbrev word : ℕ
+  word = i * 2 ^ 63 + s .foreground * 2 ^ 55 + j * 2 ^ 54 + s .background * 2 ^ 46 + s .add * 2 ^ 37 + s .remove * 2 ^ 28 + s .zeros
 
-    foreground-given-back : word / 2 ^ 63 % 2 ≡ i
-    foreground-given-back = let q : word / 2 ^ 63 ≡ i = omega arith in omega arith
+  foreground-given-back : word / 2 ^ 63 % 2 ≡ i
+  foreground-given-back =
+      let q : word / 2 ^ 63 ≡ i = omega (arith, h .foreground-fits, h .background-fits, h .add-fits, h .remove-fits, h .zeros-fit) in
+      omega arith
 
-    foreground-back : word / 2 ^ 55 % 2 ^ 8 ≡ f
-    foreground-back = let q : word / 2 ^ 55 ≡ i * 2 ^ 8 + f = omega arith in omega arith
+  foreground-back : word / 2 ^ 55 % 2 ^ 8 ≡ s .foreground
+  foreground-back =
+      let q : word / 2 ^ 55 ≡ i * 2 ^ 8 + s .foreground = omega (arith, h .background-fits, h .add-fits, h .remove-fits, h .zeros-fit) in
+      omega (arith, h .foreground-fits)
 
-    background-given-back : word / 2 ^ 54 % 2 ≡ j
-    background-given-back = let q : word / 2 ^ 54 ≡ i * 2 ^ 9 + f * 2 + j = omega arith in omega arith
+  background-given-back : word / 2 ^ 54 % 2 ≡ j
+  background-given-back =
+      let q : word / 2 ^ 54 ≡ i * 2 ^ 9 + s .foreground * 2 + j = omega (arith, h .background-fits, h .add-fits, h .remove-fits, h .zeros-fit) in
+      omega arith
 
-    background-back : word / 2 ^ 46 % 2 ^ 8 ≡ b
-    background-back = let q : word / 2 ^ 46 ≡ i * 2 ^ 17 + f * 2 ^ 9 + j * 2 ^ 8 + b = omega arith in omega arith
+  background-back : word / 2 ^ 46 % 2 ^ 8 ≡ s .background
+  background-back =
+      let q : word / 2 ^ 46 ≡ i * 2 ^ 17 + s .foreground * 2 ^ 9 + j * 2 ^ 8 + s .background =
+      omega (arith, h .add-fits, h .remove-fits, h .zeros-fit) in
+      omega (arith, h .background-fits)
 
-    add-back : word / 2 ^ 37 % 2 ^ 9 ≡ a
-    add-back = let q : word / 2 ^ 37 ≡ i * 2 ^ 26 + f * 2 ^ 18 + j * 2 ^ 17 + b * 2 ^ 9 + a = omega arith in omega arith
+  add-back : word / 2 ^ 37 % 2 ^ 9 ≡ s .add
+  add-back =
+      let q : word / 2 ^ 37 ≡ i * 2 ^ 26 + s .foreground * 2 ^ 18 + j * 2 ^ 17 + s .background * 2 ^ 9 + s .add =
+      omega (arith, h .remove-fits, h .zeros-fit) in
+      omega (arith, h .add-fits)
 
-    remove-back : word / 2 ^ 28 % 2 ^ 9 ≡ r
-    remove-back = let q : word / 2 ^ 28 ≡ i * 2 ^ 35 + f * 2 ^ 27 + j * 2 ^ 26 + b * 2 ^ 18 + a * 2 ^ 9 + r = omega arith in omega arith
+  remove-back : word / 2 ^ 28 % 2 ^ 9 ≡ s .remove
+  remove-back =
+      let q : word / 2 ^ 28 ≡ i * 2 ^ 35 + s .foreground * 2 ^ 27 + j * 2 ^ 26 + s .background * 2 ^ 18 + s .add * 2 ^ 9 + s .remove =
+      omega (arith, h .zeros-fit) in
+      omega (arith, h .remove-fits)
 
-    zeros-back : word % 2 ^ 28 ≡ z
-    zeros-back = omega arith
+  zeros-back : word % 2 ^ 28 ≡ s .zeros
+  zeros-back = omega (arith, h .zeros-fit)
 
--- a style's fields come back from its bits
+-- unpacking a packed style gives its fields back
 pub style-unpacked : (s : Style) → Fits s → styleFrom (stylePacked s) ≡ s
 style-unpacked s h =
     let i = cond {A = ℕ} (s .foregroundGiven) 1 0 in
     let j = cond {A = ℕ} (s .backgroundGiven) 1 0 in
     let hi = bit-small (s .foregroundGiven) in
     let hj = bit-small (s .backgroundGiven) in
-    let hf = h .foreground-fits in
-    let hb = h .background-fits in
-    let ha = h .add-fits in
-    let hr = h .remove-fits in
-    let hz = h .zeros-fit in
     rw (
-      read-bit (s .foregroundGiven) _ (foreground-given-back i (s .foreground) j (s .background) (s .add) (s .remove) (s .zeros) hi hf hj hb ha hr hz),
-      foreground-back i (s .foreground) j (s .background) (s .add) (s .remove) (s .zeros) hi hf hj hb ha hr hz,
-      read-bit (s .backgroundGiven) _ (background-given-back i (s .foreground) j (s .background) (s .add) (s .remove) (s .zeros) hi hf hj hb ha hr hz),
-      background-back i (s .foreground) j (s .background) (s .add) (s .remove) (s .zeros) hi hf hj hb ha hr hz,
-      add-back i (s .foreground) j (s .background) (s .add) (s .remove) (s .zeros) hi hf hj hb ha hr hz,
-      remove-back i (s .foreground) j (s .background) (s .add) (s .remove) (s .zeros) hi hf hj hb ha hr hz,
-      zeros-back i (s .foreground) j (s .background) (s .add) (s .remove) (s .zeros) hi hf hj hb ha hr hz,
+      read-bit (s .foregroundGiven) _ (foreground-given-back i j hi hj s h),
+      foreground-back i j hi hj s h,
+      read-bit (s .backgroundGiven) _ (background-given-back i j hi hj s h),
+      background-back i j hi hj s h,
+      add-back i j hi hj s h,
+      remove-back i j hi hj s h,
+      zeros-back i j hi hj s h,
     )

@@ -3,7 +3,7 @@ use Prim.Native.Nat.{ℕ, _+_, _*_, _/_, _%_, _^_}
 use mathlib.Core.Bool.{Bool, cond}
 use lib.Dec.{eqb}
 
--- foreground given 1 | foreground 8 | background given 1 | background 8 | add 9 | remove 9 | 28 zeros
+-- "Style, 64 bits: foreground given 1 | foreground 8 | background given 1 | background 8 | add 9 | remove 9 | 28 zeros."
 pub record Style : Type 0 where
   pub foregroundGiven : Bool
   pub foreground : ℕ

@@ -4,12 +4,12 @@ ghost use mathlib.Core.Bool.{cond};
 ghost use Prim.Native.Nat.{_<_, _^_};
 ghost use Rattle.style.specs.Style.{Style, styleFrom, stylePacked};
 
-// How many values a field takes.
+// Number of values of a field.
 pub const COLOURS: u64 = 1 << 8;
 
 pub const MODIFIERS: u64 = 1 << 9;
 
-// Where a field stands: what a 1 in it comes to. The zeros stand below the remove bits.
+// Place value of a field's lowest bit. The zeros are below the remove bits.
 const FOREGROUND_GIVEN_PLACE: u64 = 1 << 63;
 
 const FOREGROUND_PLACE: u64 = 1 << 55;
@@ -64,14 +64,14 @@ pub fn zeros(style: u64) -> u64
     style % REMOVE_PLACE
 }
 
-// A field of one bit.
+// Returns a one-bit field.
 fn bit(on: bool) -> u64
     ensures { λ r. ⌜ (r ≡ cond on 1 0) × (r < 2) ⌝ }
 {
     if on { 1 } else { 0 }
 }
 
-// The style of these fields, its zeros 0.
+// Packs these fields into a style, with zeros 0.
 pub fn pack(
     foreground_given: bool,
     foreground: u64,

@@ -1,4 +1,4 @@
--- The glyphs of a text: those that its composed lines emit, those that wrapping drops, and those that are over-wide.
+-- Every glyph of a text is emitted, dropped or over-wide.
 use Prim.Native.Nat.{ℕ, _+_, _<_}
 use mathlib.Core.Path.{_≡_, refl}
 use mathlib.Core.Bool.{Bool, true, false, cond}
@@ -13,8 +13,8 @@ use Rattle.nothing_lost.specs.Glyphs.{solids, glyphsOfAll}
 use Rattle.nothing_lost.proofs.Lists.{glyphs-append}
 use Rattle.nothing_lost.proofs.Solid.{solids-append, dropped-whitespace}
 use Rattle.nothing_lost.proofs.Accounted.{accounted-lengths}
-use Rattle.compose.specs.Lines.{allSkipped, allDropped}
-use Rattle.line_counts.proofs.Emitted.{wrapped}
+use Rattle.line_composer.specs.Lines.{allSkipped, allDropped}
+use Rattle.tally_lines.proofs.Emitted.{wrapped}
 
 over-append : (u : Rule) (a b : List Glyph) → length (overWides u (a ++ b)) ≡ length (overWides u a) + length (overWides u b)
 over-append u [] b = omega arith
@@ -25,7 +25,7 @@ over-append u (g ∷ a) b = go (overWide u g) (over-append u a b)
     go true e = omega arith
     go false e = e
 
--- the over-wide glyphs of all lines are those of each
+-- the over-wide glyphs of all lines are those of each line together
 pub skipped-length : (u : Rule) (ls : List TextLine) → length (overWides u (lineGlyphs ls)) ≡ length (allSkipped u ls)
 skipped-length u [] = refl
 skipped-length u (line ∷ rest) = simp (over-append, length-append) (omega (arith, skipped-length u rest))
@@ -37,7 +37,7 @@ all-accounted u [] h = refl
 all-accounted u (line ∷ rest) h =
     simp (glyphs-append, length-append) (omega (arith, accounted-lengths u (glyphsOf line) h, all-accounted u rest h))
 
--- and every glyph that is dropped is whitespace
+-- every dropped glyph is whitespace
 pub all-blank : (u : Rule) (ls : List TextLine) → solids (allDropped u ls) ≡ []
 all-blank u [] = refl
 all-blank u (line ∷ rest) = simp (solids-append, dropped-whitespace) (all-blank u rest)

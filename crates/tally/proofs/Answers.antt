@@ -1,4 +1,4 @@
--- What the call `tally` answers; what its answers say in document 01's numbers; and that its causes come in order.
+-- The call `tally`: its answer, the answer as document 01's numbers, and the order of its causes.
 use mathlib.Core.Path.{_≡_, refl, sym, _∙_}
 use Rattle.refuse.specs.declared.Ceilings.{Ceilings}
 use Rattle.refuse.specs.declared.Refusal.{Refusal}
@@ -8,31 +8,30 @@ use Rattle.refuse.specs.Refusal.{firstCause, verdictNumber}
 use Rattle.refuse.specs.Causes.{mostAccepted, textCauses, lineCauses}
 use Rattle.refuse.proofs.Calls.{answer-refused, answer-accepted, answered-number, answered-value}
 use Rattle.refuse.proofs.Lowest.{InOrder, in-order}
-use Rattle.tally.specs.declared.Counts.{Counts}
-use Rattle.tally.specs.declared.Tallied.the-variants.{Counted, Refused}
+use Rattle.tally.specs.declared.TallyCounts.{TallyCounts}
+use Rattle.tally.specs.declared.TallyAnswer.the-variants.{Counted, Refused}
 use Rattle.tally.specs.Tally.{noCounts, tallyOf}
-use Rattle.tally.specs.Call.{Call, ruleIn, causesOf, verdictOf, answerOf, countsOf, talliedNumber, talliedCounts}
+use Rattle.tally.specs.Call.{Call, ruleIn, causesOf, verdictOf, answerOf, countsOf, tallyAnswerNumber, tallyAnswerCounts}
 
--- causes come lowest first, and at no other time
+-- a call is refused if and only if a cause holds, and for the lowest such cause
 pub lowest-first : (most : Ceilings) (call : Call) → InOrder (causesOf most call)
 unfolding causesOf lineCauses textCauses
 lowest-first most call = in-order (causesOf most call) refl
 
--- the answer's number is the verdict's, and its counts are the call's
-pub answer-number : (call : Call) → talliedNumber (answerOf call) ≡ verdictNumber (verdictOf call)
+pub answer-number : (call : Call) → tallyAnswerNumber (answerOf call) ≡ verdictNumber (verdictOf call)
 unfolding answerOf
-answer-number call = answered-number Counted Refused talliedNumber (λ counts. refl) (λ why. refl) (verdictOf call) (tallyOf (ruleIn call) (call .text))
+answer-number call = answered-number Counted Refused tallyAnswerNumber (λ counts. refl) (λ why. refl) (verdictOf call) (tallyOf (ruleIn call) (call .text))
 
-pub answer-counts : (call : Call) → talliedCounts (answerOf call) ≡ countsOf call
+pub answer-counts : (call : Call) → tallyAnswerCounts (answerOf call) ≡ countsOf call
 unfolding answerOf countsOf
-answer-counts call = answered-value Counted Refused talliedCounts (λ counts. counts) noCounts (λ counts. refl) (λ why. refl) (verdictOf call) (tallyOf (ruleIn call) (call .text))
+answer-counts call = answered-value Counted Refused tallyAnswerCounts (λ counts. counts) noCounts (λ counts. refl) (λ why. refl) (verdictOf call) (tallyOf (ruleIn call) (call .text))
 
--- v is what the checks answered
+-- v is the verdict of the checks
 module _ (call : Call) (v : Verdict) (e : v ≡ firstCause (lineCauses mostAccepted (call .text) (call .limit))) where
   pub tally-refused : (why : Refusal) → v ≡ RefusedFor why → Refused why ≡ answerOf call
   unfolding verdictOf causesOf answerOf
   tally-refused why r = answer-refused Counted Refused (verdictOf call) (tallyOf (ruleIn call) (call .text)) why (sym e ∙ r)
 
-  pub tally-counted : v ≡ Accepted → (c : Counts) → c ≡ tallyOf (ruleIn call) (call .text) → Counted c ≡ answerOf call
+  pub tally-counted : v ≡ Accepted → (c : TallyCounts) → c ≡ tallyOf (ruleIn call) (call .text) → Counted c ≡ answerOf call
   unfolding verdictOf causesOf answerOf
   tally-counted a c p = answer-accepted Counted Refused (verdictOf call) (tallyOf (ruleIn call) (call .text)) (sym e ∙ a) c p

@@ -1,4 +1,4 @@
--- The records of a text passed one by one: its glyphs, and those that are over-wide.
+-- The loop of `glyph_counts`: the records of a text read one by one.
 use Prim.Native.Nat.{ℕ, _+_, _≤_, _<_}
 use mathlib.Core.Path.{_≡_}
 use mathlib.Core.Bool.{Bool, true, false}
@@ -13,13 +13,13 @@ use Rattle.text.specs.Record.{isHead, widthOf}
 use Rattle.text.specs.Line.{Glyph, glyphFrom, glyphsFrom}
 use Rattle.wrapping.specs.declared.Rule.{Rule}
 use Rattle.wrapping.specs.Wrapping.{overWide, overWides}
-use Rattle.tally.specs.Tallying.{glyphCounts}
+use Rattle.tally.specs.TallyingExtra.{glyphCounts}
 
 -- the glyphs from record i on
 abbrev pub after : List ℕ → ℕ → List Glyph
 after text i = glyphsFrom i (drop i text)
 
--- i records were passed, and so many of them are glyphs, and over-wide: with those left they come to the whole
+-- Invariant of `glyph_counts`: i records were read; the counts so far plus those of the remaining records are those of the text.
 pub record Passing (u : Rule) (text : List ℕ) (glyphs over i : ℕ) : Type 0 where
   pub within : i ≤ length text
   pub glyphs-few : glyphs ≤ i

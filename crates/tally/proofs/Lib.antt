@@ -1,5 +1,5 @@
 pub mod Answers
 pub mod Accounted
 pub mod Glyphs
-pub mod TallyCounts
+pub mod EveryGlyph
 pub mod Rest

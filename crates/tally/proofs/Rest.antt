@@ -1,5 +1,4 @@
--- Every glyph is emitted, over-wide or dropped, so that those dropped are the rest: one law for each way through `text_counts`, and
--- for each of its differences.
+-- The dropped glyphs are the remainder: one law for each path through `text_counts`, and one for each of its subtractions.
 use Prim.Native.Nat.{ℕ, _+_, _-_, _≤_}
 use mathlib.Core.Path.{_≡_}
 use mathlib.Core.List.{List}
@@ -8,13 +7,13 @@ use borrow.Author.Tests.{eq-eqb, ne-eqb}
 use lib.ListN.{length}
 use Rattle.text.specs.Line.{Opens}
 use Rattle.wrapping.specs.declared.Rule.{Rule}
-use Rattle.compose.specs.Lines.{dropped}
-use Rattle.line_counts.specs.declared.LineCounts.{LineCounts}
-use Rattle.line_counts.specs.Tallying.{lineCounts}
-use Rattle.tally.specs.declared.GlyphCounts.{GlyphCounts}
+use Rattle.line_composer.specs.Lines.{dropped}
+use Rattle.tally_lines.specs.declared.LineCounts.{LineCounts}
+use Rattle.tally_lines.specs.TallyingExtra.{lineCounts}
+use Rattle.tally.specs.declared.TextGlyphCounts.{TextGlyphCounts}
 use Rattle.tally.specs.Tally.{noCounts, composed, tallyOf}
-use Rattle.tally.specs.Tallying.{glyphCounts}
-use Rattle.tally.proofs.TallyCounts.{skipped-glyphs, counts}
+use Rattle.tally.specs.TallyingExtra.{glyphCounts}
+use Rattle.tally.proofs.EveryGlyph.{skipped-glyphs, counts}
 
 module _ (u : Rule) (text : List ℕ) where
   -- "all 0 at limit 0"
@@ -22,9 +21,9 @@ module _ (u : Rule) (text : List ℕ) where
   unfolding tallyOf
   limit-none e = simp (eq-eqb (u .limit) 0 e)
 
-  module _ (n : u .limit ≡ 0 → ⊥) (o : Opens text) (l : LineCounts) (g : GlyphCounts)
+  module _ (n : u .limit ≡ 0 → ⊥) (o : Opens text) (l : LineCounts) (g : TextGlyphCounts)
       (e : l ≡ lineCounts (u .limit) (composed u text)) (f : g ≡ glyphCounts u text) where
-    -- what the lines and the glyphs came to, and those dropped, are all glyphs
+    -- placed, clipped, zero-width, over-wide and dropped glyphs are all glyphs
     parts : l .placed + l .clipped + l .«zero_width» + g .«over_wide» + length (dropped u text) ≡ g .glyphs
     unfolding tallyOf lineCounts glyphCounts
     parts = rw (e, f, skipped-glyphs u text o) (rw (ne-eqb (u .limit) 0 n) at (counts u text o (omega arith)))

@@ -1,3 +1,3 @@
 pub mod Tally
 pub mod Call
-pub mod Tallying
+pub mod TallyingExtra

@@ -1,4 +1,4 @@
-// The call `tally`: what becomes of a text's glyphs.
+// The call `tally`: counts of a text's composed lines and glyphs.
 
 mod tallying;
 
@@ -9,8 +9,8 @@ use wrapping::Rule;
 ghost use mathlib.Core.Path.{_≡_};
 ghost use Rattle.tally.specs.Call.{callOf, answerOf};
 
-// The tally of a text: its composed lines, and what becomes of its glyphs.
-pub struct Counts {
+// Counts of a text's composed lines, and of its glyphs by kind.
+pub struct TallyCounts {
     pub lines: u32,
     pub placed: u32,
     pub clipped: u32,
@@ -19,28 +19,28 @@ pub struct Counts {
     pub dropped: u32,
 }
 
-// What a tally call answers: the counts, or why nothing was counted.
-pub enum Tallied {
-    Counted(Counts),
+// Answer of the call: the counts, or the reason for the refusal.
+pub enum TallyAnswer {
+    Counted(TallyCounts),
     Refused(Refusal),
 }
 
-// The glyphs of a text, and how many of them are over-wide.
-pub struct GlyphCounts {
+// Counts of a text's glyphs and of the over-wide ones among them.
+pub struct TextGlyphCounts {
     pub glyphs: u32,
     pub over_wide: u32,
 }
 
-// Tallies a text at a limit: causes 3, 4, 8.
-pub fn tally(text: &[u32], limit: u16, trim: bool) -> Tallied
+// Tallies a text at a limit. Refused for causes 3, 4 and 8.
+pub fn tally(text: &[u32], limit: u16, trim: bool) -> TallyAnswer
     ensures { λ r. ⌜ r ≡ answerOf (callOf (now (text .entry)) limit trim) ⌝ }
 {
     if let Verdict::Refused(why) = check_records::line_verdict(ACCEPTED, text, limit) {
-        return Tallied::Refused(why);
+        return TallyAnswer::Refused(why);
     }
     let rule = Rule {
         limit: limit as usize,
         trim,
     };
-    Tallied::Counted(tallying::text_counts(rule, text))
+    TallyAnswer::Counted(tallying::text_counts(rule, text))
 }

@@ -1,16 +1,16 @@
-// The glyphs of a text, counted by what becomes of them.
-use crate::Counts;
-use crate::GlyphCounts;
+// Counting of a text's glyphs by kind.
+use crate::TallyCounts;
+use crate::TextGlyphCounts;
 use text::glyph;
 use text::head;
 use wrapping::Rule;
 ghost use mathlib.Core.Path.{_≡_};
 ghost use Rattle.text.specs.Line.{Opens, FewRecords};
 ghost use Rattle.tally.specs.Tally.{tallyOf};
-ghost use Rattle.tally.specs.Tallying.{glyphCounts};
+ghost use Rattle.tally.specs.TallyingExtra.{glyphCounts};
 
-// The counts of a text's glyphs: the records that aren't heads.
-fn glyph_counts(rule: Rule, text: &[u32]) -> GlyphCounts
+// Counts a text's glyphs, the records that aren't heads, and the over-wide ones among them.
+fn glyph_counts(rule: Rule, text: &[u32]) -> TextGlyphCounts
     requires { ⌜ FewRecords (now text) ⌝ }
     ensures { λ r. ⌜ r ≡ glyphCounts rule (now (text .entry)) ⌝ }
 {
@@ -28,16 +28,16 @@ fn glyph_counts(rule: Rule, text: &[u32]) -> GlyphCounts
             over_wide += 1;
         }
     }
-    GlyphCounts { glyphs, over_wide }
+    TextGlyphCounts { glyphs, over_wide }
 }
 
-// The tally of a text. Every glyph is emitted, over-wide or dropped, so that those dropped are the rest.
-pub fn text_counts(rule: Rule, text: &[u32]) -> Counts
+// Returns the tally of a text. Every glyph is emitted, over-wide or dropped, so the dropped ones are the remainder.
+pub fn text_counts(rule: Rule, text: &[u32]) -> TallyCounts
     requires { ⌜ FewRecords (now text) × Opens (now text) ⌝ }
     ensures { λ r. ⌜ r ≡ tallyOf rule (now (text .entry)) ⌝ }
 {
     if rule.limit == 0 {
-        return Counts {
+        return TallyCounts {
             lines: 0,
             placed: 0,
             clipped: 0,
@@ -46,9 +46,9 @@ pub fn text_counts(rule: Rule, text: &[u32]) -> Counts
             dropped: 0,
         };
     }
-    let lines = line_counts::line_counts(rule, text);
+    let lines = tally_lines::line_counts(rule, text);
     let glyphs = glyph_counts(rule, text);
-    Counts {
+    TallyCounts {
         lines: lines.lines,
         placed: lines.placed,
         clipped: lines.clipped,

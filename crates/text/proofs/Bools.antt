@@ -1,4 +1,4 @@
--- A proof by what a test says, and what a test made of two says of each.
+-- Case analysis on a test, and what follows if neither of two tests holds.
 use mathlib.Core.Path.{_≡_, refl}
 use mathlib.Core.Bool.{Bool, true, false, cond, _||_, true≢false}
 
@@ -6,7 +6,7 @@ pub neither : (a b : Bool) → (a || b) ≡ false → (a ≡ false) × (b ≡ fa
 neither true b e = absurd (true≢false e)
 neither false b e = (refl, e)
 
--- what holds of both ways holds of the one that a test chooses
+-- a property of both branches holds for the branch taken
 pub cases : (P : Bool → Type 0) (b : Bool) → (b ≡ true → P true) → (b ≡ false → P false) → P b
 cases P true f g = f refl
 cases P false f g = g refl

@@ -1,4 +1,4 @@
--- The pass that counts heads: each opens a line.
+-- The loop that counts heads, each of which opens a line.
 use Prim.Native.Nat.{ℕ, suc, _+_, _≤_, _<_}
 use mathlib.Core.Path.{_≡_, sym, ap, _∙_}
 use mathlib.Core.Bool.{Bool, true, false}
@@ -10,7 +10,7 @@ use lib.Seq.{drop-cons}
 use Rattle.text.specs.Record.{isHead}
 use Rattle.text.specs.Line.{linesFrom}
 
--- i records passed, and as many heads among them as were counted
+-- Before each turn: i records are done, and count plus the lines that the remaining records open is the number of all lines.
 pub record Counting (records : List ℕ) (count i : ℕ) : Type 0 where
   pub within : i ≤ length records
   pub few : count ≤ i
@@ -22,19 +22,19 @@ module _ (records : List ℕ) where
 
   module _ (count i : ℕ) (c : Counting records count i) where
     module _ (b : Bool) (h : i < length records) (p : b ≡ isHead (getD records i 0)) where
-      part : drop i records ≡ getD records i 0 ∷ drop (i + 1) records
-      part = rw (add-one, drop-cons records i 0)
+      drop-splits : drop i records ≡ getD records i 0 ∷ drop (i + 1) records
+      drop-splits = rw (add-one, drop-cons records i 0)
 
       pub counting-more : (next : ℕ) → b ≡ true → next ≡ count + 1 → Counting records next (i + 1)
       counting-more next t n =
           let head : isHead (getD records i 0) ≡ true = sym p ∙ t in
-          let f : length (linesFrom i (drop i records)) ≡ suc (length (linesFrom (i + 1) (drop (i + 1) records))) = rw (part, head, add-one i) in
+          let f : length (linesFrom i (drop i records)) ≡ suc (length (linesFrom (i + 1) (drop (i + 1) records))) = rw (drop-splits, head, add-one i) in
           record { within = omega arith; few = omega (arith, c .few); same = omega (arith, f, c .same) }
 
       pub counting-goes : (next : ℕ) → b ≡ false → next ≡ count → Counting records next (i + 1)
       counting-goes next f n =
           let glyph : isHead (getD records i 0) ≡ false = sym p ∙ f in
-          let m : length (linesFrom i (drop i records)) ≡ length (linesFrom (i + 1) (drop (i + 1) records)) = rw (part, glyph, add-one i) in
+          let m : length (linesFrom i (drop i records)) ≡ length (linesFrom (i + 1) (drop (i + 1) records)) = rw (drop-splits, glyph, add-one i) in
           record { within = omega arith; few = omega (arith, c .few); same = omega (arith, m, c .same) }
 
     pub counting-ends : length records ≤ i → count ≡ length (linesFrom 0 records)

@@ -1,4 +1,4 @@
--- Two tests of which one is enough, the second looked at where the first fails.
+-- A disjunction whose second test runs only if the first fails.
 use Prim.Native.Nat.{ℕ}
 use mathlib.Core.Path.{_≡_, refl, sym, ap, _∙_}
 use mathlib.Core.Bool.{Bool, true, false, _||_, or-assoc}
@@ -12,7 +12,7 @@ module _ (first later found : Bool) (e : found ≡ first) where
   pub later-holds : (x : Bool) → found ≡ false → x ≡ later → x ≡ (first || later)
   later-holds x f p = rw (← e, f) p
 
--- a test of two lists, one after the other
+-- searching two lists, one after the other
 pub some-append : {A : Type 0} (test : A → Bool) (first later : List A) → some test (first ++ later) ≡ (some test first || some test later)
 some-append test [] later = refl
 some-append test (x ∷ first) later =

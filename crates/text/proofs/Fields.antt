@@ -1,4 +1,4 @@
--- Reading what was packed gives the fields back.
+-- Unpacking a packed record gives its fields back.
 use Prim.Native.Nat.{ℕ, _+_, _*_, _/_, _%_, _^_, _<_}
 use mathlib.Core.Path.{_≡_}
 use mathlib.Core.Bool.{Bool, true, false, cond}
@@ -28,7 +28,7 @@ module _ (symbol width space style : ℕ) (s : symbol < 2 ^ 21) (w : width < 2 ^
   style-back : styleOf word ≡ style
   style-back = omega arith
 
--- a glyph's
+-- the fields of a glyph
 module _ (symbol width : ℕ) (whitespace : Bool) (style : ℕ) (s : symbol < 2 ^ 21) (w : width < 2 ^ 3) (t : style < 2 ^ 6) where
   bit-small : (on : Bool) → cond on 1 0 < 2
   bit-small true = omega arith
@@ -38,8 +38,8 @@ module _ (symbol width : ℕ) (whitespace : Bool) (style : ℕ) (s : symbol < 2 
   read-bit true bit e = rw e
   read-bit false bit e = rw e
 
-  pub glyph-is : isHead (glyphRecord symbol width whitespace style) ≡ false
-  glyph-is = not-head symbol width (cond whitespace 1 0) style s w (bit-small whitespace) t
+  pub glyph-is-no-head : isHead (glyphRecord symbol width whitespace style) ≡ false
+  glyph-is-no-head = not-head symbol width (cond whitespace 1 0) style s w (bit-small whitespace) t
 
   pub glyph-symbol : symbolOf (glyphRecord symbol width whitespace style) ≡ symbol
   glyph-symbol = symbol-back symbol width (cond whitespace 1 0) style s w (bit-small whitespace) t
@@ -53,14 +53,14 @@ module _ (symbol width : ℕ) (whitespace : Bool) (style : ℕ) (s : symbol < 2 
   pub glyph-style : styleOf (glyphRecord symbol width whitespace style) ≡ style
   glyph-style = style-back symbol width (cond whitespace 1 0) style s w (bit-small whitespace) t
 
-  -- so all fields at once
+  -- all fields at once
   pub glyph-fields : (number : ℕ) → glyphFrom number (glyphRecord symbol width whitespace style) ≡ record { number = number; symbol = symbol; width = width; whitespace = whitespace; style = style }
   glyph-fields number = rw (glyph-symbol, glyph-width, glyph-whitespace, glyph-style)
 
--- a head's, the 27 zeros 0
+-- the fields of a head, its 27 zeros 0
 module _ (alignment position : ℕ) (a : alignment < 2 ^ 2) (p : position < 2 ^ 2) where
-  pub head-is : isHead (headRecord alignment position) ≡ true
-  head-is = eq-eqb (headRecord alignment position / 2 ^ 31) 1 (omega arith)
+  pub head-is-head : isHead (headRecord alignment position) ≡ true
+  head-is-head = eq-eqb (headRecord alignment position / 2 ^ 31) 1 (omega arith)
 
   pub head-alignment : alignmentOf (headRecord alignment position) ≡ alignment
   head-alignment = let q : headRecord alignment position / 2 ^ 29 ≡ 2 ^ 2 + alignment = omega arith in omega arith

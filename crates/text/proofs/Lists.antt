@@ -11,7 +11,6 @@ pub count-append : {A : Type 0} (test : A → Bool) (a b : List A) → countOf t
 count-append test [] b = omega arith
 count-append test (x ∷ a) b = omega (arith, count-append test a b)
 
--- no more are counted than there are
 pub count-few : {A : Type 0} (test : A → Bool) (xs : List A) → countOf test xs ≤ length xs
 count-few test [] = omega arith
 count-few test (x ∷ xs) = go (test x) (count-few test xs)

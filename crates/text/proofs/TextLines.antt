@@ -1,4 +1,4 @@
--- Laws of the lines that heads open: where a line ends, and what is left after it.
+-- Laws of the lines that heads open: where a line ends, and which records follow it.
 use Prim.Native.Nat.{ℕ, suc, _+_, _-_, _≤_, _<_}
 use mathlib.Core.Path.{_≡_, refl, sym, ap, _∙_}
 use mathlib.Core.Bool.{Bool, true, false, cond}
@@ -11,7 +11,7 @@ use lib.Seq.{drop-cons, drop-length, length-take-le, drop-drop, getD-drop, take-
 use Rattle.text.specs.Record.{isHead}
 use Rattle.text.specs.Line.{untilHead, linesFrom, Opens}
 
--- records passed without a head: what is left says where the line ends
+-- Before each turn: none of the first i records is a head, so the line's length is i plus that of its remaining part.
 pub record Measuring (after : List ℕ) (i : ℕ) : Type 0 where
   pub within : i ≤ length after
   pub same : i + length (untilHead (drop i after)) ≡ length (untilHead after)
@@ -21,19 +21,19 @@ module _ (after : List ℕ) where
   measuring-starts = record { within = omega arith; same = omega arith }
 
   module _ (i : ℕ) (m : Measuring after i) where
-    at : i < length after → i + length (cond (isHead (getD after i 0)) [] (getD after i 0 ∷ untilHead (drop (i + 1) after))) ≡ length (untilHead after)
-    at h = let d : drop i after ≡ getD after i 0 ∷ drop (i + 1) after = rw (add-one, drop-cons after i 0) in rw d at (m .same)
+    same-split : i < length after → i + length (cond (isHead (getD after i 0)) [] (getD after i 0 ∷ untilHead (drop (i + 1) after))) ≡ length (untilHead after)
+    same-split h = let d : drop i after ≡ getD after i 0 ∷ drop (i + 1) after = rw (add-one, drop-cons after i 0) in rw d at (m .same)
 
     pub measuring-goes : (b : Bool) → i < length after → b ≡ isHead (getD after i 0) → b ≡ false → Measuring after (i + 1)
     measuring-goes b h e f =
         let g : isHead (getD after i 0) ≡ false = sym e ∙ f in
-        let s : i + length (getD after i 0 ∷ untilHead (drop (i + 1) after)) ≡ length (untilHead after) = rw g at (at h) in
+        let s : i + length (getD after i 0 ∷ untilHead (drop (i + 1) after)) ≡ length (untilHead after) = rw g at (same-split h) in
         record { within = omega arith; same = omega arith }
 
     pub measuring-stops : (b : Bool) → i < length after → b ≡ isHead (getD after i 0) → b ≡ true → i ≡ length (untilHead after)
     measuring-stops b h e f =
         let g : isHead (getD after i 0) ≡ true = sym e ∙ f in
-        let s : i + length {A = ℕ} [] ≡ length (untilHead after) = rw g at (at h) in
+        let s : i + length {A = ℕ} [] ≡ length (untilHead after) = rw g at (same-split h) in
         omega arith
 
     pub measuring-ends : length after ≤ i → i ≡ length (untilHead after)
@@ -45,7 +45,7 @@ module _ (after : List ℕ) where
 
 pub ruleset measuring = (measuring-starts, measuring-goes, measuring-stops, measuring-ends)
 
--- a line's records are a part of those after its head
+-- a line's records are the first ones after its head
 pub until-short : (rs : List ℕ) → length (untilHead rs) ≤ length rs
 until-short [] = omega arith
 until-short (r ∷ rs) = go (isHead r) (until-short rs)
@@ -66,15 +66,15 @@ module _ (rs : List ℕ) (n : ℕ) (e : n ≡ length (untilHead rs)) where
   pub part-length : n ≡ length (take n rs)
   part-length = sym (length-take-le n rs (omega (arith, until-short rs)))
 
-  pub part-is : take n rs ≡ untilHead rs
-  part-is = rw e (until-take rs)
+  pub take-until-head : take n rs ≡ untilHead rs
+  take-until-head = rw e (until-take rs)
 
--- a head stands there, or the records end
+-- the record at index `at` is a head, or the records end there
 pub record AtHead (rs : List ℕ) (at : ℕ) : Type 0 where
   pub within : at ≤ length rs
   pub head : at < length rs → isHead (getD rs at 0) ≡ true
 
--- records that open with a head do so at their first, and have no glyph before it
+-- records that open with a head have it at index 0, with no glyph before it
 pub opens-start : (rs : List ℕ) → Opens rs → AtHead rs 0
 opens-start [] e = record { within = omega arith; head = λ (h : 0 < 0). absurd (omega arith) }
 opens-start (r ∷ rs) e = record { within = omega arith; head = λ (h : 0 < suc (length rs)). not-false (isHead r) e }
@@ -83,7 +83,7 @@ pub opens-none : (rs : List ℕ) → Opens rs → untilHead rs ≡ []
 opens-none [] e = refl
 opens-none (r ∷ rs) e = rw (not-false (isHead r) e)
 
--- what stands after a line is a head, or nothing
+-- the record after a line, if any, is a head
 until-head : (rs : List ℕ) → length (untilHead rs) < length rs → isHead (getD rs (length (untilHead rs)) 0) ≡ true
 until-head [] h = absurd (omega arith)
 until-head (r ∷ rs) h = go (isHead r) refl (until-head rs) h
@@ -93,7 +93,7 @@ until-head (r ∷ rs) h = go (isHead r) refl (until-head rs) h
     go true e ih k = e
     go false e ih k = ih (omega arith)
 
--- glyphs open no line
+-- skipping the glyphs before the first head skips no line
 lines-skip : (number : ℕ) (rs : List ℕ) → linesFrom number rs ≡ linesFrom (number + length (untilHead rs)) (drop (length (untilHead rs)) rs)
 lines-skip number [] = refl
 lines-skip number (r ∷ rs) = go (isHead r) refl (lines-skip (suc number) rs)
@@ -106,7 +106,7 @@ lines-skip number (r ∷ rs) = go (isHead r) refl (lines-skip (suc number) rs)
 pub end-within : (rs : List ℕ) (at : ℕ) → at < length rs → at + 1 + length (untilHead (drop (at + 1) rs)) ≤ length rs
 end-within rs at h = omega (arith, until-short (drop (at + 1) rs), length-drop (at + 1) rs)
 
--- the line whose head stands at `at`, of n glyphs, and what comes after it
+-- the line of n glyphs whose head is at index `at`, and the lines after it
 module _ (rs : List ℕ) (at n : ℕ) (h : at < length rs) (o : AtHead rs at) (e : n ≡ length (untilHead (drop (at + 1) rs))) where
   pub next-opens : AtHead rs (at + 1 + n)
   next-opens = record {
@@ -122,12 +122,12 @@ module _ (rs : List ℕ) (at n : ℕ) (h : at < length rs) (o : AtHead rs at) (e
       lines-skip (suc at) (drop (at + 1) rs) ∙ rw (← e, drop-drop, ← add-one at) in
       rw (d, o .head h, s)
 
--- the records lent from a place on, as `&records[from..]` lends them
+-- the records from an index on, as `&records[from..]` borrows them
 abbrev pub rest : List ℕ → ℕ → List ℕ
 rest rs from = take (length rs - from) (drop from rs)
 
-pub rest-is : (rs : List ℕ) (from : ℕ) → rest rs from ≡ drop from rs
-rest-is rs from = take-all (length rs - from) (drop from rs) (omega (arith, length-drop from rs))
+pub rest-drops : (rs : List ℕ) (from : ℕ) → rest rs from ≡ drop from rs
+rest-drops rs from = take-all (length rs - from) (drop from rs) (omega (arith, length-drop from rs))
 
 pub rest-within : (rs : List ℕ) (at : ℕ) → at < length rs → at + 1 + length (untilHead (rest rs (at + 1))) ≤ length rs
-rest-within rs at h = rw (rest-is rs (at + 1)) (end-within rs at h)
+rest-within rs at h = rw (rest-drops rs (at + 1)) (end-within rs at h)

@@ -1,4 +1,4 @@
--- Document 01, 'Packed fields': what a head's alignment and position mean.
+-- Document 01, 'Packed fields': the alignment and position of a head.
 use Prim.Native.Nat.{ℕ}
 use mathlib.Core.Bool.{cond}
 use lib.Dec.{eqb}
@@ -13,17 +13,17 @@ alignmentNumber Left = 0
 alignmentNumber Center = 1
 alignmentNumber Right = 2
 
--- 3 is the notice's own. "Alignment 3 in a title means none given": a title is chosen with the block's alignment as its own, and
--- drawn with left.
+-- 3 gives the default. "Alignment 3 in a title means none given": titles are chosen with the block's alignment as the default,
+-- and drawn with left as the default.
 abbrev pub resolved : ℕ → Alignment → Alignment
-resolved alignment own =
-    cond (eqb alignment 0) Left (cond (eqb alignment 1) Center (cond (eqb alignment 2) Right own))
+resolved alignment default =
+    cond (eqb alignment 0) Left (cond (eqb alignment 1) Center (cond (eqb alignment 2) Right default))
 
 -- position in a title: 0 top, 1 bottom
 abbrev pub positionNumber : TitlePosition → ℕ
 positionNumber Top = 0
 positionNumber Bottom = 1
 
--- 2 is the block's; 3 is refused (cause 5)
+-- 2 gives the block's default; 3 is refused (cause 5)
 abbrev pub resolvedPosition : ℕ → TitlePosition → TitlePosition
-resolvedPosition position own = cond (eqb position 0) Top (cond (eqb position 1) Bottom own)
+resolvedPosition position default = cond (eqb position 0) Top (cond (eqb position 1) Bottom default)

@@ -1,4 +1,4 @@
--- Document 01, 'Packed fields': "A head opens a line." So in a text, and so in the titles, where each line is a title.
+-- Document 01, 'Packed fields': "A head opens a line." Holds for a text and for titles, where each line is a title.
 use Prim.Native.Nat.{ℕ, suc, _+_, _<_, _^_}
 use mathlib.Core.Path.{_≡_}
 use mathlib.Core.Bool.{Bool, false, cond, not}
@@ -6,7 +6,7 @@ use mathlib.Core.List.{List, [], _∷_}
 use lib.ListN.{length}
 use Rattle.text.specs.Record.{isHead, symbolOf, widthOf, whitespaceOf, styleOf}
 
--- a glyph: the number of its record, which counts all records, heads too, and its fields
+-- a glyph: its record number, with heads counted, and its fields
 pub record Glyph : Type 0 where
   pub number : ℕ
   pub symbol : ℕ
@@ -17,7 +17,7 @@ pub record Glyph : Type 0 where
 abbrev pub glyphFrom : ℕ → ℕ → Glyph
 glyphFrom number r = record { number = number; symbol = symbolOf r; width = widthOf r; whitespace = whitespaceOf r; style = styleOf r }
 
--- glyphs, the first of which has the number given
+-- the records as glyphs, numbered from the number given
 abbrev pub numbered : ℕ → List ℕ → List Glyph
 numbered number [] = []
 numbered number (r ∷ rs) = glyphFrom number r ∷ numbered (suc number) rs
@@ -32,8 +32,8 @@ pub record Start : Type 0 where
   pub start : ℕ
   pub glyph : Glyph
 
--- 'Rows, pages, tally': "In a composed line a glyph starts at the sum of the widths of its line's glyphs before it": from 0, or where
--- "drawing adds the start column", from that. So it does in a title.
+-- 'Rows, pages, tally': "In a composed line a glyph starts at the sum of the widths of its line's glyphs before it", counted from
+-- the column given: 0, or the start column ("drawing adds the start column"). The same for a title.
 abbrev pub startsFrom : ℕ → List Glyph → List Start
 startsFrom start [] = []
 startsFrom start (g ∷ gs) = record { start = start; glyph = g } ∷ startsFrom (start + g .width) gs
@@ -43,13 +43,13 @@ abbrev pub untilHead : List ℕ → List ℕ
 untilHead [] = []
 untilHead (r ∷ rs) = cond (isHead r) [] (r ∷ untilHead rs)
 
--- a line: its head, the number of the record after the head, and the records up to the next head
+-- a text line: its head, the number of the record after the head, and the records up to the next head
 pub record TextLine : Type 0 where
   pub head : ℕ
   pub first : ℕ
   pub records : List ℕ
 
--- the lines of records, the first of which has the number given
+-- the text lines of these records; the first record has the given number
 abbrev pub linesFrom : ℕ → List ℕ → List TextLine
 linesFrom number [] = []
 linesFrom number (r ∷ rs) =
@@ -57,25 +57,23 @@ linesFrom number (r ∷ rs) =
     (record { head = r; first = suc number; records = untilHead rs } ∷ linesFrom (suc number) rs)
     (linesFrom (suc number) rs)
 
--- the glyphs of a line
 abbrev pub glyphsOf : TextLine → List Glyph
 glyphsOf line = numbered (line .first) (line .records)
 
--- 'Rows, pages, tally': "glyphs are the records that aren't heads": those of records, the first of which has the number given
+-- 'Rows, pages, tally': "glyphs are the records that aren't heads", numbered from the number given
 abbrev pub glyphsFrom : ℕ → List ℕ → List Glyph
 glyphsFrom number [] = []
 glyphsFrom number (r ∷ rs) = cond (isHead r) (glyphsFrom (suc number) rs) (glyphFrom number r ∷ glyphsFrom (suc number) rs)
 
--- 'Why a call is refused', of 4 and 5: records "not empty and not opening with a head"
+-- 'Why a call is refused', causes 4 and 5: records "not empty and not opening with a head"
 abbrev pub notOpening : List ℕ → Bool
 notOpening [] = false
 notOpening (r ∷ rs) = not (isHead r)
 
--- What the code that goes through records asks of them, and what the checks of a call establish: that they are empty or open with a
--- head,
+-- Preconditions of functions that read records, established by the checks of a call: the records are empty or open with a head,
 abbrev pub Opens : List ℕ → Type 0
 Opens records = notOpening records ≡ false
 
--- and that they are so few that no sum of their widths or numbers passes 32 bits
+-- and are few enough that no sum of their widths or numbers overflows 32 bits
 abbrev pub FewRecords : List ℕ → Type 0
 FewRecords records = length records < 2 ^ 28

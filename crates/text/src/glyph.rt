@@ -4,14 +4,14 @@ ghost use mathlib.Core.Bool.{cond};
 ghost use Prim.Native.Nat.{_<_, _^_};
 ghost use Rattle.text.specs.Record.{symbolOf, widthOf, whitespaceOf, styleOf, glyphRecord};
 
-// How many values a field takes.
+// Number of values of a field.
 pub const SYMBOLS: u32 = 1 << 21;
 
 const WIDTHS: u32 = 1 << 3;
 
 pub const STYLES: u32 = 1 << 6;
 
-// Where a field stands: what a 1 in it comes to.
+// Place value of a field's lowest bit.
 const SYMBOL_PLACE: u32 = 1 << 10;
 
 const WIDTH_PLACE: u32 = 1 << 7;
@@ -42,14 +42,14 @@ pub fn style(glyph: u32) -> u32
     glyph % STYLES
 }
 
-// A field of one bit.
+// Returns a one-bit field.
 fn bit(on: bool) -> u32
     ensures { λ r. ⌜ (r ≡ cond on 1 0) × (r < 2) ⌝ }
 {
     if on { 1 } else { 0 }
 }
 
-// The glyph of these fields.
+// Packs these fields into a glyph.
 pub fn pack(symbol: u32, width: u32, whitespace: bool, style: u32) -> u32
     requires { ⌜ (symbol < 2 ^ 21) × (width < 2 ^ 3) × (style < 2 ^ 6) ⌝ }
     ensures { λ r. ⌜ r ≡ glyphRecord symbol width whitespace style ⌝ }

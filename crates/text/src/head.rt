@@ -6,19 +6,19 @@ ghost use Prim.Native.Nat.{_<_, _^_};
 ghost use Rattle.text.specs.Record.{isHead, alignmentOf, positionOf, zerosOf, headRecord};
 ghost use Rattle.text.specs.Alignment.{resolved, resolvedPosition};
 
-// How many values a field takes.
+// Number of values of a field.
 const ALIGNMENTS: u32 = 1 << 2;
 
 const POSITIONS: u32 = 1 << 2;
 
-// Where a field stands: what a 1 in it comes to. The zeros stand below the position.
+// Place value of a field's lowest bit. The zeros are below the position.
 const HEAD_PLACE: u32 = 1 << 31;
 
 const ALIGNMENT_PLACE: u32 = 1 << 29;
 
 pub const POSITION_PLACE: u32 = 1 << 27;
 
-// Whether a record is a head; one that isn't is a glyph.
+// Whether a record is a head; if not, it is a glyph.
 pub fn is_head(word: u32) -> bool
     ensures { λ r. ⌜ r ≡ isHead word ⌝ }
 {
@@ -43,7 +43,7 @@ pub fn zeros(head: u32) -> u32
     head % POSITION_PLACE
 }
 
-// The head of these fields, its zeros 0.
+// Packs these fields into a head, with zeros 0.
 pub fn pack(alignment: u32, position: u32) -> u32
     requires { ⌜ (alignment < 2 ^ 2) × (position < 2 ^ 2) ⌝ }
     ensures { λ r. ⌜ r ≡ headRecord alignment position ⌝ }
@@ -51,25 +51,25 @@ pub fn pack(alignment: u32, position: u32) -> u32
     HEAD_PLACE + alignment * ALIGNMENT_PLACE + position * POSITION_PLACE
 }
 
-// The alignment that a head gives, or the notice's or block's own.
-pub fn resolve(head: u32, own: Alignment) -> Alignment
-    ensures { λ r. ⌜ r ≡ resolved (alignmentOf head) own ⌝ }
+// Returns the alignment that a head gives, or the default.
+pub fn resolve(head: u32, default_alignment: Alignment) -> Alignment
+    ensures { λ r. ⌜ r ≡ resolved (alignmentOf head) «default_alignment» ⌝ }
 {
     match alignment(head) {
         0 => Alignment::Left,
         1 => Alignment::Center,
         2 => Alignment::Right,
-        _ => own,
+        _ => default_alignment,
     }
 }
 
-// The position that a title's head gives, or the block's own.
-pub fn resolve_position(head: u32, own: TitlePosition) -> TitlePosition
-    ensures { λ r. ⌜ r ≡ resolvedPosition (positionOf head) own ⌝ }
+// Returns the position that a title's head gives, or the default.
+pub fn resolve_position(head: u32, default_position: TitlePosition) -> TitlePosition
+    ensures { λ r. ⌜ r ≡ resolvedPosition (positionOf head) «default_position» ⌝ }
 {
     match position(head) {
         0 => TitlePosition::Top,
         1 => TitlePosition::Bottom,
-        _ => own,
+        _ => default_position,
     }
 }

@@ -1,4 +1,4 @@
-// The records of a text and of titles: glyphs, heads, and the lines that heads open.
+// Records of a text and of titles: glyphs, heads, and the lines that heads open.
 ghost use mathlib.Core.Path.{_≡_};
 ghost use Rattle.text.specs.Alignment.{alignmentNumber};
 
@@ -6,20 +6,20 @@ pub mod glyph;
 pub mod head;
 pub mod line;
 
-// How a line lies in its area.
+// Horizontal alignment of a line in its area.
 pub enum Alignment {
     Left,
     Center,
     Right,
 }
 
-// Where a title stands.
+// Edge of the block that a title is on (block.rs: `TitlePosition`).
 pub enum TitlePosition {
     Top,
     Bottom,
 }
 
-// The number that packed records and entries use for an alignment.
+// Returns the number of an alignment in packed records and entries.
 pub fn alignment_number(alignment: Alignment) -> u32
     ensures { λ r. ⌜ r ≡ alignmentNumber alignment ⌝ }
 {

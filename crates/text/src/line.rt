@@ -1,10 +1,10 @@
-// The lines that heads open, as parts of the records.
+// The lines that heads open, as slices of the records.
 use crate::head;
 ghost use mathlib.Core.Path.{_≡_};
 ghost use lib.ListN.{length};
 ghost use Rattle.text.specs.Line.{untilHead, linesFrom};
 
-// How many of the records after a head are its line's: those before the next head.
+// Counts the records before the next head: those of the line whose head is just before `after`.
 pub fn line_length(after: &[u32]) -> usize
     ensures { λ r. ⌜ r ≡ length (untilHead (now (after .entry))) ⌝ }
 {
@@ -18,8 +18,8 @@ pub fn line_length(after: &[u32]) -> usize
     i
 }
 
-// How many lines the heads of some records open.
-pub fn count_lines(records: &[u32]) -> usize
+// Counts the heads, each of which opens a line.
+pub fn count_text_lines(records: &[u32]) -> usize
     ensures { λ r. ⌜ r ≡ length (linesFrom 0 (now (records .entry))) ⌝ }
 {
     let mut count = 0;

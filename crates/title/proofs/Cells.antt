@@ -1,4 +1,4 @@
--- Which cells a title leaves alone: those of other rows, and all where its area has no column.
+-- Cells that a title doesn't change: those of other rows, and all if its area has no column.
 use Prim.Native.Nat.{ℕ, _≤_}
 use mathlib.Core.Path.{_≡_, ap, _∙_}
 use mathlib.Core.Bool.{false}
@@ -18,21 +18,21 @@ module _ (styles : List ℕ) (style : ℕ) (area : Rect) (alignment : Alignment)
   abbrev line : ℕ → ℕ
   line = inside area (λ column row. titleLine styles alignment (area .width) records column) column row
 
-  -- a cell outside its area
-  alone : contains area column row ≡ false → titleIn styles style area alignment records column row cell ≡ cell
+  -- a cell outside the title's area is unchanged
+  outside-unchanged : contains area column row ≡ false → titleIn styles style area alignment records column row cell ≡ cell
   unfolding titleIn
-  alone outside = ap line (over-outside area _ column row cell outside) ∙ inside-outside area _ column row cell outside
+  outside-unchanged outside = ap line (over-outside area _ column row cell outside) ∙ inside-outside area _ column row cell outside
 
   pub nothing-drawn : area .width ≡ 0 → titleIn styles style area alignment records column row cell ≡ cell
   nothing-drawn none =
-      alone
+      outside-unchanged
       (dite (decLt column (area .x))
       (λ p. cell-outside _ _ _ _ column row (inl p))
       (λ n. let p : rightOf area ≤ column = omega (arith, n) in cell-outside _ _ _ _ column row (inr (inl p))))
 
   pub other-rows : area .height ≡ 1 → (row ≡ area .y → ⊥) → titleIn styles style area alignment records column row cell ≡ cell
   other-rows high other =
-      alone
+      outside-unchanged
       (dite (decLt row (area .y))
       (λ p. cell-outside _ _ _ _ column row (inr (inr (inl p))))
       (λ n. cell-outside _ _ _ _ column row (inr (inr (inr (omega (arith, n, other)))))))

@@ -1,4 +1,4 @@
--- The glyphs of a line that start at 0, and the same at its start column: columns, starts and the end move together.
+-- The glyphs of a line drawn from column 0, and from its start column: columns, starts and the end shift together.
 use Prim.Native.Nat.{ℕ, zero, suc, compare, compare·suc-suc, _+_, _-_, _≤_, _<_}
 use mathlib.Core.Path.{_≡_, refl, sym, ap, _∙_}
 use mathlib.Core.Bool.{Bool, true, false, cond, and-false}
@@ -10,11 +10,11 @@ use native.Mathlib.Omega.{arith}
 use borrow.Author.Tests.{le-leb, ne-eqb}
 use lib.Dec.{eqb, ltb}
 use Rattle.text.specs.Line.{Glyph, Start, startsFrom}
-use Rattle.buffer.specs.Parts.{windowed}
+use Rattle.buffer.specs.PartsExtra.{windowed}
 use Rattle.buffer.proofs.Within.{within-inside, within-before}
 use Rattle.title_glyphs.specs.TitleGlyphs.{isDrawn, titleGlyphOn, untilOverrun, titleGlyphsOn}
 
--- tests of numbers that move together
+-- comparing two numbers shifted by the same amount
 compare-moved : (a m n : ℕ) → compare (a + m) (a + n) ≡ compare m n
 compare-moved zero m n = simp zero-add
 compare-moved (suc a) m n = simp (suc-add, compare·suc-suc) (compare-moved a m n)
@@ -25,12 +25,11 @@ eqb-moved a m n = rw (compare-moved a m n)
 ltb-moved : (a m n : ℕ) → ltb (a + m) (a + n) ≡ ltb m n
 ltb-moved a m n = rw (← add-suc, compare-moved a (suc m) n)
 
--- a glyph that starts in a column
 abbrev from : ℕ → Glyph → Start
 from column g = record { start = column; glyph = g }
 
 module _ (styles : List ℕ) where
-  -- no column is hidden: a glyph moves with its line
+  -- if no column is hidden, a glyph shifts with its line
   glyph-moved : (a column : ℕ) (g : Glyph) (i cell : ℕ) → titleGlyphOn styles 0 (from (a + column) g) (a + i) cell ≡ titleGlyphOn styles 0 (from column g) i cell
   unfolding titleGlyphOn isDrawn
   glyph-moved a column g i cell =
@@ -54,7 +53,7 @@ module _ (styles : List ℕ) where
       go true false e others first = absurd (let z : _≡_ {A = ℕ} 0 1 = cc in omega arith)
       go false true e others first = absurd (let z : _≡_ {A = ℕ} 0 1 = cc in omega arith)
 
-  -- no glyph changes a cell before the first
+  -- no cell before the first glyph changes
   glyph-before : (column : ℕ) (g : Glyph) (i cell : ℕ) → i < column → titleGlyphOn styles 0 (from column g) i cell ≡ cell
   unfolding titleGlyphOn
   glyph-before column g i cell h =
@@ -72,14 +71,14 @@ module _ (styles : List ℕ) where
       go true others first = refl
       go false others first = others _ ∙ first
 
-  -- the cells from the start column on, lent, of a row of w cells: a line either hides no column or starts in the first
+  -- drawing on the slice from the start column of a row of w cells; a line hides no column or starts in the first
   module _ (gs : List Glyph) (w i cell : ℕ) (inside : i < w) where
-    abbrev Lent : ℕ → ℕ → Type 0
-    Lent hidden start =
+    abbrev SliceDrawsLine : ℕ → ℕ → Type 0
+    SliceDrawsLine hidden start =
         windowed start w (titleGlyphsOn styles hidden (untilOverrun (hidden + (w - start)) (startsFrom 0 gs))) i cell
         ≡ titleGlyphsOn styles hidden (untilOverrun (hidden + w) (startsFrom start gs)) i cell
 
-    none-hidden : (start : ℕ) → start ≤ w → Lent 0 start
+    none-hidden : (start : ℕ) → start ≤ w → SliceDrawsLine 0 start
     none-hidden start low =
         dite (decLt i start)
         (λ (p : i < start). simp (within-before start w i p) (sym (glyphs-before (0 + w) start gs i cell p)))
@@ -90,12 +89,12 @@ module _ (styles : List ℕ) where
         simp (within-inside start w i from-start inside, zero-add)
         (rw (add-zero start, e, f) at (sym (glyphs-moved start (w - start) 0 gs (i - start) cell))))
 
-    from-first : (hidden : ℕ) → Lent hidden 0
+    from-first : (hidden : ℕ) → SliceDrawsLine hidden 0
     from-first hidden =
         let e : i - 0 ≡ i = omega arith in
         let f : w - 0 ≡ w = omega arith in
         simp (within-inside 0 w i (omega arith) inside, e, f)
 
-    pub line-moved : (hidden start : ℕ) → (hidden ≡ 0) ⊎ (start ≡ 0) → start ≤ w → Lent hidden start
+    pub line-moved : (hidden start : ℕ) → (hidden ≡ 0) ⊎ (start ≡ 0) → start ≤ w → SliceDrawsLine hidden start
     line-moved hidden start (inl e) low = rw e (none-hidden start low)
     line-moved hidden start (inr e) low = rw e (from-first hidden)

@@ -1,4 +1,4 @@
--- The width of a title line, added up glyph by glyph and held at every step.
+-- The loop that adds up the width of a title line, saturating at each step.
 use Prim.Native.Nat.{ℕ, _+_, _≤_, _<_}
 use mathlib.Core.Path.{_≡_, _∙_}
 use mathlib.Core.List.{List}
@@ -11,18 +11,17 @@ use Rattle.text.specs.Line.{numbered, total}
 use Rattle.title.specs.Title.{titleLineWidth}
 use Rattle.title_glyphs.proofs.Numbered.{glyphs-from, glyphs-end}
 
--- a sum held twice is held once
+-- saturating twice is saturating once
 held-twice : (a b c : ℕ) → held (held (a + b) + c) ≡ held (a + (b + c))
 held-twice a b c = omega arith
 
--- the width of the first i glyphs, and that of the others still to be added
+-- Before each turn: `width` plus the widths of the glyphs from `i` on, saturated, is the width of the line.
 pub record AddingWidths (records : List ℕ) (width i : ℕ) : Type 0 where
   pub reached : i ≤ length records
   pub small : width ≤ 65535
   pub remaining : held (width + total (numbered i (drop i records))) ≡ titleLineWidth records
 
 module _ (records : List ℕ) where
-  -- before the first turn nothing is added
   pub adding-starts : AddingWidths records 0 0
   unfolding titleLineWidth
   adding-starts = record { reached = omega arith; small = omega arith; remaining = rw zero-add }
@@ -39,7 +38,6 @@ module _ (records : List ℕ) where
               ∙ (rw (glyphs-from records i h) at (a .remaining)));
         }
 
-    -- at the end all are added
     pub adding-done : length records ≤ i → width ≡ titleLineWidth records
     adding-done h =
         let e : held (width + 0) ≡ titleLineWidth records = rw (glyphs-end records i h) at (a .remaining) in

@@ -1,2 +1,2 @@
 pub mod Title
-pub mod Fitting
+pub mod FittingExtra

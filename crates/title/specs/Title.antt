@@ -10,7 +10,7 @@ use Rattle.layout.specs.declared.Rect.{Rect}
 use Rattle.buffer.specs.Drawing.{Drawing, over, inside, inOrder, styleAt}
 use Rattle.title_glyphs.specs.TitleGlyphs.{titleGlyphs, untilOverrun, titleGlyphsOn}
 
--- the width of a title line, held in 16 bits: `line_width_u16`
+-- `line_width_u16`: the width of a title line, saturating at 65,535
 unfoldable pub titleLineWidth : List ℕ → ℕ
 titleLineWidth records = held (total (titleGlyphs records))
 
@@ -26,15 +26,15 @@ hiddenColumns Left t w = 0
 hiddenColumns Center t w = 0
 hiddenColumns Right t w = t - w
 
--- a title line in w columns (`TitleGlyphs` has what its glyphs do): what becomes of the cell in one of them
+-- a title line in w columns, as a function from a column and its cell to the new cell; `TitleGlyphs` has the glyphs' part
 unfoldable pub titleLine : List ℕ → Alignment → ℕ → List ℕ → ℕ → ℕ → ℕ
 titleLine styles alignment w records =
     let t = titleLineWidth records in
     let hidden = hiddenColumns alignment t w in
     titleGlyphsOn styles hidden (untilOverrun (hidden + w) (startsFrom (lineStart alignment t w) (titleGlyphs records)))
 
--- a title in its area, which is one row high: "A title's area gets the titles style, then each drawn glyph its symbol and style in its
--- first cell."
+-- a title in its area, which is one row high: "A title's area gets the titles style, then each drawn glyph its symbol and style
+-- in its first cell."
 unfoldable pub titleIn : List ℕ → ℕ → Rect → Alignment → List ℕ → Drawing
 titleIn styles style area alignment records =
     inOrder

@@ -1,11 +1,11 @@
-// A title line, written on the row that is its area.
+// Writing of a title line on a row of cells.
 use text::Alignment;
 ghost use mathlib.Core.Path.{_≡_};
 ghost use lib.ListN.{length};
 ghost use Rattle.buffer.specs.Drawing.{changed};
 ghost use Rattle.title.specs.Title.{lineStart, hiddenColumns, titleLine};
 
-// Where the first glyph of a line of width t in w columns starts.
+// Returns the start column of a line of width t in w columns.
 fn line_start(alignment: Alignment, t: u16, w: u16) -> u16
     ensures { λ r. ⌜ r ≡ lineStart alignment t w ⌝ }
 {
@@ -16,7 +16,7 @@ fn line_start(alignment: Alignment, t: u16, w: u16) -> u16
     }
 }
 
-// How many of its columns are hidden.
+// Returns the number of hidden columns of a line of width t in w columns.
 fn hidden_columns(alignment: Alignment, t: u16, w: u16) -> u16
     ensures { λ r. ⌜ r ≡ hiddenColumns alignment t w ⌝ }
 {
@@ -27,12 +27,18 @@ fn hidden_columns(alignment: Alignment, t: u16, w: u16) -> u16
     }
 }
 
-// Writes a title line on a row of w cells, which is its area: those from its start column on are lent on.
-pub fn write_line(row: &mut [u64], styles: &[u64], alignment: Alignment, w: u16, glyphs: &[u32])
+// Writes a title line on a row of w cells, passing the slice from its start column to `write_glyphs`.
+pub fn write_title_line(
+    row: &mut [u64],
+    styles: &[u64],
+    alignment: Alignment,
+    w: u16,
+    glyphs: &[u32],
+)
     requires { ⌜ w ≡ length (now row) ⌝ }
     ensures { λ _. ⌜ now (row .exit) ≡ changed (titleLine (now (styles .entry)) alignment w (now (glyphs .entry))) (now (row .entry)) ⌝ }
 {
-    let t = crate::line_width(glyphs);
+    let t = crate::line_width_u16(glyphs);
     let hidden = hidden_columns(alignment, t, w) as usize;
     let start = line_start(alignment, t, w) as usize;
     title_glyphs::write_glyphs(&mut row[start..], styles, hidden, glyphs);

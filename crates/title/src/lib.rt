@@ -1,4 +1,4 @@
-// One title in its area: ratatui's `Line`, as document 01 gives its meaning.
+// Drawing of one title in its area (ratatui's `Line::render`, whose meaning document 01 gives).
 
 mod glyphs;
 
@@ -10,12 +10,12 @@ ghost use mathlib.Core.Path.{_≡_};
 ghost use lib.ListN.{length};
 ghost use Rattle.layout.specs.Rect.{rightOf};
 ghost use Rattle.buffer.specs.Drawing.{drawn};
-ghost use Rattle.buffer.specs.Parts.{inRow};
+ghost use Rattle.buffer.specs.PartsExtra.{inRow};
 ghost use Rattle.title.specs.Title.{titleLineWidth, titleLine, titleIn};
-ghost use Rattle.title.specs.Fitting.{TitleArea};
+ghost use Rattle.title.specs.FittingExtra.{TitleArea};
 
-// The width of a title line, held at 65,535.
-pub fn line_width(glyphs: &[u32]) -> u16
+// Returns the width of a title line, saturating at 65,535 (block.rs: `Block::line_width_u16`).
+pub fn line_width_u16(glyphs: &[u32]) -> u16
     ensures { λ r. ⌜ r ≡ titleLineWidth (now (glyphs .entry)) ⌝ }
 {
     let mut width: u16 = 0;
@@ -27,8 +27,8 @@ pub fn line_width(glyphs: &[u32]) -> u16
     width
 }
 
-// Draws a title line on the cells of its area, which are lent on.
-fn draw_line(
+// Draws a title line in its area, passing the slice of its cells to `write_title_line`.
+fn render_title_line(
     screen: Screen,
     cells: &mut [u64],
     styles: &[u64],
@@ -44,7 +44,7 @@ fn draw_line(
     let row = (area.y as usize) * (screen.columns as usize);
     let start = row + (area.x as usize);
     let end = row + (area.right() as usize);
-    glyphs::write_line(
+    glyphs::write_title_line(
         &mut cells[start..end],
         styles,
         alignment,
@@ -53,8 +53,8 @@ fn draw_line(
     );
 }
 
-// Draws a title in its area: the titles style, then the drawn glyphs.
-pub fn draw_title(
+// Draws a title in its area: the titles style, then the title line.
+pub fn render_title(
     screen: Screen,
     cells: &mut [u64],
     styles: &[u64],
@@ -70,5 +70,5 @@ pub fn draw_title(
 {
     let ink = Ink::Style(buffer::style_at(styles, style));
     buffer::paint_area(screen, cells, area, ink);
-    draw_line(screen, cells, styles, area, alignment, glyphs);
+    render_title_line(screen, cells, styles, area, alignment, glyphs);
 }

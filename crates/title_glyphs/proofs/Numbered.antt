@@ -1,4 +1,4 @@
--- The glyphs of records from one number on.
+-- The glyphs of records from a number on.
 use Prim.Native.Nat.{ℕ, _+_, _≤_, _<_}
 use mathlib.Core.Path.{_≡_, ap}
 use mathlib.Core.List.{List, [], _∷_}
@@ -7,11 +7,11 @@ use lib.ListN.{length, getD, drop, drop-of-length-le}
 use lib.Seq.{drop-cons}
 use Rattle.text.specs.Line.{glyphFrom, numbered}
 
--- the glyphs from the one of number i on: that one, and the others
+-- the glyphs from number i on: glyph i, then the rest
 pub glyphs-from : (records : List ℕ) (i : ℕ) → i < length records
     → numbered i (drop i records) ≡ glyphFrom i (getD records i 0) ∷ numbered (i + 1) (drop (i + 1) records)
 glyphs-from records i h = rw (add-one i, drop-cons records i 0 h)
 
--- none are left at the end
+-- none remain at the end
 pub glyphs-end : (records : List ℕ) (i : ℕ) → length records ≤ i → numbered i (drop i records) ≡ []
 glyphs-end records i h = ap (numbered i) (drop-of-length-le records h)

@@ -1,4 +1,4 @@
--- One glyph of a title on its row, one law for each way through the code.
+-- One glyph of a title on its row: one law for each path through the code.
 use Prim.Native.Nat.{ℕ, _+_, _-_, _≤_, _<_}
 use mathlib.Core.Path.{_≡_, refl, sym, _∙_}
 use mathlib.Core.Bool.{Bool, true, false, cond, and-false}
@@ -11,21 +11,21 @@ use Rattle.text.specs.Record.{symbolOf, widthOf, styleOf}
 use Rattle.text.specs.Line.{Start, glyphFrom}
 use Rattle.buffer.specs.declared.Ink.the-variants.{Both}
 use Rattle.buffer.specs.Drawing.{changed, styleAt}
-use Rattle.buffer.specs.Ink.{inked}
+use Rattle.buffer.specs.InkExtra.{inked}
 use Rattle.buffer.proofs.Changed.{changed-same, changed-none, changed-one}
 use Rattle.title_glyphs.specs.TitleGlyphs.{isDrawn, titleGlyphOn}
 
--- a glyph of a number that starts in a column
+-- the glyph of a record, with its number and start column
 abbrev pub startOf : ℕ → ℕ → ℕ → Start
 startOf number column word = record { start = column; glyph = glyphFrom number word }
 
--- the number of a glyph plays no part in drawing it
+-- drawing doesn't read a glyph's number
 pub number-unread : (styles : List ℕ) (hidden number column word i cell : ℕ)
     → titleGlyphOn styles hidden (startOf number column word) i cell ≡ titleGlyphOn styles hidden (startOf 0 column word) i cell
 unfolding titleGlyphOn isDrawn
 number-unread styles hidden number column word i cell = refl
 
--- the column that a glyph starts in, counted after the hidden ones and before
+-- the start column, counted without and with the hidden columns
 column-shift : (hidden column i : ℕ) → hidden ≤ column → eqb i (column - hidden) ≡ eqb (hidden + i) column
 column-shift hidden column i h = go (eqb i (column - hidden)) refl
   where
@@ -39,23 +39,23 @@ module _ (styles : List ℕ) (hidden column word : ℕ) (row : List ℕ) where
   abbrev Drew : List ℕ → Type 0
   Drew next = next ≡ changed (titleGlyphOn styles hidden (startOf 0 column word)) row
 
-  left : ((i cell : ℕ) → titleGlyphOn styles hidden (startOf 0 column word) i cell ≡ cell) → Drew row
-  left h = sym (changed-same _ (λ i cell. cell) row (λ i cell _. h i cell) ∙ changed-none row)
+  not-drawn : ((i cell : ℕ) → titleGlyphOn styles hidden (startOf 0 column word) i cell ≡ cell) → Drew row
+  not-drawn h = sym (changed-same _ (λ i cell. cell) row (λ i cell _. h i cell) ∙ changed-none row)
 
-  -- one that starts in hidden columns isn't drawn
+  -- a glyph that starts in hidden columns isn't drawn
   pub glyph-hidden : column < hidden → Drew row
   unfolding titleGlyphOn isDrawn
-  glyph-hidden h = left (λ i cell. simp (lt-leb hidden column h))
+  glyph-hidden h = not-drawn (λ i cell. simp (lt-leb hidden column h))
 
   module _ (width : ℕ) (e : width ≡ widthOf word) where
-    -- nor is one of width 0
+    -- a glyph of width 0 isn't drawn
     pub glyph-zero : width ≡ 0 → Drew row
     unfolding titleGlyphOn isDrawn
     glyph-zero h =
         let z : widthOf word ≤ 0 = omega arith in
-        left (λ i cell. simp (le-ltb 0 (widthOf word) z, and-false))
+        not-drawn (λ i cell. simp (le-ltb 0 (widthOf word) z, and-false))
 
-    -- any other gets its symbol and style in its first cell
+    -- any other glyph is drawn in its first cell
     pub glyph-drawn : (number style symbol cell : ℕ) → hidden ≤ column → (width ≡ 0 → ⊥) → number ≡ styleOf word → style ≡ styleAt styles number
         → symbol ≡ symbolOf word → cell ≡ inked (Both symbol style) (getD row (column - hidden) 0) → Drew (set row (column - hidden) cell)
     unfolding titleGlyphOn isDrawn inked

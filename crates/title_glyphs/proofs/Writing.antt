@@ -1,4 +1,4 @@
--- The glyphs of a title line, written on its row one after another.
+-- The loop that writes the glyphs of a title line.
 use Prim.Native.Nat.{ℕ, _+_, _≤_, _<_}
 use mathlib.Core.Path.{_≡_, refl, sym, ap, _∙_}
 use mathlib.Core.Bool.{cond}
@@ -15,11 +15,11 @@ use Rattle.title_glyphs.specs.TitleGlyphs.{titleGlyphs, untilOverrun, ti
 use Rattle.title_glyphs.proofs.Numbered.{glyphs-from, glyphs-end}
 use Rattle.title_glyphs.proofs.OneGlyph.{startOf, number-unread}
 
--- the glyphs from number i on, of which the first starts in a column, up to the first that overruns an end
+-- the glyphs from number i on, starting at `column`, up to the first that overruns `end`
 abbrev pub fitting : ℕ → ℕ → ℕ → List ℕ → List Start
 fitting end column i records = untilOverrun end (startsFrom column (numbered i (drop i records)))
 
--- a row on which the glyphs before number i are written: what the others still make of it is what all make of the first row
+-- Before each turn: writing the glyphs from number `i` on, starting at `column`, completes the writing of all on the old row.
 pub record Writing (styles : List ℕ) (hidden : ℕ) (records old row : List ℕ) (column i : ℕ) : Type 0 where
   pub reached : i ≤ length records
   pub same-length : length row ≡ length old
@@ -28,7 +28,6 @@ pub record Writing (styles : List ℕ) (hidden : ℕ) (records old row : List �
       ≡ changed (titleGlyphsOn styles hidden (untilOverrun (hidden + length old) (startsFrom 0 (titleGlyphs records)))) old
 
 module _ (styles : List ℕ) (hidden : ℕ) (records old : List ℕ) where
-  -- before the first turn none is written
   pub writing-starts : Writing styles hidden records old old 0 0
   writing-starts = record { reached = omega arith; same-length = refl; room = omega arith; remaining = refl }
 
@@ -42,17 +41,16 @@ module _ (styles : List ℕ) (hidden : ℕ) (records old : List ℕ) where
     none-left : fitting end column i records ≡ [] → Done
     none-left e = sym (changed-none row) ∙ (rw e at (r .remaining))
 
-    -- after the last turn all are
     pub writing-done : length records ≤ i → Done
     writing-done h = none-left (ap (λ gs. untilOverrun end (startsFrom column gs)) (glyphs-end records i h))
 
     module _ (h : i < length records) (width : ℕ) (e : width ≡ widthOf (getD records i 0)) where
-      -- glyph i, if it doesn't overrun the end, and those after it
+      -- glyph i, unless it overruns the end, and the glyphs after it
       next-fitting : fitting end column i records
           ≡ cond (ltb end (column + width)) [] (startOf i column (getD records i 0) ∷ fitting end (column + width) (i + 1) records)
       next-fitting = rw (e, glyphs-from records i h)
 
-      -- at a glyph that overruns the end writing stops
+      -- writing stops at a glyph that overruns the end
       pub writing-stops : end < column + width → Done
       writing-stops over = none-left (next-fitting ∙ rw (lt-ltb end (column + width) over))
 

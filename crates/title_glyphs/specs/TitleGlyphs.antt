@@ -7,20 +7,20 @@ use Rattle.text.specs.Line.{Glyph, Start, numbered}
 use Rattle.cell.specs.Cell.{withSymbol, styled}
 use Rattle.buffer.specs.Drawing.{styleAt}
 
--- the glyphs of a title's records, numbered from 0: drawing doesn't look at the numbers
+-- the glyphs of a title's records, numbered from 0; drawing doesn't read the numbers
 abbrev pub titleGlyphs : List ℕ → List Glyph
 titleGlyphs records = numbered 0 records
 
--- "drawing stops at the first that overruns w": the glyphs before the first that runs past an end
+-- "drawing stops at the first that overruns w": the glyphs before the first that ends after `end`
 abbrev pub untilOverrun : ℕ → List Start → List Start
 untilOverrun end [] = []
 untilOverrun end (s ∷ ss) = cond (ltb end (s .start + s .glyph .width)) [] (s ∷ untilOverrun end ss)
 
--- "Glyphs starting in hidden columns or of width 0 aren't drawn": of those before the first that overruns
+-- "Glyphs starting in hidden columns or of width 0 aren't drawn"; asked of the glyphs before the first that overruns
 unfoldable pub isDrawn : ℕ → Start → Bool
 isDrawn hidden s = leb hidden (s .start) && ltb 0 (s .glyph .width)
 
--- a drawn glyph gets "its symbol and style in its first cell": what becomes of the cell in a column after the hidden ones
+-- each drawn glyph gets "its symbol and style in its first cell": the new cell in a column, counted after the hidden ones
 unfoldable pub titleGlyphOn : List ℕ → ℕ → Start → ℕ → ℕ → ℕ
 titleGlyphOn styles hidden s column cell =
     cond (isDrawn hidden s && eqb (hidden + column) (s .start))

@@ -1,4 +1,4 @@
-// The glyphs of a title line, written on a part of a row.
+// Writing of a title line's glyphs on a slice of a row (part of ratatui's `Line::render`).
 
 use buffer::Ink;
 use text::glyph;
@@ -10,7 +10,7 @@ ghost use Rattle.text.specs.Line.{glyphFrom, startsFrom};
 ghost use Rattle.buffer.specs.Drawing.{changed};
 ghost use Rattle.title_glyphs.specs.TitleGlyphs.{titleGlyphs, untilOverrun, titleGlyphOn, titleGlyphsOn};
 
-// Writes a glyph that starts in a column of its line, of which so many are hidden, unless it starts in those or has width 0.
+// Writes a glyph that starts at `column` of its line, unless it starts in the hidden columns or has width 0.
 fn write_glyph(row: &mut [u64], styles: &[u64], hidden: usize, column: usize, word: u32)
     requires { ⌜ column + widthOf word ≤ hidden + length (now row) ⌝ }
     ensures { λ _.
@@ -29,7 +29,7 @@ fn write_glyph(row: &mut [u64], styles: &[u64], hidden: usize, column: usize, wo
     row[i] = buffer::ink_cell(ink, row[i]);
 }
 
-// Writes the glyphs of a line on the cells from its start column on, up to the first that overruns them.
+// Writes the glyphs of a line on the cells from its start column, stopping at the first that overruns them.
 pub fn write_glyphs(row: &mut [u64], styles: &[u64], hidden: usize, glyphs: &[u32])
     requires { ⌜ hidden + length (now row) < 2 ^ 32 ⌝ }
     ensures { λ _.

@@ -1,4 +1,4 @@
--- The last title of records, looked for from their end.
+-- Search for the last title, from the end of the records.
 use Prim.Native.Nat.{ℕ, suc, _+_, _-_, _≤_, _<_}
 use mathlib.Core.Path.{_≡_, refl, sym, ap, _∙_}
 use mathlib.Core.Bool.{Bool, true, false, cond}
@@ -8,9 +8,9 @@ use lib.ListN.{length, getD, take, drop}
 use lib.Seq.{drop-cons, take-add, length-take-le}
 use Rattle.text.specs.Record.{isHead}
 use Rattle.text.specs.Line.{untilHead, linesFrom}
-use Rattle.titles.specs.Placing.{titleOf, Last}
+use Rattle.titles.specs.PlacingExtra.{titleOf, LastHead}
 
--- records without a head are all before the next one
+-- without a head, `untilHead` takes all records
 until-none : (number : ℕ) (rs : List ℕ) → linesFrom number rs ≡ [] → untilHead rs ≡ rs
 until-none number [] e = refl
 until-none number (r ∷ rs) e = go (isHead r) refl (until-none (suc number) rs) e
@@ -20,12 +20,12 @@ until-none number (r ∷ rs) e = go (isHead r) refl (until-none (suc number) rs)
     go true h ih none = absurd (omega (arith, ap length none))
     go false h ih none = rw h (ap {B = List ℕ} (λ (l : List ℕ). r ∷ l) (ih none))
 
--- what comes after a head is of no line before it
+-- records after a head don't belong to a title before it
 until-stop : (xs : List ℕ) (head : ℕ) (ys : List ℕ) → isHead head ≡ true → untilHead (xs ++ (head ∷ ys)) ≡ untilHead xs
 until-stop [] head ys h = rw h
 until-stop (x ∷ xs) head ys h = ap {B = List ℕ} (λ (l : List ℕ). cond (isHead x) [] (x ∷ l)) (until-stop xs head ys h)
 
--- a head after which there is no other opens the last title
+-- a head with no head after it opens the last title
 last-title : (number : ℕ) (xs : List ℕ) (head : ℕ) (ys : List ℕ) → isHead head ≡ true → ((n : ℕ) → linesFrom n ys ≡ [])
     → linesFrom number (xs ++ (head ∷ ys)) ≡ linesFrom number xs ++ (titleOf (number + length xs + 1) head ys ∷ [])
 last-title number [] head ys h none =
@@ -42,7 +42,7 @@ last-title number (x ∷ xs) head ys h none = go (isHead x) (last-title (suc num
     go true ih = rw (until-stop xs head ys h, ih, n)
     go false ih = rw n at ih
 
--- no head stands from record i up to `end`
+-- Before each turn: no record from `i` up to `end` is a head.
 pub record Seeking (titles : List ℕ) (end i : ℕ) : Type 0 where
   pub before : i ≤ end
   pub within : end ≤ length titles
@@ -54,7 +54,7 @@ seeking-starts titles end h =
     record { before = omega arith; within = h; none = λ number. rw n }
 
 module _ (titles : List ℕ) (end i : ℕ) (s : Seeking titles end i) where
-  -- one record back
+  -- a turn looks at record i - 1
   module _ (b : Bool) (some : 0 < i) (p : b ≡ isHead (getD titles (i - 1) 0)) where
     part : take (end - (i - 1)) (drop (i - 1) titles) ≡ getD titles (i - 1) 0 ∷ take (end - i) (drop i titles)
     part =
@@ -67,7 +67,7 @@ module _ (titles : List ℕ) (end i : ℕ) (s : Seeking titles end i) where
         let h : isHead (getD titles (i - 1) 0) ≡ false = sym p ∙ f in
         record { before = omega (arith, s .before); within = s .within; none = λ number. rw (part, h) (s .none (suc number)) }
 
-    pub seeking-finds : b ≡ true → Last titles end (i - 1)
+    pub seeking-finds : b ≡ true → LastHead titles end (i - 1)
     seeking-finds t =
         let at : ℕ = i - 1 in
         let head : ℕ = getD titles at 0 in
@@ -81,8 +81,8 @@ module _ (titles : List ℕ) (end i : ℕ) (s : Seeking titles end i) where
         = last-title 0 (take at titles) head rest (sym p ∙ t) (s .none) in
         record { before = omega (arith, s .before); is-last = ap (linesFrom 0) split ∙ found ∙ rw (size, k, m) }
 
-  -- there is a title, so that its head is found
-  pub seeking-ends : i ≤ 0 → 0 < length (linesFrom 0 (take end titles)) → Last titles end i
+  -- as there is a title, the loop doesn't end without a head
+  pub seeking-ends : i ≤ 0 → 0 < length (linesFrom 0 (take end titles)) → LastHead titles end i
   seeking-ends h q =
       let z : i ≡ 0 = omega arith in
       let n : end - 0 ≡ end = omega arith in

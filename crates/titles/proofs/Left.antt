@@ -1,4 +1,4 @@
--- Left titles are titles placed from the left edge of their area on.
+-- Left titles are `placedTitles` from the left edge of their area.
 use Prim.Native.Nat.{ℕ, _-_, _<_, _≤_, min}
 use mathlib.Core.Path.{_≡_, refl, sym, ap, _∙_}
 use mathlib.Core.Bool.{Bool, true, false}
@@ -16,7 +16,7 @@ use Rattle.buffer.specs.Drawing.{drawn}
 use Rattle.block.specs.declared.Block.{Block}
 use Rattle.titles.specs.declared.Place.{Place}
 use Rattle.titles.specs.Titles.{titleWidth, PlacedTitle, titlesDrawn, pastTitle, leftTitles}
-use Rattle.titles.specs.Placing.{placedWidth, nextPlace, placedTitles, AreaFits}
+use Rattle.titles.specs.PlacingExtra.{placedWidth, nextPlace, placedTitles, AreaFits}
 use Rattle.titles.proofs.Areas.{edge-within}
 use Rattle.titles.proofs.Placing.{placed-none}
 
@@ -24,7 +24,7 @@ use Rattle.titles.proofs.Placing.{placed-none}
 abbrev leftPlace : Rect → Place
 leftPlace area = record { area = area; offset = 0; truncates = false }
 
--- in an area with no column or no row none is placed
+-- an empty area gets no title
 left-none : (area : Rect) (ts : List TextLine) → isEmpty area ≡ true → leftTitles area ts ≡ []
 left-none area [] e = refl
 left-none area (t ∷ ts) e = rw e
@@ -32,12 +32,12 @@ left-none area (t ∷ ts) e = rw e
 both-none : (area : Rect) (ts : List TextLine) → isEmpty area ≡ true → leftTitles area ts ≡ placedTitles (leftPlace area) ts
 both-none area ts e = left-none area ts e ∙ sym (placed-none (leftPlace area) ts e)
 
--- where there is room
+-- a non-empty area
 module _ (area : Rect) (t : TextLine) (ts : List TextLine) (some-room : isEmpty area ≡ false) where
   abbrev Same : Type 0
   Same = leftTitles area (t ∷ ts) ≡ placedTitles (leftPlace area) (t ∷ ts)
 
-  -- a title that fits: the others are placed in the same area
+  -- if the title fits, the others are placed in the same remaining area
   title-whole : titleWidth t ≤ area .width → leftTitles (pastTitle (titleWidth t) area) ts ≡ placedTitles (leftPlace (pastTitle (titleWidth t) area)) ts
       → Same
   title-whole h others =
@@ -46,7 +46,7 @@ module _ (area : Rect) (t : TextLine) (ts : List TextLine) (some-room : isEmpty 
       let offset : 0 - titleWidth t - 1 ≡ 0 = omega arith in
       rw (some-room, left, placed, offset, others)
 
-  -- one that is cut off takes all columns: none of the others is placed
+  -- a title that is cut off takes the whole width: no other title is placed
   title-cut : area .width < titleWidth t → area .width ≤ 65535 → Same
   title-cut h k =
       let left : min (titleWidth t) (area .width) ≡ area .width = omega arith in
@@ -56,10 +56,9 @@ module _ (area : Rect) (t : TextLine) (ts : List TextLine) (some-room : isEmpty 
       let no-placed : placedTitles next ts ≡ [] = placed-none next ts (rw (eq-eqb (next .area .width) 0 (omega arith))) in
       rw (some-room, left, placed, no-left, no-placed)
 
--- title by title
-left-is : (area : Rect) (ts : List TextLine) → area .width ≤ 65535 → leftTitles area ts ≡ placedTitles (leftPlace area) ts
-left-is area [] k = refl
-left-is area (t ∷ ts) k = go (isEmpty area) refl (left-is (pastTitle (titleWidth t) area) ts (omega arith))
+left-titles-placed : (area : Rect) (ts : List TextLine) → area .width ≤ 65535 → leftTitles area ts ≡ placedTitles (leftPlace area) ts
+left-titles-placed area [] k = refl
+left-titles-placed area (t ∷ ts) k = go (isEmpty area) refl (left-titles-placed (pastTitle (titleWidth t) area) ts (omega arith))
   where
     go : (empty : Bool) → isEmpty area ≡ empty
         → leftTitles (pastTitle (titleWidth t) area) ts ≡ placedTitles (leftPlace (pastTitle (titleWidth t) area)) ts
@@ -70,7 +69,7 @@ left-is area (t ∷ ts) k = go (isEmpty area) refl (left-is (pastTitle (titleWid
         (λ (h : area .width < titleWidth t). title-cut area t ts e h k)
         (λ n. title-whole area t ts e (omega (arith, n)) others)
 
--- what is drawn from there on
+-- drawing `placedTitles` from there draws the left titles
 pub left-drawn : (styles : List ℕ) (b : Block) (s : Screen) (area : Rect) (ts : List TextLine) (cells after : List ℕ) → AreaFits s (length cells) area
     → after ≡ drawn (s .columns) (titlesDrawn styles b (placedTitles (leftPlace area) ts)) cells
     → after ≡ drawn (s .columns) (titlesDrawn styles b (leftTitles area ts)) cells
@@ -79,4 +78,4 @@ left-drawn styles b s area ts cells after fits e =
   where
     same : (empty : Bool) → isEmpty area ≡ empty → leftTitles area ts ≡ placedTitles (leftPlace area) ts
     same true h = both-none area ts h
-    same false h = left-is area ts (omega (arith, edge-within s (length cells) area (fits h)))
+    same false h = left-titles-placed area ts (omega (arith, edge-within s (length cells) area (fits h)))

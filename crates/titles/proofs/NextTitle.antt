@@ -1,4 +1,4 @@
--- The title whose head stands at a place in the records, and those after it.
+-- The title of a head, and the titles after it.
 use Prim.Native.Nat.{ℕ, suc, _+_, _-_, _<_, _≤_}
 use mathlib.Core.Path.{_≡_, ap, _∙_}
 use mathlib.Core.List.{List, [], _∷_}
@@ -6,28 +6,28 @@ use native.Mathlib.Omega.{arith}
 use lib.ListN.{length, getD, take, drop}
 use lib.Seq.{drop-length}
 use Rattle.text.specs.Line.{untilHead, linesFrom}
-use Rattle.text.proofs.TextLines.{AtHead, rest, rest-is, rest-within, part-is, next-opens, line-first}
-use Rattle.titles.specs.Placing.{titleOf}
+use Rattle.text.proofs.TextLines.{AtHead, rest, rest-drops, rest-within, take-until-head, next-opens, line-first}
+use Rattle.titles.specs.PlacingExtra.{titleOf}
 
-module _ (titles : List ℕ) (at n : ℕ) (h : at < length titles) (o : AtHead titles at) (lent : n ≡ length (untilHead (rest titles (at + 1)))) where
-  length-is : n ≡ length (untilHead (drop (at + 1) titles))
-  length-is = lent ∙ ap (λ (rs : List ℕ). length (untilHead rs)) (rest-is titles (at + 1))
+module _ (titles : List ℕ) (at n : ℕ) (h : at < length titles) (o : AtHead titles at) (is-length : n ≡ length (untilHead (rest titles (at + 1)))) where
+  length-until-head : n ≡ length (untilHead (drop (at + 1) titles))
+  length-until-head = is-length ∙ ap (λ (rs : List ℕ). length (untilHead rs)) (rest-drops titles (at + 1))
 
   pub title-opens : AtHead titles (at + 1 + n)
-  title-opens = next-opens titles at n h o length-is
+  title-opens = next-opens titles at n h o length-until-head
 
-  -- the title at a head, and those after it
+  -- the titles from a head on: the title of the head, then the rest
   pub title-first : linesFrom at (drop at titles)
       ≡ titleOf (suc at) (getD titles at 0) (take (at + 1 + n - (at + 1)) (drop (at + 1) titles)) ∷ linesFrom (at + 1 + n) (drop (at + 1 + n) titles)
   title-first =
       let e : at + 1 + n - (at + 1) ≡ n = omega arith in
-      line-first titles at n h o length-is ∙ rw (e, part-is (drop (at + 1) titles) n length-is)
+      line-first titles at n h o length-until-head ∙ rw (e, take-until-head (drop (at + 1) titles) n length-until-head)
 
--- its records end where the records do, or before
+-- a title ends within the records
 pub title-end : (titles : List ℕ) (at n : ℕ) → at < length titles → n ≡ length (untilHead (rest titles (at + 1))) → at + 1 + n ≤ length titles
-title-end titles at n h lent = omega (arith, lent, rest-within titles at h)
+title-end titles at n h is-length = omega (arith, is-length, rest-within titles at h)
 
--- past the last one none is left
+-- no title remains at the end
 pub none-left : (titles : List ℕ) (at : ℕ) → AtHead titles at → length titles ≤ at → linesFrom at (drop at titles) ≡ []
 none-left titles at o h =
     let e : at ≡ length titles = omega (arith, o .within) in

@@ -1,5 +1,5 @@
--- Theorem `titles-alone`: titles change no cell but those of the top row where a title stands at the top, and of the bottom row where
--- one stands at the bottom.
+-- Theorem `titles-alone`: titles change only cells of the top row, if there is a top title, and of the bottom row, if there is a
+-- bottom title.
 use Prim.Native.Nat.{ℕ, _-_}
 use mathlib.Core.Path.{_≡_, refl, _∙_}
 use mathlib.Core.Bool.{Bool, true, false, cond}
@@ -24,7 +24,7 @@ use Rattle.titles.specs.Titles.{isChosen, filteredTitles, PlacedTitle, t
 -- ---- titles are placed in one row
 
 module _ (row : ℕ) where
-  -- an area of one row that isn't the cell's, and placed titles in such areas
+  -- an area of one row other than the cell's, and placed titles in such areas
   abbrev Elsewhere : Rect → Type 0
   Elsewhere area = (area .height ≡ 1) × (row ≡ area .y → ⊥)
 
@@ -100,7 +100,7 @@ module _ (row : ℕ) where
         (λ e. none-at position met (linesFrom 0 records) (h e))
         (others-at position met (linesFrom 0 records))
 
--- ---- so nothing of them is drawn on the cell
+-- ---- so the cell is unchanged
 
 module _ (column row : ℕ) (styles : List ℕ) (b : Block) where
   elsewhere-alone : (ps : List PlacedTitle) → AllElsewhere row ps → (cell : ℕ) → titlesDrawn styles b ps column row cell ≡ cell

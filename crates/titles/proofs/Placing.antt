@@ -1,4 +1,4 @@
--- Titles placed one after another: what a place comes to, and one title more.
+-- Titles placed one after another: a title's alignment, the first centred place, and placing one more title.
 use Prim.Native.Nat.{ℕ, _<_, _≤_}
 use mathlib.Core.Path.{_≡_, refl, sym, ap, _∙_}
 use mathlib.Core.Bool.{Bool, true, false}
@@ -18,87 +18,87 @@ use Rattle.title.specs.Title.{titleLineWidth, titleIn}
 use Rattle.titles.specs.declared.Place.{Place}
 use Rattle.titles.specs.declared.Group.{Group}
 use Rattle.titles.specs.Titles.{isChosen, PlacedTitle, givenAlignment, titlesDrawn, withX, withWidth, centeredFrom, centerOffset}
-use Rattle.titles.specs.Placing.{placedWidth, placedAlignment, nextPlace, placedAt, placedTitles, centerPlace, AreaFits, titlesOf, titleOf, Moved}
-use Rattle.titles.proofs.Areas.{past-fits}
+use Rattle.titles.specs.PlacingExtra.{placedWidth, placedAlignment, nextPlace, placedAt, placedTitles, centerPlace, AreaFits, titlesOf, titleOf, Moved}
+use Rattle.titles.proofs.Areas.{TestedArea, past-fits}
 
--- ---- what a place comes to
+-- ---- alignment, and the first centred place
 
 module _ (p : Place) (head : ℕ) where
-  -- truncated titles are drawn right while an offset is left
+  -- truncated titles are drawn right while the offset is above 0
   pub set-right : p .truncates ≡ true → 0 < p .offset → Right ≡ placedAlignment p head
   set-right t h = rw (t, lt-ltb 0 (p .offset) h)
 
-  -- and left where none is
+  -- and left when it is 0
   pub set-left : p .truncates ≡ true → p .offset ≤ 0 → Left ≡ placedAlignment p head
   set-left t h = rw (t, le-ltb 0 (p .offset) h)
 
-  -- others by their heads
+  -- other titles are drawn as their heads give
   pub not-set : (a : Alignment) → p .truncates ≡ false → a ≡ givenAlignment head → a ≡ placedAlignment p head
   not-set a f e = rw f e
 
 pub ruleset alignments = (set-right, set-left, not-set)
 
 module _ (area : Rect) (total : ℕ) where
-  -- titles that fit go to the middle
+  -- titles that fit are centred
   pub center-fits : (x : ℕ) → total ≤ area .width → x ≡ centeredFrom total area .x
       → record { area = withWidth total (withX x area); offset = 0; truncates = false } ≡ centerPlace area total
   unfolding centerPlace
   center-fits x h e = rw (le-leb total (area .width) h, e)
 
-  -- of others as much is cut off at the left as at the right
+  -- titles that don't fit get an offset of half the excess
   pub center-truncates : area .width < total → record { area = area; offset = centerOffset total area; truncates = true } ≡ centerPlace area total
   unfolding centerPlace
   center-truncates h = rw (lt-leb total (area .width) h)
 
 pub ruleset center-places = (center-fits, center-truncates)
 
--- ---- one title more
+-- ---- one more title
 
--- in an area with no column or no row no title is placed
+-- an empty area gets no title
 pub placed-none : (p : Place) (ts : List TextLine) → isEmpty (p .area) ≡ true → placedTitles p ts ≡ []
 placed-none p [] e = refl
 placed-none p (t ∷ ts) e = rw e
 
 -- a title drawn in its part of the area
-module _ (p : Place) (records : List ℕ) (given width : ℕ) (told : given ≡ titleLineWidth records) (placed : width ≡ placedWidth p given) where
-  width-is : width ≡ placedWidth p (titleLineWidth records)
-  width-is = placed ∙ ap (placedWidth p) told
+module _ (p : Place) (records : List ℕ) (given width : ℕ) (is-width : given ≡ titleLineWidth records) (placed : width ≡ placedWidth p given) where
+  width-placed : width ≡ placedWidth p (titleLineWidth records)
+  width-placed = placed ∙ ap (placedWidth p) is-width
 
   pub placed-next : (next : Place) → next ≡ nextPlace p width → next ≡ nextPlace p (placedWidth p (titleLineWidth records))
-  placed-next next e = e ∙ ap (nextPlace p) width-is
+  placed-next next e = e ∙ ap (nextPlace p) width-placed
 
   pub placed-drawn : (columns : ℕ) (styles : List ℕ) (style head : ℕ) (a : Alignment) (cells after : List ℕ) → a ≡ placedAlignment p head
       → after ≡ drawn columns (titleIn styles style (withWidth width (p .area)) a records) cells
       → after ≡ drawn columns (titleIn styles style (withWidth (placedWidth p (titleLineWidth records)) (p .area)) (placedAlignment p head) records) cells
-  placed-drawn columns styles style head a cells after e f = f ∙ rw (width-is, e)
+  placed-drawn columns styles style head a cells after e f = f ∙ rw (width-placed, e)
 
 pub ruleset placed = (placed-next, placed-drawn)
 
-module _ (s : Screen) (styles : List ℕ) (b : Block) (g : Group) (head : ℕ) (records : List ℕ) (p : Place) (cells : List ℕ) (fits : AreaFits s (length cells) (p .area)) (some : 0 < s .columns)
-    (empty : Bool) (tested : empty ≡ isEmpty (p .area)) where
-  -- where there is no room, nothing is drawn of this title nor of others
-  pub moved-full : empty ≡ true → Moved s styles b g head records p cells p cells
-  moved-full e =
+module _ (s : Screen) (styles : List ℕ) (b : Block) (g : Group) (head : ℕ) (records : List ℕ) (p : Place) (cells : List ℕ) where
+  -- in an empty area neither this title nor any other is drawn
+  pub moved-full : (empty : Bool) → TestedArea s (length cells) (p .area) empty → empty ≡ true → Moved s styles b g head records p cells p cells
+  moved-full empty a e =
+      let none : isEmpty (p .area) ≡ true = sym (a .tested) ∙ e in
       record {
-        fits = fits;
+        fits = a .fits;
         same-length = refl;
         draws = λ number ts.
             ap (λ (placed : List PlacedTitle). drawn (s .columns) (titlesDrawn styles b placed) cells)
-            (placed-none p (titlesOf b g ts) (sym tested ∙ e) ∙ sym (placed-none p (titlesOf b g (titleOf number head records ∷ ts)) (sym tested ∙ e)));
+            (placed-none p (titlesOf b g ts) none ∙ sym (placed-none p (titlesOf b g (titleOf number head records ∷ ts)) none));
       }
 
   module _ (has : Bool) (chosen : has ≡ isChosen b (g .position) (g .alignment) head) where
-    -- a title of another group
-    pub moved-other : has ≡ false → Moved s styles b g head records p cells p cells
-    moved-other f =
+    -- a title of another group isn't drawn
+    pub moved-other : AreaFits s (length cells) (p .area) → has ≡ false → Moved s styles b g head records p cells p cells
+    moved-other fits f =
         record {
           fits = fits;
           same-length = refl;
           draws = λ number ts. rw (← chosen, f);
         }
 
-    -- a title that is drawn
-    module _ (next : Place) (after : List ℕ) (some-room : empty ≡ false) (of-group : has ≡ true) where
+    -- a title of the group is drawn if the area is non-empty
+    module _ (next : Place) (after : List ℕ) (of-group : has ≡ true) where
       abbrev width : ℕ
       width = placedWidth p (titleLineWidth records)
 
@@ -108,19 +108,21 @@ module _ (s : Screen) (styles : List ℕ) (b : Block) (g : Group) (head : ℕ) (
       abbrev others : List TextLine → List PlacedTitle
       others ts = placedTitles (nextPlace p width) (titlesOf b g ts)
 
-      first-placed : (number : ℕ) (ts : List TextLine)
+      first-placed : isEmpty (p .area) ≡ false → (number : ℕ) (ts : List TextLine)
           → placedAt p (titleOf number head records) ∷ others ts ≡ placedTitles p (titlesOf b g (titleOf number head records ∷ ts))
-      first-placed number ts = rw (← chosen, of-group, ← tested, some-room)
+      first-placed some-room number ts = rw (← chosen, of-group, some-room)
 
-      pub moved-drawn : next ≡ nextPlace p width → after ≡ drawn (s .columns) title cells → Moved s styles b g head records p cells next after
-      moved-drawn en ea =
+      pub moved-drawn : (empty : Bool) → TestedArea s (length cells) (p .area) empty → empty ≡ false
+          → next ≡ nextPlace p width → after ≡ drawn (s .columns) title cells → Moved s styles b g head records p cells next after
+      moved-drawn empty a e en ea =
+          let some-room : isEmpty (p .area) ≡ false = sym (a .tested) ∙ e in
           let n : length after ≡ length cells = ap length ea ∙ drawn-length (s .columns) title cells in
           record {
-            fits = rw (en, n) (past-fits s (length cells) (p .area) width (fits (sym tested ∙ some-room)));
+            fits = rw (en, n) (past-fits s (length cells) (p .area) width (a .fits some-room));
             same-length = n;
             draws = λ number ts.
                 rw (en, ea) (drawn-then (s .columns) title (titlesDrawn styles b (others ts)) cells)
-                ∙ ap (λ (placed : List PlacedTitle). drawn (s .columns) (titlesDrawn styles b placed) cells) (first-placed number ts);
+                ∙ ap (λ (placed : List PlacedTitle). drawn (s .columns) (titlesDrawn styles b placed) cells) (first-placed some-room number ts);
           }
 
 pub ruleset moves = (moved-full, moved-other, moved-drawn)

@@ -1,4 +1,4 @@
--- Right titles: what is left of their area before each, and that the last one comes first.
+-- Right titles: the area remaining before each, and their order, the last one first.
 use Prim.Native.Nat.{ℕ, _+_, _-_, _<_, _≤_, _^_, min, max}
 use mathlib.Core.Path.{_≡_, refl, sym, ap, _∙_}
 use mathlib.Core.Bool.{Bool, true, false, cond}
@@ -16,22 +16,23 @@ use Rattle.buffer.specs.Drawing.{drawn}
 use Rattle.buffer.proofs.Drawn.{drawn-length, drawn-then, drawn-none}
 use Rattle.block.specs.declared.Block.{Block}
 use Rattle.title.specs.Title.{titleLineWidth, titleIn}
-use Rattle.title.specs.Fitting.{TitleArea}
+use Rattle.title.specs.FittingExtra.{TitleArea}
 use Rattle.titles.specs.declared.Group.{Group}
 use Rattle.titles.specs.Titles.{isChosen, filteredTitles, PlacedTitle, givenAlignment, titlesDrawn, withX, withWidth, rightPart, beforeTitle, rightTitles}
-use Rattle.titles.specs.Placing.{AreaFits, titlesOf, titleOf, MovedBack, Last}
+use Rattle.titles.specs.PlacingExtra.{AreaFits, titlesOf, titleOf, MovedBack, LastHead}
+use Rattle.titles.proofs.Areas.{TestedArea}
 
--- ---- a title's part of the area, and what is left
+-- ---- a title's part of the area, and the remaining area
 
-pub part-is : (area : Rect) (width right start x columns : ℕ) → right ≡ rightOf area → start ≡ right - width → x ≡ max start (area .x) → columns ≡ min width (area .width)
+pub right-part-fields : (area : Rect) (width right start x columns : ℕ) → right ≡ rightOf area → start ≡ right - width → x ≡ max start (area .x) → columns ≡ min width (area .width)
     → record { x = x; y = area .y; width = columns; height = area .height } ≡ rightPart width area
-part-is area width right start x columns p q r s = rw (r, q, p, s)
+right-part-fields area width right start x columns p q r s = rw (r, q, p, s)
 
-pub left-is : (area : Rect) (width without left : ℕ) → without ≡ area .width - width → left ≡ without - 1
+pub before-title-fields : (area : Rect) (width without left : ℕ) → without ≡ area .width - width → left ≡ without - 1
     → record { x = area .x; y = area .y; width = left; height = area .height } ≡ beforeTitle width area
-left-is area width without left p q = rw (q, p)
+before-title-fields area width without left p q = rw (q, p)
 
--- the part ends where the area does, since no sum is held
+-- the part ends within the screen, as no sum saturates
 part-ends : (x width w columns : ℕ) → min (x + width) 65535 ≤ columns → columns < 2 ^ 15
     → min (max (min (x + width) 65535 - w) x + min w width) 65535 ≤ columns
 part-ends x width w columns h few = omega arith
@@ -40,7 +41,7 @@ left-ends : (x width w columns : ℕ) → min (x + width) 65535 ≤ columns → 
 left-ends x width w columns h = omega arith
 
 module _ (s : Screen) (n : ℕ) (area : Rect) (t : TitleArea s n area) where
-  -- columns of the same row that end on the screen
+  -- columns of the same row that end on the screen lie on it
   row-fits : (x width : ℕ) → min (x + width) 65535 ≤ s .columns → TitleArea s n (withX x (withWidth width area))
   row-fits x width h =
       record {
@@ -56,7 +57,7 @@ module _ (s : Screen) (n : ℕ) (area : Rect) (t : TitleArea s n area) where
   left-fits : (width : ℕ) → TitleArea s n (beforeTitle width area)
   left-fits width = row-fits _ _ (left-ends (area .x) (area .width) width (s .columns) (t .on-screen .right))
 
--- an area with room lies on the screen
+-- a non-empty area lies on the screen
 pub fits-with-room : (s : Screen) (n : ℕ) (area : Rect) (empty : Bool) → AreaFits s n area → empty ≡ isEmpty area → empty ≡ false → TitleArea s n area
 fits-with-room s n area empty f e h = f (sym e ∙ h)
 
@@ -73,41 +74,44 @@ module _ (area : Rect) (glyphs : List ℕ) (width : ℕ) (e : width ≡ titleLin
       d ∙ ap (λ (r : Rect). drawn columns (titleIn styles style r alignment glyphs) cells) (p ∙ ap (λ (w : ℕ). rightPart w area) e)
       ∙ ap (λ (x : Alignment). drawn columns (titleIn styles style (rightPart (titleLineWidth glyphs) area) x glyphs) cells) a
 
-pub ruleset at-right-end = (part-is, left-is, part-fits, before-left, before-drawn)
+pub ruleset at-right-end = (right-part-fields, before-title-fields, part-fits, before-left, before-drawn)
 
--- ---- one title more
+-- ---- one more title
 
--- in an empty area none is placed
+-- an empty area gets no title
 nothing-right : (area : Rect) (ts : List TextLine) → isEmpty area ≡ true → rightTitles area ts ≡ []
 nothing-right area [] e = refl
 nothing-right area (t ∷ ts) e = rw e
 
-module _ (s : Screen) (styles : List ℕ) (b : Block) (g : Group) (head : ℕ) (glyphs : List ℕ) (area : Rect) (cells : List ℕ)
-    (f : AreaFits s (length cells) area) (some : 0 < s .columns) (empty : Bool) (e : empty ≡ isEmpty area) where
-  pub back-empty : empty ≡ true → MovedBack s styles b g head glyphs area cells area cells
-  back-empty h =
-      let none : isEmpty area ≡ true = sym e ∙ h in
+module _ (s : Screen) (styles : List ℕ) (b : Block) (g : Group) (head : ℕ) (glyphs : List ℕ) (area : Rect) (cells : List ℕ) where
+  -- in an empty area neither this title nor any other is drawn
+  pub back-empty : (empty : Bool) → TestedArea s (length cells) area empty → empty ≡ true → MovedBack s styles b g head glyphs area cells area cells
+  back-empty empty a h =
+      let none : isEmpty area ≡ true = sym (a .tested) ∙ h in
       record {
-        fits = f;
+        fits = a .fits;
         same-length = refl;
         draws = λ number ts.
             ap (λ (placed : List PlacedTitle). drawn (s .columns) (titlesDrawn styles b placed) cells)
             (nothing-right area ts none ∙ sym (nothing-right area (cond (isChosen b (g .position) (g .alignment) head) (titleOf number head glyphs ∷ ts) ts) none));
       }
 
-  module _ (chosen : Bool) (c : chosen ≡ isChosen b (g .position) (g .alignment) head) where
-    pub back-other : chosen ≡ false → MovedBack s styles b g head glyphs area cells area cells
-    back-other h = record { fits = f; same-length = refl; draws = λ number ts. rw (← c, h) }
+  module _ (has : Bool) (chosen : has ≡ isChosen b (g .position) (g .alignment) head) where
+    -- a title of another group isn't drawn
+    pub back-other : AreaFits s (length cells) area → has ≡ false → MovedBack s styles b g head glyphs area cells area cells
+    back-other fits h = record { fits = fits; same-length = refl; draws = λ number ts. rw (← chosen, h) }
 
-    pub back-drawn : (left : Rect) (next : List ℕ) → empty ≡ false → chosen ≡ true → left ≡ beforeTitle (titleLineWidth glyphs) area
+    -- a title of the group is drawn if the area is non-empty
+    pub back-drawn : (left : Rect) (next : List ℕ) (empty : Bool) → TestedArea s (length cells) area empty → empty ≡ false → has ≡ true
+        → left ≡ beforeTitle (titleLineWidth glyphs) area
         → next ≡ drawn (s .columns) (titleIn styles (b .«titles_style») (rightPart (titleLineWidth glyphs) area) (givenAlignment head) glyphs) cells
         → MovedBack s styles b g head glyphs area cells left next
-    back-drawn left next room h p d =
-        let some-room : isEmpty area ≡ false = sym e ∙ room in
-        let is-chosen : isChosen b (g .position) (g .alignment) head ≡ true = sym c ∙ h in
+    back-drawn left next empty a room h p d =
+        let some-room : isEmpty area ≡ false = sym (a .tested) ∙ room in
+        let is-chosen : isChosen b (g .position) (g .alignment) head ≡ true = sym chosen ∙ h in
         let size : length next ≡ length cells = ap length d ∙ drawn-length (s .columns) _ cells in
         record {
-          fits = λ _. rw (p, size) (left-fits s (length cells) area (f some-room) (titleLineWidth glyphs));
+          fits = λ _. rw (p, size) (left-fits s (length cells) area (a .fits some-room) (titleLineWidth glyphs));
           same-length = size;
           draws = λ number ts.
               rw (p, d, is-chosen) (drawn-then (s .columns) _ _ cells ∙ rw some-room);
@@ -128,7 +132,7 @@ filtered-append b position alignment (t ∷ ts) us = go (isChosen b position ali
     go true ih = rw ih
     go false ih = ih
 
--- the last title, if it is of the group, comes first of them all
+-- the last title, if it belongs to the group, comes first
 last-first : (b : Block) (g : Group) (ts : List TextLine) (t : TextLine)
     → reverse (titlesOf b g (ts ++ (t ∷ []))) ≡ cond (isChosen b (g .position) (g .alignment) (t .head)) (t ∷ reverse (titlesOf b g ts)) (reverse (titlesOf b g ts))
 last-first b g ts t =
@@ -144,34 +148,38 @@ no-titles : (ts : List TextLine) → length ts ≡ 0 → ts ≡ []
 no-titles [] e = refl
 no-titles (t ∷ ts) e = absurd (omega arith)
 
--- the title whose head stands at `at`, of the records before `end`
+-- the title whose head is record `at`, of the records before `end`
 abbrev pub titleAt : List ℕ → ℕ → ℕ → TextLine
 titleAt titles end at = titleOf (at + 1) (getD titles at 0) (take (end - (at + 1)) (drop (at + 1) titles))
 
--- the titles of a group before a record, the last one first
+-- the titles of a group before record `end`, the last one first
 abbrev pub lastToFirst : Block → Group → List ℕ → ℕ → List TextLine
 lastToFirst b g titles end = reverse (titlesOf b g (linesFrom 0 (take end titles)))
 
-module _ (s : Screen) (styles titles : List ℕ) (b : Block) (g : Group) (area : Rect) (end count : ℕ) (e : count ≡ length (linesFrom 0 (take end titles))) where
-  pub backward-none : (cells : List ℕ) → count ≡ 0 → cells ≡ drawn (s .columns) (titlesDrawn styles b (rightTitles area (lastToFirst b g titles end))) cells
-  backward-none cells z =
-      let none : linesFrom 0 (take end titles) ≡ [] = no-titles (linesFrom 0 (take end titles)) (sym e ∙ z) in
-      rw none (sym (drawn-none (s .columns) cells))
+-- counting the titles before record `end`
+module _ (titles : List ℕ) (end count : ℕ) (counted : count ≡ length (linesFrom 0 (take end titles))) where
+  none-before : count ≡ 0 → linesFrom 0 (take end titles) ≡ []
+  none-before z = no-titles (linesFrom 0 (take end titles)) (sym counted ∙ z)
 
-  module _ (at : ℕ) (l : Last titles end at) where
-    pub backward-fewer : count - 1 ≡ length (linesFrom 0 (take at titles))
-    backward-fewer = omega (arith, ap length (l .is-last), length-append (linesFrom 0 (take at titles)) (titleAt titles end at ∷ []))
+  pub backward-fewer : (at : ℕ) → LastHead titles end at → count - 1 ≡ length (linesFrom 0 (take at titles))
+  backward-fewer at l = omega (arith, ap length (l .is-last), length-append (linesFrom 0 (take at titles)) (titleAt titles end at ∷ []))
 
-    pub backward-more : (cells next last : List ℕ) (left : Rect)
-        → MovedBack s styles b g (getD titles at 0) (take (end - (at + 1)) (drop (at + 1) titles)) area cells left next
-        → last ≡ drawn (s .columns) (titlesDrawn styles b (rightTitles left (lastToFirst b g titles at))) next
-        → last ≡ drawn (s .columns) (titlesDrawn styles b (rightTitles area (lastToFirst b g titles end))) cells
-    backward-more cells next last left m d =
-        let all : lastToFirst b g titles end
-        ≡ cond (isChosen b (g .position) (g .alignment) (getD titles at 0)) (titleAt titles end at ∷ lastToFirst b g titles at) (lastToFirst b g titles at)
-        = ap (λ (ts : List TextLine). reverse (titlesOf b g ts)) (l .is-last) ∙ last-first b g (linesFrom 0 (take at titles)) (titleAt titles end at) in
-        d ∙ m .draws (at + 1) (lastToFirst b g titles at)
-        ∙ ap (λ (ts : List TextLine). drawn (s .columns) (titlesDrawn styles b (rightTitles area ts)) cells) (sym all)
+-- drawing the titles of the group before record `end`
+module _ (s : Screen) (styles titles : List ℕ) (b : Block) (g : Group) (area : Rect) (end : ℕ) where
+  pub backward-none : (count : ℕ) (cells : List ℕ) → count ≡ length (linesFrom 0 (take end titles)) → count ≡ 0
+      → cells ≡ drawn (s .columns) (titlesDrawn styles b (rightTitles area (lastToFirst b g titles end))) cells
+  backward-none count cells counted z = rw (none-before titles end count counted z) (sym (drawn-none (s .columns) cells))
+
+  pub backward-more : (at : ℕ) (cells next last : List ℕ) (left : Rect) → LastHead titles end at
+      → MovedBack s styles b g (getD titles at 0) (take (end - (at + 1)) (drop (at + 1) titles)) area cells left next
+      → last ≡ drawn (s .columns) (titlesDrawn styles b (rightTitles left (lastToFirst b g titles at))) next
+      → last ≡ drawn (s .columns) (titlesDrawn styles b (rightTitles area (lastToFirst b g titles end))) cells
+  backward-more at cells next last left l m d =
+      let all : lastToFirst b g titles end
+      ≡ cond (isChosen b (g .position) (g .alignment) (getD titles at 0)) (titleAt titles end at ∷ lastToFirst b g titles at) (lastToFirst b g titles at)
+      = ap (λ (ts : List TextLine). reverse (titlesOf b g ts)) (l .is-last) ∙ last-first b g (linesFrom 0 (take at titles)) (titleAt titles end at) in
+      d ∙ m .draws (at + 1) (lastToFirst b g titles at)
+      ∙ ap (λ (ts : List TextLine). drawn (s .columns) (titlesDrawn styles b (rightTitles area ts)) cells) (sym all)
 
 pub moved-fits : (s : Screen) (styles : List ℕ) (b : Block) (g : Group) (head : ℕ) (glyphs : List ℕ) (area : Rect) (cells : List ℕ) (left : Rect) (next : List ℕ)
     → MovedBack s styles b g head glyphs area cells left next → AreaFits s (length next) left
@@ -179,9 +187,9 @@ moved-fits s styles b g head glyphs area cells left next m = m .fits
 
 pub ruleset backward = (backward-none, backward-fewer, backward-more, moved-fits)
 
--- ---- all of them
+-- ---- all right titles
 
--- the records before the end are all of them
+-- the records before the end are all records
 pub all-counted : (titles : List ℕ) (count : ℕ) → count ≡ length (linesFrom 0 titles) → count ≡ length (linesFrom 0 (take (length titles) titles))
 all-counted titles count e = e ∙ rw (take-length titles)
 

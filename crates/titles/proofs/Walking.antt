@@ -1,4 +1,4 @@
--- Titles drawn one after another: drawing those that are left comes to drawing all.
+-- The loop that draws titles one after another.
 use Prim.Native.Nat.{ℕ, suc, _+_, _-_, _<_, _≤_}
 use mathlib.Core.Path.{_≡_, refl, sym, ap, _∙_}
 use mathlib.Core.List.{List}
@@ -12,10 +12,11 @@ use Rattle.block.specs.declared.Block.{Block}
 use Rattle.titles.specs.declared.Place.{Place}
 use Rattle.titles.specs.declared.Group.{Group}
 use Rattle.titles.specs.Titles.{titlesDrawn}
-use Rattle.titles.specs.Placing.{placedTitles, AreaFits, titlesOf, Moved}
+use Rattle.titles.specs.PlacingExtra.{placedTitles, AreaFits, titlesOf, Moved}
 use Rattle.titles.proofs.NextTitle.{title-opens, title-first, none-left}
 
--- titles drawn up to a head: drawing those that are left from the place reached comes to drawing all
+-- Before each turn: `at` is a head or the end, and drawing the titles from there, starting at place `p`, completes the drawing of
+-- all titles that started at place `start` on the old cells.
 pub record Walking (s : Screen) (styles : List ℕ) (b : Block) (g : Group) (titles : List ℕ) (start : Place) (old : List ℕ) (cells : List ℕ) (p : Place) (at : ℕ) : Type 0 where
   pub some : 0 < s .columns
   pub opens : AtHead titles at
@@ -32,15 +33,15 @@ module _ (s : Screen) (styles : List ℕ) (b : Block) (g : Group) (titles : List
     pub walk-goes : (n : ℕ) (next : Place) (after : List ℕ) → at < length titles → n ≡ length (untilHead (rest titles (at + 1)))
         → Moved s styles b g (getD titles at 0) (take (at + 1 + n - (at + 1)) (drop (at + 1) titles)) p cells next after
         → Walking s styles b g titles start old after next (at + 1 + n)
-    walk-goes n next after h lent m =
+    walk-goes n next after h is-length m =
         record {
           some = w .some;
-          opens = title-opens titles at n h (w .opens) lent;
+          opens = title-opens titles at n h (w .opens) is-length;
           fits = m .fits;
           same-length = m .same-length ∙ w .same-length;
           draws =
               m .draws (suc at) (linesFrom (at + 1 + n) (drop (at + 1 + n) titles))
-              ∙ ap (λ (ts : List TextLine). drawn (s .columns) (titlesDrawn styles b (placedTitles p (titlesOf b g ts))) cells) (sym (title-first titles at n h (w .opens) lent))
+              ∙ ap (λ (ts : List TextLine). drawn (s .columns) (titlesDrawn styles b (placedTitles p (titlesOf b g ts))) cells) (sym (title-first titles at n h (w .opens) is-length))
               ∙ w .draws;
         }
 

@@ -1,2 +1,2 @@
 pub mod Titles
-pub mod Placing
+pub mod PlacingExtra

@@ -1,5 +1,5 @@
 -- Document 01, 'Inner area and frame (block.rs, padding.rs)': the titles of a block, "by the rules of `render_left_titles`,
--- `render_center_titles`, `render_right_titles`", which are quoted by their names in the Rust. All sums are held in 16 bits.
+-- `render_center_titles`, `render_right_titles`", named here as in the Rust. Sums saturate at 65,535, differences at 0.
 use Prim.Native.Nat.{ℕ, _+_, _-_, _/_, min, max}
 use mathlib.Core.Bool.{Bool, cond, _&&_}
 use mathlib.Core.List.{List, [], _∷_, _++_, map, reverse}
@@ -19,13 +19,13 @@ use Rattle.block.specs.declared.Block.{Block}
 use Rattle.block.specs.Inner.{titleIsAt, atLeft, atRight, taken}
 use Rattle.title.specs.Title.{titleLineWidth, titleIn}
 
--- ---- which titles
+-- ---- selection
 
 -- whether two alignments are the same
 abbrev pub sameAlignment : Alignment → Alignment → Bool
 sameAlignment one other = eqb (alignmentNumber one) (alignmentNumber other)
 
--- by its head: "Titles are chosen by given or default alignment", and by given or default position
+-- whether the title with this head is chosen: "Titles are chosen by given or default alignment", and by given or default position
 unfoldable pub isChosen : Block → TitlePosition → Alignment → ℕ → Bool
 isChosen b position alignment head =
     titleIsAt b position head && sameAlignment (resolved (alignmentOf head) (b .«titles_alignment»)) alignment
@@ -40,9 +40,9 @@ filteredTitles b position alignment (t ∷ ts) =
 abbrev pub titleWidth : TextLine → ℕ
 titleWidth t = titleLineWidth (t .records)
 
--- ---- titles in their places
+-- ---- placed titles
 
--- a title, the area that it gets, and the alignment that its line is drawn by
+-- a title, its area, and the alignment that its line is drawn with
 pub record PlacedTitle : Type 0 where
   pub area : Rect
   pub alignment : Alignment
@@ -55,16 +55,16 @@ givenAlignment head = resolved (alignmentOf head) Left
 abbrev pub placedAsGiven : Rect → TextLine → PlacedTitle
 placedAsGiven area t = record { area = area; alignment = givenAlignment (t .head); title = t }
 
--- placed titles are drawn one after another
+-- drawing of one placed title, and of several in order
 abbrev pub titleDrawn : List ℕ → Block → PlacedTitle → Drawing
 titleDrawn styles b p = titleIn styles (b .«titles_style») (p .area) (p .alignment) (p .title .records)
 
 abbrev pub titlesDrawn : List ℕ → Block → List PlacedTitle → Drawing
 titlesDrawn styles b placed = inOrder (map (titleDrawn styles b) placed)
 
--- ---- where
+-- ---- the titles area
 
--- `titles_area`: one row, between the left and the right border, the first of the block or the last
+-- `titles_area`: the first or last row of the block, between the left and right borders
 abbrev pub titlesRow : TitlePosition → Rect → ℕ
 titlesRow Top r = r .y
 titlesRow Bottom r = bottomOf r - 1
@@ -78,7 +78,7 @@ titlesArea b position r =
       height = 1;
     }
 
--- an area with its left edge, or its width, another
+-- an area with another left edge, or another width
 abbrev pub withX : ℕ → Rect → Rect
 withX x r = record { x = x; y = r .y; width = r .width; height = r .height }
 
@@ -87,16 +87,16 @@ withWidth width r = record { x = r .x; y = r .y; width = width; height = r .heig
 
 -- ---- left titles
 
--- the part of an area that a title of so many columns gets at its left end
+-- the left part of an area, for a title of this width
 abbrev pub leftPart : ℕ → Rect → Rect
 leftPart width r = withWidth (min width (r .width)) r
 
--- what is left of an area past a title of so many columns, and one column between titles
+-- the area remaining after a title of this width and the column between titles
 abbrev pub pastTitle : ℕ → Rect → Rect
 pastTitle width r =
     record { x = held (r .x + held (width + 1)); y = r .y; width = r .width - held (width + 1); height = r .height }
 
--- `render_left_titles`, in what is left of the titles' area, and none where that is empty
+-- `render_left_titles`, in the remaining titles area; stops when that is empty
 abbrev pub leftTitles : Rect → List TextLine → List PlacedTitle
 leftTitles area [] = []
 leftTitles area (t ∷ ts) =
@@ -106,16 +106,16 @@ leftTitles area (t ∷ ts) =
 
 -- ---- centred titles
 
--- the widths of titles, with a column after each, added to a sum
+-- `sum` plus the widths of titles, with one column after each
 abbrev pub spacedFrom : ℕ → List TextLine → ℕ
 spacedFrom sum [] = sum
 spacedFrom sum (t ∷ ts) = spacedFrom (held (sum + held (titleWidth t + 1))) ts
 
--- and with none after the last
+-- total width of titles, with one column between them
 abbrev pub totalWidth : List TextLine → ℕ
 totalWidth ts = spacedFrom 0 ts - 1
 
--- `render_centered_titles_without_truncation`, from where titles of so many columns stand in the middle of an area
+-- `render_centered_titles_without_truncation`: the area from the start column of centred titles of this total width
 abbrev pub centeredFrom : ℕ → Rect → Rect
 centeredFrom total r = withX (held (r .x + (r .width - total) / 2)) r
 
@@ -125,16 +125,16 @@ untruncatedTitles area (t ∷ ts) =
     placedAsGiven (withWidth (titleWidth t) area) t
     ∷ untruncatedTitles (pastTitle (titleWidth t) area) ts
 
--- `render_centered_titles_with_truncation`, by an offset: half of the columns that are too many
+-- `render_centered_titles_with_truncation`: the offset, half the excess width
 abbrev pub centerOffset : ℕ → Rect → ℕ
 centerOffset total r = (total - r .width) / 2
 
--- the columns that a title gets: the smaller of its own and what is left of the area, less the offset
+-- width of a truncated title: the smaller of its own and the remaining area's, less the offset
 abbrev pub truncatedWidth : ℕ → Rect → TextLine → ℕ
 truncatedWidth offset area t = min (area .width) (titleWidth t) - offset
 
 -- "save where `render_centered_titles_with_truncation` sets it": right while the offset is above 0, which hides the title's first
--- columns, and left from then on
+-- columns, then left
 abbrev pub setAlignment : ℕ → Alignment
 setAlignment offset = cond (ltb 0 offset) Right Left
 
@@ -142,7 +142,7 @@ abbrev pub placedTruncated : ℕ → Rect → TextLine → PlacedTitle
 placedTruncated offset area t =
     record { area = withWidth (truncatedWidth offset area t) area; alignment = setAlignment offset; title = t }
 
--- likewise none where nothing is left; after a title the offset is less by the columns that it got and the one between titles
+-- stops when the remaining area is empty; each title takes its width and the column between titles from the offset
 abbrev pub truncatedTitles : ℕ → Rect → List TextLine → List PlacedTitle
 truncatedTitles offset area [] = []
 truncatedTitles offset area (t ∷ ts) =
@@ -160,15 +160,15 @@ centerTitles area ts =
 
 -- ---- right titles
 
--- the part of an area that a title of so many columns gets at its right end
+-- the right part of an area, for a title of this width
 abbrev pub rightPart : ℕ → Rect → Rect
 rightPart width r = withX (max (rightOf r - width) (r .x)) (withWidth (min width (r .width)) r)
 
--- what is left of an area before it, and before one column between titles
+-- the area remaining before that title and the column between titles
 abbrev pub beforeTitle : ℕ → Rect → Rect
 beforeTitle width r = withWidth (r .width - width - 1) r
 
--- `render_right_titles`, of titles "in reverse order", the last one first, likewise
+-- `render_right_titles`, of titles "in reverse order" (the last one first); stops when the remaining area is empty
 abbrev pub rightTitles : Rect → List TextLine → List PlacedTitle
 rightTitles area [] = []
 rightTitles area (t ∷ ts) =
@@ -178,7 +178,7 @@ rightTitles area (t ∷ ts) =
 
 -- ---- all titles
 
--- "Each position draws left, centre, right titles", in its area
+-- "Each position draws left, centre, right titles", in the titles area
 unfoldable pub groupsIn : Block → TitlePosition → Rect → List TextLine → List PlacedTitle
 groupsIn b position area ts =
     leftTitles area (filteredTitles b position Left ts)
@@ -188,7 +188,7 @@ groupsIn b position area ts =
 abbrev pub titlesAt : Block → TitlePosition → Rect → List TextLine → List PlacedTitle
 titlesAt b position r ts = groupsIn b position (titlesArea b position r) ts
 
--- "top titles, bottom titles", over a rectangle that isn't empty
+-- "top titles, bottom titles", over a non-empty rectangle
 unfoldable pub titlesOn : List ℕ → Block → Rect → List ℕ → Drawing
 titlesOn styles b r records =
     let ts = linesFrom 0 records in

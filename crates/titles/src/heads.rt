@@ -1,14 +1,14 @@
-// The last title, looked for from the end.
+// Search for the last title, from the end.
 use text::head;
 ghost use Prim.Native.Nat.{_<_, _≤_};
 ghost use lib.ListN.{length, take};
 ghost use Rattle.text.specs.Line.{linesFrom};
-ghost use Rattle.titles.specs.Placing.{Last};
+ghost use Rattle.titles.specs.PlacingExtra.{LastHead};
 
-// Where the head stands of the last title before record `end`.
+// Returns the record number of the last head before record `end`.
 pub fn last_head(titles: &[u32], end: usize) -> usize
     requires { ⌜ (end ≤ length (now titles)) × (0 < length (linesFrom 0 (take end (now titles)))) ⌝ }
-    ensures { λ r. ⌜ Last (now (titles .entry)) end r ⌝ }
+    ensures { λ r. ⌜ LastHead (now (titles .entry)) end r ⌝ }
 {
     let mut i = end;
     while 0 < i {

@@ -1,20 +1,20 @@
-// The titles of a block: which ones are chosen, and where each goes. `draw_titles` draws them.
+// Selection and placement of a block's titles. The crate `render_titles` draws them.
 use layout::Rect;
 use text::Alignment;
 use text::TitlePosition;
 
-mod chosen;
+mod filtered_titles;
 pub mod heads;
 pub mod places;
 
-// The titles at a position that have an alignment, given or by default.
+// The titles with this position and alignment, each given or default.
 pub struct Group {
     pub position: TitlePosition,
     pub alignment: Alignment,
 }
 
-// Where the next title goes: into what is left of the titles' area, its first `offset` columns cut off. Where titles are truncated,
-// that sets its alignment.
+// Place of the next title: the remaining titles area, the columns still to be truncated on the left, and whether titles are
+// truncated, which then decides their alignment.
 pub struct Place {
     pub area: Rect,
     pub offset: u16,

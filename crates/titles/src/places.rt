@@ -1,4 +1,4 @@
-// Where a title goes that is placed after others, from left to right.
+// Placement of titles one after another, from left to right.
 use crate::Place;
 use layout::Rect;
 use text::Alignment;
@@ -6,9 +6,9 @@ use text::head;
 ghost use mathlib.Core.Path.{_≡_};
 ghost use Prim.Native.Nat.{_+_};
 ghost use Rattle.num.specs.Held.{held};
-ghost use Rattle.titles.specs.Placing.{placedWidth, placedAlignment, nextPlace};
+ghost use Rattle.titles.specs.PlacingExtra.{placedWidth, placedAlignment, nextPlace};
 
-// 1 more than a width, held at 65,535: a title's columns, and the one between titles.
+// Returns a title's width plus the column between titles, saturating at 65,535.
 pub fn spaced(width: u16) -> u16
     ensures { λ r. ⌜ r ≡ held (width + 1) ⌝ }
 {
@@ -16,14 +16,15 @@ pub fn spaced(width: u16) -> u16
 }
 
 impl Place {
-    // The columns that the next title gets, of so many that it has.
+    // Returns the width that the next title gets, given the width it needs.
     pub fn width(self, width: u16) -> u16
         ensures { λ r. ⌜ r ≡ placedWidth self width ⌝ }
     {
         num::saturating_sub(num::min(self.area.width, width), self.offset)
     }
 
-    // How it is drawn: where titles are truncated, right while an offset is left, and else by its head.
+    // Returns the alignment of the next title: if titles are truncated, right while the offset is above 0, then left; otherwise
+    // the one in its head, left if none.
     pub fn alignment(self, word: u32) -> Alignment
         ensures { λ r. ⌜ r ≡ placedAlignment self word ⌝ }
     {
@@ -36,7 +37,7 @@ impl Place {
         head::resolve(word, Alignment::Left)
     }
 
-    // The place after a title of so many columns.
+    // Returns the place after a title of this width.
     pub fn next(self, width: u16) -> Place
         ensures { λ r. ⌜ r ≡ nextPlace self width ⌝ }
     {

@@ -1,4 +1,4 @@
--- The loop that drops glyphs from a run's front while they fit.
+-- Laws of the loop that drops glyphs from a run's front while they fit.
 use Prim.Native.Nat.{ℕ, suc, _+_, _-_, _≤_, _<_}
 use mathlib.Core.Path.{_≡_, refl, sym, ap, _∙_}
 use mathlib.Core.List.{List, [], _∷_}
@@ -12,13 +12,15 @@ use Rattle.text.specs.Line.{Glyph, glyphFrom, numbered, total}
 use Rattle.wrapping.specs.declared.Run.{Run}
 use Rattle.wrapping.specs.declared.Rule.{Rule}
 use Rattle.wrapping.specs.Wrapping.{afterFitting, overWide, notOverWide}
-use Rattle.wrapping.specs.Runs.{emptyRun, endFrom, runOf, glyphsIn, dropRun}
+use Rattle.wrapping.specs.RunsExtra.{emptyRun, endFrom, runOf, glyphsIn, dropRun}
 use Rattle.wrapping.proofs.ListRuns.{run-width}
 
--- a run's glyphs from i on
+-- a run's glyphs from record i on
 unfoldable pub glyphsFrom : Rule → List ℕ → Run → ℕ → List Glyph
 glyphsFrom u records a i = notOverWide u (numbered i (slice i (a .end) records))
 
+-- Loop invariant: before each turn, the glyphs before record i are dropped, with width room₀ - room, and dropping from the others
+-- while they fit in `room` leaves what dropping from all while they fit in room₀ leaves.
 pub record Dropping (u : Rule) (records : List ℕ) (a : Run) (room₀ room i : ℕ) : Type 0 where
   pub within : a .end ≤ length records
   pub same : afterFitting room₀ (glyphsIn u records a) ≡ afterFitting room (glyphsFrom u records a i)
@@ -59,23 +61,23 @@ module _ (u : Rule) (records : List ℕ) (a : Run) where
       abbrev glyph : Glyph
       glyph = glyphFrom i (getD records i 0)
 
-      read : glyphsFrom u records a i ≡ notOverWide u (glyph ∷ numbered (suc i) (slice (suc i) (a .end) records))
+      next-glyph : glyphsFrom u records a i ≡ notOverWide u (glyph ∷ numbered (suc i) (slice (suc i) (a .end) records))
       unfolding glyphsFrom
-      read = rw (slice-cons i (a .end) records 0 h (d .within))
+      next-glyph = rw (slice-cons i (a .end) records 0 h (d .within))
 
       pub dropping-skips : u .limit < w → Dropping u records a room₀ room (i + 1)
       unfolding overWide glyphsFrom
       dropping-skips o =
-          let s : glyphsFrom u records a i ≡ glyphsFrom u records a (i + 1) = read ∙ rw (← e, lt-ltb (u .limit) w o, add-one i) in
+          let s : glyphsFrom u records a i ≡ glyphsFrom u records a (i + 1) = next-glyph ∙ rw (← e, lt-ltb (u .limit) w o, add-one i) in
           record { within = d .within; same = rw s at (d .same); less = d .less; sum = rw s at (d .sum); last = rw s at (d .last) }
 
       module _ (o : w ≤ u .limit) where
-        keeps : glyphsFrom u records a i ≡ glyph ∷ glyphsFrom u records a (i + 1)
+        next-kept : glyphsFrom u records a i ≡ glyph ∷ glyphsFrom u records a (i + 1)
         unfolding overWide glyphsFrom
-        keeps = read ∙ rw (← e, le-ltb (u .limit) w o, add-one i)
+        next-kept = next-glyph ∙ rw (← e, le-ltb (u .limit) w o, add-one i)
 
         sum-later : a .width ≡ (room₀ - room) + (w + total (glyphsFrom u records a (i + 1)))
-        sum-later = d .sum ∙ ap (λ (n : ℕ). (room₀ - room) + n) (ap total keeps ∙ rw e)
+        sum-later = d .sum ∙ ap (λ (n : ℕ). (room₀ - room) + n) (ap total next-kept ∙ rw e)
 
         pub dropping-enough : room₀ - room ≤ a .width
         dropping-enough = omega (arith, sum-later)
@@ -84,18 +86,18 @@ module _ (u : Rule) (records : List ℕ) (a : Run) where
         dropping-goes f =
             record {
               within = d .within;
-              same = d .same ∙ ap (afterFitting room) keeps ∙ rw (← e, le-leb w room f);
+              same = d .same ∙ ap (afterFitting room) next-kept ∙ rw (← e, le-leb w room f);
               less = omega (arith, d .less);
               sum = omega (arith, sum-later, d .less);
-              last = end-again (a .end) (i + 1) (glyphsFrom u records a (i + 1)) (rw keeps at (d .last));
+              last = end-again (a .end) (i + 1) (glyphsFrom u records a (i + 1)) (rw next-kept at (d .last));
             }
 
         pub dropping-stops : room < w → record { first = i; end = a .end; width = a .width - (room₀ - room) } ≡ dropRun u records a room₀
         unfolding dropRun
         dropping-stops f =
             let q : afterFitting room₀ (glyphsIn u records a) ≡ glyph ∷ glyphsFrom u records a (i + 1)
-            = d .same ∙ ap (afterFitting room) keeps ∙ rw (← e, lt-leb w room f) in
-            let l : endFrom (i + 1) (glyphsFrom u records a (i + 1)) ≡ a .end = rw keeps at (d .last) in
+            = d .same ∙ ap (afterFitting room) next-kept ∙ rw (← e, lt-leb w room f) in
+            let l : endFrom (i + 1) (glyphsFrom u records a (i + 1)) ≡ a .end = rw next-kept at (d .last) in
             let v : a .width - (room₀ - room) ≡ widthOf (getD records i 0) + total (glyphsFrom u records a (i + 1)) = omega (arith, sum-later) in
             rw q (cc)
 

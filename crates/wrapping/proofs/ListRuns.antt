@@ -12,7 +12,7 @@ use Rattle.text.specs.Line.{Glyph, glyphFrom, numbered, total}
 use Rattle.wrapping.specs.declared.Run.{Run}
 use Rattle.wrapping.specs.declared.Rule.{Rule}
 use Rattle.wrapping.specs.Wrapping.{empty, overWide, notOverWide}
-use Rattle.wrapping.specs.Runs.{emptyRun, endFrom, runOf, glyphsIn, appendRun, pushRun, Spans}
+use Rattle.wrapping.specs.RunsExtra.{emptyRun, endFrom, runOf, glyphsIn, appendRun, pushRun, Spans}
 use Rattle.text.proofs.Bools.{cond-cases}
 use Rattle.wrapping.proofs.RunLaws.{append-first, append-second, append-both, push-first, push-more}
 
@@ -70,7 +70,7 @@ not-empty : (p : List Glyph) (g : Glyph) (l : List Glyph) → [] ≡ p ++ g ∷ 
 not-empty [] g l e = let z : _≡_ {A = ℕ} 0 1 = cc in omega arith
 not-empty (k ∷ p) g l e = let z : _≡_ {A = ℕ} 0 1 = cc in omega arith
 
--- from the place of a glyph on
+-- the records from a glyph's number on
 module _ (u : Rule) (g : Glyph) (l : List Glyph) where
   abbrev From : ℕ → List ℕ → Type 0
   From i xs = (i ≤ g .number) × (notOverWide u (numbered (g .number) (drop (g .number - i) xs)) ≡ g ∷ l)
@@ -97,7 +97,7 @@ module _ (u : Rule) (g : Glyph) (l : List Glyph) where
       (λ b. from-here i x xs (from-glyph (suc i) xs) b p)
       e
 
--- up to the place past a glyph
+-- the records up to a glyph's number, included
 module _ (u : Rule) where
   abbrev UpTo : ℕ → List ℕ → List Glyph → Type 0
   UpTo i xs a = (i ≤ endFrom i a) × (endFrom i a ≤ i + length xs) × (notOverWide u (numbered i (take (endFrom i a - i) xs)) ≡ a)
@@ -125,7 +125,7 @@ module _ (u : Rule) where
       (λ f q. upto-here i x xs g a f (cc) (upto-glyphs (suc i) xs a b (cc)))
       e
 
--- a list that its run gives back
+-- a list of glyphs equals the glyphs of its run
 pub record Read (u : Rule) (records : List ℕ) (l : List Glyph) : Type 0 where
   pub glyphs : glyphsIn u records (runOf l) ≡ l
   pub spans : Spans u records (runOf l)
@@ -134,7 +134,7 @@ pub empty-read : (u : Rule) (records : List ℕ) → Read u records []
 unfolding glyphsIn
 empty-read u records = record { glyphs = refl; spans = record { glyphs = refl; within = omega arith; ordered = omega arith } }
 
--- so is each part of what was read
+-- each part of the glyphs read equals the glyphs of its run
 pub glyphs-run : (u : Rule) (n : ℕ) (records : List ℕ) (p l q : List Glyph) → n ≤ length records → notOverWide u (numbered 0 (take n records)) ≡ p ++ (l ++ q) → Read u records l
 unfolding glyphsIn
 glyphs-run u n records p [] q h e = empty-read u records

@@ -1,4 +1,4 @@
--- Wrapping looks at no more of a glyph than its width and whether it is whitespace, so glyphs may be renumbered before or after.
+-- Wrapping uses only a glyph's width and whether it is whitespace: renumbering the glyphs renumbers the lines.
 use Prim.Native.Nat.{ℕ, zero, suc, _+_, _-_}
 use mathlib.Core.Path.{_≡_, refl, ap, _∙_}
 use mathlib.Core.Bool.{Bool, true, false, cond}
@@ -8,8 +8,8 @@ use lib.Dec.{eqb, leb, ltb}
 use lib.ListN.{length, drop}
 use Rattle.text.specs.Line.{Glyph, numbered, total}
 use Rattle.wrapping.specs.declared.Rule.{Rule}
-use Rattle.wrapping.specs.Wrapping.{Pending, start, empty, Step, overWide, mustJoin, takesSpaces, gathered, joined, unjoined, full, fitting, afterFitting, emptied, drops, appended, _then_, joinStep, emitStep, appendStep, step, lastLines, atLeastOne, Wrapped, wrapFrom, wrap}
-use Rattle.wrapping.proofs.LastLines.{last-is}
+use Rattle.wrapping.specs.Wrapping.{Pending, emptyPending, empty, Step, overWide, mustJoin, takesSpaces, gathered, joined, unjoined, full, fitting, afterFitting, emptied, drops, appended, _then_, joinStep, emitStep, appendStep, step, lastLines, atLeastOne, Wrapped, wrapFrom, wrap}
+use Rattle.wrapping.proofs.LastLines.{last-lines-gathered}
 
 pub cond-map : {A B : Type 0} (h : A → B) (b c : Bool) {x y : B} {x' y' : A} → b ≡ c → x ≡ h x' → y ≡ h y' → cond b x y ≡ h (cond c x' y')
 cond-map h b true p q r = rw p q
@@ -19,7 +19,7 @@ empty-map : {A B : Type 0} (h : A → B) (l : List A) → empty (map h l) ≡ em
 empty-map h [] = refl
 empty-map h (x ∷ l) = refl
 
--- any change of glyphs that keeps these two
+-- any change f of glyphs that keeps width and whitespace
 module _ (f : Glyph → Glyph) (same-width : (g : Glyph) → f g .width ≡ g .width) (same-space : (g : Glyph) → f g .whitespace ≡ g .whitespace) where
   abbrev onPending : Pending → Pending
   onPending t = record { row = map f (t .row); spaces = map f (t .spaces); word = map f (t .word); solid = t .solid }
@@ -78,7 +78,7 @@ module _ (f : Glyph → Glyph) (same-width : (g : Glyph) → f g .width ≡ g .w
     last-map : lastLines u (onPending t) ≡ map (map f) (lastLines u t)
     last-map =
         let e : empty (gathered u (onPending t)) ≡ empty (gathered u t) = ap empty gathered-map ∙ empty-map f (gathered u t) in
-        rw (last-is u (onPending t), last-is u t)
+        rw (last-lines-gathered u (onPending t), last-lines-gathered u t)
         (cond-map (map (map f)) _ _ e (cond-map (map (map f)) _ _ (empty-map f (t .spaces)) refl refl) (rw gathered-map))
 
     module _ (g : Glyph) where
@@ -98,7 +98,7 @@ module _ (f : Glyph → Glyph) (same-width : (g : Glyph) → f g .width ≡ g .w
       unfolding appended
       appended-map = cond-map onPending _ _ (same-space g) (simp (map-append f)) (simp (map-append f))
 
-  -- a step that gives the changed glyphs where it is given them
+  -- a step that, given changed glyphs, gives the changed result
   abbrev Changes : (Pending → Step) → (Pending → Step) → Type 0
   Changes one one' = (t : Pending) → one' (onPending t) ≡ onStep (one t)
 
@@ -141,7 +141,7 @@ module _ (f : Glyph → Glyph) (same-width : (g : Glyph) → f g .width ≡ g .w
 
   pub wrap-map : (u : Rule) (gs : List Glyph) → wrap u (map f gs) ≡ onWrapped (wrap u gs)
   unfolding wrap
-  wrap-map u gs = cond-map onWrapped (eqb (u .limit) 0) _ refl refl (rw (wrap-from u start gs, one-map))
+  wrap-map u gs = cond-map onWrapped (eqb (u .limit) 0) _ refl refl (rw (wrap-from u emptyPending gs, one-map))
 
 abbrev pub renumber : ℕ → Glyph → Glyph
 renumber k g = record { number = k + g .number; symbol = g .symbol; width = g .width; whitespace = g .whitespace; style = g .style }

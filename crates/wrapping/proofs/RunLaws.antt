@@ -1,4 +1,4 @@
--- What the methods of a run compute, one law for each way through the code.
+-- One law for each path through the methods of a run.
 use Prim.Native.Nat.{ℕ, _+_, _≤_}
 use mathlib.Core.Path.{_≡_}
 use native.Mathlib.Omega.{arith}
@@ -6,7 +6,7 @@ use borrow.Author.Tests.{eq-eqb, ne-eqb}
 use lib.Dec.{eqb}
 use Rattle.text.proofs.Bools.{cond-cases}
 use Rattle.wrapping.specs.declared.Run.{Run}
-use Rattle.wrapping.specs.Runs.{appendRun, pushRun}
+use Rattle.wrapping.specs.RunsExtra.{appendRun, pushRun}
 
 module _ (a b : Run) where
   pub append-first : a .end ≡ 0 → b ≡ appendRun a b

@@ -1,4 +1,4 @@
--- Lists of glyphs that fall in two.
+-- Lists of glyphs split into the part dropped and the part kept.
 use Prim.Native.Nat.{ℕ, suc, _+_, _-_}
 use mathlib.Core.Path.{_≡_, refl, ap}
 use mathlib.Core.Bool.{Bool, true, false, cond, not, _||_}
@@ -24,7 +24,7 @@ narrow-append u (g ∷ a) b = both (overWide u g) _ (notOverWide u a) (notOverWi
     both true x y z e = e
     both false x y z e = cc
 
--- what a join keeps, and what it drops
+-- a join drops `unjoined` and keeps `gathered`
 pub gathered-split : (u : Rule) (t : Pending) → t .row ++ (t .spaces ++ t .word) ≡ unjoined u t ++ gathered u t
 unfolding gathered unjoined takesSpaces
 gathered-split u t = both (u .trim) (t .row)
@@ -35,7 +35,7 @@ gathered-split u t = both (u .trim) (t .row)
     both false [] = refl
     both trim (g ∷ row) = simp append-assoc
 
--- step 3 likewise
+-- step 3 drops `fitting` and keeps `afterFitting`
 pub fitting-split : (room : ℕ) (l : List Glyph) → l ≡ fitting room l ++ afterFitting room l
 fitting-split room [] = refl
 fitting-split room (g ∷ l) = both (leb (g .width) room) (fitting (room - g .width) l) (fitting-split (room - g .width) l)

@@ -1,4 +1,4 @@
--- The ways through a step of the rules.
+-- The paths through a step of the rules.
 use Prim.Native.Nat.{_-_}
 use mathlib.Core.Path.{_≡_, refl}
 use mathlib.Core.Bool.{Bool, true, false, cond, _&&_, and-eq-true-iff}
@@ -29,12 +29,12 @@ drops-whitespace s g d = and-eq-true-iff (g .whitespace) _ .0 d .0
 abbrev pub filled : Rule → Pending → Glyph → Step
 filled u s g = (emitStep u g then appendStep g) s
 
--- row is emitted, with what fits where it ends dropped, and more
+-- row is emitted; dropped are the spaces that fit and `more`
 abbrev pub emits : Rule → Pending → List Glyph → Pending → Bool → Step
 emits u s more t done =
     record { lines = s .row ∷ []; dropped = fitting (u .limit - total (s .row)) (s .spaces) ++ more; pending = t; done = done }
 
--- steps 2 to 4, where step 2 joins
+-- steps 2 to 4, if step 2 joins
 abbrev pub joining : Rule → Pending → Glyph → Step
 joining u s g =
     let next = filled u (joined u s) g in

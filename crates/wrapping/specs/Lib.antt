@@ -1,3 +1,3 @@
 pub mod Rule
 pub mod Wrapping
-pub mod Runs
+pub mod RunsExtra

@@ -15,25 +15,25 @@ pub record Pending : Type 0 where
   pub solid : Bool
 
 -- "For each text line start with row, spaces and word empty and 'previous was solid' false."
-abbrev pub start : Pending
-start = record { row = []; spaces = []; word = []; solid = false }
+abbrev pub emptyPending : Pending
+emptyPending = record { row = []; spaces = []; word = []; solid = false }
 
--- A list that has no glyph is empty, whatever the widths.
+-- a list is empty if it has no glyph, whatever the widths
 abbrev pub empty : {A : Type 0} → List A → Bool
 empty [] = true
 empty (x ∷ xs) = false
 
--- "A list's width is its sum.": `total`, with the glyphs in `text`.
+-- "A list's width is its sum.": `total`, in crate `text`.
 
--- What a step, or all four, make of a glyph: the lines emitted, none or one, the glyphs dropped, what is pending then, and whether
--- to "go to the next glyph" before the steps that are left.
+-- Result of a step, or of all four, for a glyph: the lines emitted (none or one), the glyphs dropped, what is pending then, and
+-- whether to "go to the next glyph" before the remaining steps.
 pub record Step : Type 0 where
   pub lines : List (List Glyph)
   pub dropped : List Glyph
   pub pending : Pending
   pub done : Bool
 
--- It emits no line, drops no glyph and goes on.
+-- emits no line, drops no glyph, and goes on to the remaining steps
 abbrev pub silent : Pending → Step
 silent s = record { lines = []; dropped = []; pending = s; done = false }
 
@@ -75,7 +75,7 @@ gathered u s = (s .row ++ cond (takesSpaces u s) (s .spaces) []) ++ s .word
 unfoldable pub joined : Rule → Pending → Pending
 joined u s = record { row = gathered u s; spaces = []; word = []; solid = s .solid }
 
--- "Spaces never appended are dropped.": those that aren't appended there
+-- "Spaces never appended are dropped.": those that a join drops
 unfoldable pub unjoined : Rule → Pending → List Glyph
 unjoined u s = cond (takesSpaces u s) [] (s .spaces)
 
@@ -91,7 +91,7 @@ full u s g =
     || (ltb 0 (g .width) && leb (u .limit) (total (s .row) + total (s .spaces) + total (s .word)))
 
 -- "emit row, leaving it empty, then drop spaces from the front while each fits in (limit less the emitted width, held at 0) less
--- those dropped." First the dropped ones, then those left.
+-- those dropped." `fitting` are those dropped, `afterFitting` those remaining.
 abbrev pub fitting : ℕ → List Glyph → List Glyph
 fitting room [] = []
 fitting room (g ∷ gs) = cond (leb (g .width) room) (g ∷ fitting (room - g .width) gs) []
@@ -152,12 +152,12 @@ abbrev pub atLeastOne : List (List Glyph) → List (List Glyph)
 atLeastOne [] = [] ∷ []
 atLeastOne (line ∷ lines) = line ∷ lines
 
--- what a text line comes to
+-- the lines of a text line, and the glyphs that it drops
 pub record Wrapped : Type 0 where
   pub lines : List (List Glyph)
   pub dropped : List Glyph
 
--- its glyphs from a state on, and its end. "Spaces never appended are dropped."
+-- the result for the remaining glyphs from a state, and the line's end. "Spaces never appended are dropped."
 abbrev pub wrapFrom : Rule → Pending → List Glyph → Wrapped
 wrapFrom u s [] = record { lines = lastLines u s; dropped = unjoined u s }
 wrapFrom u s (g ∷ gs) =
@@ -168,10 +168,10 @@ wrapFrom u s (g ∷ gs) =
 -- the whole text line. "Limit 0 gives no line."
 unfoldable pub wrap : Rule → List Glyph → Wrapped
 wrap u gs =
-    let all = wrapFrom u start gs in
+    let all = wrapFrom u emptyPending gs in
     cond (eqb (u .limit) 0) (record { lines = []; dropped = [] }) (record { lines = atLeastOne (all .lines); dropped = all .dropped })
 
--- the glyphs of a text line that step 1 skips, and the others; at limit 0 no step is taken, and these say nothing
+-- the glyphs of a text line that step 1 skips, and the others; not meaningful at limit 0, where no step is taken
 abbrev pub overWides : Rule → List Glyph → List Glyph
 overWides u [] = []
 overWides u (g ∷ gs) = cond (overWide u g) (g ∷ overWides u gs) (overWides u gs)

@@ -1,15 +1,15 @@
-// How a text line is wrapped: the rule, and runs of records, which stand for the pending graphemes of reflow.rs.
+// Wrapping of a text line: the rule, and runs of records, which replace the pending graphemes of reflow.rs.
 mod runs;
 
-// How to wrap.
+// Line width limit and whether lines are trimmed.
 pub struct Rule {
     pub limit: usize,
     pub trim: bool,
 }
 
-// Glyphs that follow one another in a text line, over-wide ones between them left out: the first record, one past the last, and
-// the sum of the widths. A run without a glyph ends at 0. All fields have the size of a register: with a shorter one the compiler
-// would copy the bytes between fields from state to state as well.
+// Consecutive glyphs of a text line, over-wide ones between them left out: the first record, one past the last, and the sum of
+// the widths. A run without a glyph has end 0. All fields are `usize`: with a shorter one the compiler would also copy the
+// padding between fields.
 pub struct Run {
     pub first: usize,
     pub end: usize,

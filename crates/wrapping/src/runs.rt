@@ -1,10 +1,10 @@
-// Runs of records.
+// Methods of runs of records.
 use crate::Rule;
 use crate::Run;
 ghost use mathlib.Core.Path.{_≡_};
 ghost use Prim.Native.Nat.{_+_, _^_, _≤_, _<_};
 ghost use lib.ListN.{length};
-ghost use Rattle.wrapping.specs.Runs.{emptyRun, appendRun, pushRun, runOf, glyphsIn, dropRun};
+ghost use Rattle.wrapping.specs.RunsExtra.{emptyRun, appendRun, pushRun, runOf, glyphsIn, dropRun};
 
 impl Run {
     pub fn empty() -> Run
@@ -17,7 +17,7 @@ impl Run {
         }
     }
 
-    // This run and then the other.
+    // Appends the other run to this one.
     pub fn append(self, other: Run) -> Run
         requires { ⌜ self .width + other .width < 2 ^ 32 ⌝ }
         ensures { λ r. ⌜ r ≡ appendRun self other ⌝ }
@@ -35,7 +35,7 @@ impl Run {
         }
     }
 
-    // This run and then the record at `at`, w cells wide.
+    // Appends the record at `at`, of width w.
     pub fn push(self, at: usize, w: usize) -> Run
         requires { ⌜ (self .width + w < 2 ^ 32) × (at + 1 < 2 ^ 64) ⌝ }
         ensures { λ r. ⌜ r ≡ pushRun self at w ⌝ }
@@ -56,7 +56,7 @@ impl Run {
         }
     }
 
-    // What is left where glyphs are dropped from the front while each fits in `room` less those dropped.
+    // Drops glyphs from the front while each fits in `room` less those dropped, and returns the remaining run.
     pub fn after_fitting(self, records: &[u32], rule: Rule, room: usize) -> Run
         requires { ⌜ (self .end ≤ length (now records)) × (self ≡ runOf (glyphsIn rule (now records) self)) ⌝ }
         ensures { λ r. ⌜ r ≡ dropRun rule (now (records .entry)) self room ⌝ }

@@ -1,11 +1,11 @@
-//! The framed notice's calls for Rust programs: slices, enums and `Result`. include/notice.h says what
-//! each does and how records, styles and cells are packed; here no number can fail to name a case.
+//! The framed notice's calls for Rust programs: slices, enums and `Result`. include/notice.h documents
+//! each call and how records, styles and cells are packed; here settings are always valid.
 #![deny(unsafe_code, unsafe_op_in_unsafe_fn)]
 
 #[allow(unsafe_code)]
 mod raw;
 
-/// Why a call is refused; nothing is written then. The numbers are the header's.
+/// Why a call is refused; a refused call writes nothing. The numbers are the header's.
 #[derive(Clone, Copy, Debug, PartialEq, Eq)]
 pub enum Refusal {
     Screen = 1,
@@ -113,7 +113,7 @@ pub struct Notice {
     pub scroll: u16,
 }
 
-/// A screen's cells, columns × rows of them, and the style table that drawings on it name.
+/// A screen's cells, columns × rows of them, and the style table that style numbers refer to.
 pub struct Screen<'a> {
     pub columns: u32,
     pub rows: u32,
@@ -138,7 +138,7 @@ pub struct Rows {
     pub clipped: u32,
 }
 
-/// Lists a text's composed lines; answers how many there are.
+/// Lists a text's composed lines and returns their number.
 pub fn list_lines(
     text: &[u32],
     alignment: Alignment,
@@ -159,7 +159,7 @@ pub fn tally(text: &[u32], limit: u16, trim: bool) -> Result<Counts, Refusal> {
 }
 
 impl Block {
-    /// What borders, titles and padding leave of an area.
+    /// Returns the inner area: an area without borders, titles and padding.
     pub fn inner(&self, titles: &[u32], area: Rect) -> Result<Rect, Refusal> {
         let raw::AreaAnswer { number, x, y, width, height } =
             raw::inner(self.flat(), titles, area.flat());
@@ -173,7 +173,7 @@ impl Block {
         accepted(raw::draw_block(size, cells, styles, titles, area.flat(), self.flat()))
     }
 
-    /// How many columns a text needs for no line to be wrapped or cut off.
+    /// Returns the columns that a text needs for no line to be wrapped or cut off.
     pub fn line_width(&self, text: &[u32], titles: &[u32]) -> Result<u32, Refusal> {
         let answer = raw::line_width(text, titles, self.flat());
         accepted(answer.number).map(|()| answer.value)
@@ -220,7 +220,7 @@ impl Block {
 }
 
 impl Notice {
-    /// Draws the notice, its lines from the scroll row on.
+    /// Draws the notice, with its lines from the scroll row on.
     pub fn draw(
         &self,
         screen: &mut Screen,
@@ -235,7 +235,7 @@ impl Notice {
         accepted(number).map(|()| Rows { rows, placed, clipped })
     }
 
-    /// How many rows the notice needs where its lines have this width.
+    /// Returns the rows that the notice needs when its lines have this width.
     pub fn line_count(&self, text: &[u32], titles: &[u32], width: u16) -> Result<u32, Refusal> {
         let answer = raw::line_count(text, titles, self.block.flat(), self.flat(), width);
         accepted(answer.number).map(|()| answer.value)

@@ -1,4 +1,4 @@
-//! Draws the notice of examples/c: two pages on blank cells, and the tally under them.
+//! Draws the notice of examples/c: two pages on blank cells, then the tally.
 #![forbid(unsafe_code)]
 
 use notice::{
@@ -10,14 +10,14 @@ const COLUMNS: usize = 34;
 const ROWS: usize = 9;
 const BLANK: u64 = 32 << 43;
 
-// Numbers of the styles in the table.
+// Style numbers: indices into the style table.
 const PLAIN: u8 = 0;
 const FRAME: u8 = 1;
 const HEADLINE: u8 = 2;
 const SHADE: u8 = 3;
 const BADGE: u8 = 4;
 
-/// Heads that leave alignment, and in a title position too, to the notice and the block.
+/// Heads with the default alignment and, in a title, the block's position.
 const TEXT_HEAD: u32 = 1 << 31 | 3 << 29;
 const TITLE_HEAD: u32 = TEXT_HEAD | 2 << 27;
 
@@ -60,7 +60,7 @@ fn notice() -> Notice {
     }
 }
 
-/// A style that gives a foreground and adds modifiers.
+/// Returns a style that sets a foreground and adds modifiers.
 fn style(foreground: u64, add: u64) -> u64 {
     1 << 63 | foreground << 55 | add << 37
 }
@@ -70,7 +70,7 @@ fn glyph(symbol: char, style: u8) -> u32 {
     u32::from(symbol) << 10 | width << 7 | whitespace << 6 | u32::from(style)
 }
 
-/// The records of some lines; digits have a style of their own.
+/// Returns the records of lines of plain text; digits have a separate style.
 fn packed(head: u32, lines: &str, letters: u8, digits: u8) -> Vec<u32> {
     let record = |c: char| match c {
         '\n' => head,
@@ -80,7 +80,7 @@ fn packed(head: u32, lines: &str, letters: u8, digits: u8) -> Vec<u32> {
     std::iter::once(head).chain(lines.chars().map(record)).collect()
 }
 
-/// Each row's symbols, and beside them its foregrounds, a dot for none.
+/// Prints each row's symbols and, next to them, its foregrounds, a dot for none.
 fn print_screen(cells: &[u64]) {
     let symbol = |cell: &u64| char::from_u32((cell >> 43) as u32).unwrap_or('?');
     let foreground = |cell: &u64| match (cell >> 35) as u8 {

@@ -1,5 +1,5 @@
-//! include/notice.h: its structs and functions, and each call with slices in place of pointers and
-//! lengths. All that is unsafe stands here.
+//! The structs and functions of include/notice.h, and each call with slices in place of pointers and
+//! lengths. All unsafe code is here.
 
 #[repr(C)]
 #[derive(Clone, Copy)]
@@ -160,9 +160,9 @@ unsafe extern "C" {
     ) -> MeasureAnswer;
 }
 
-// SAFETY, of every call below: the functions accept all numbers. Of pointers they ask that each is to as
-// many elements as its length says, and that what is written overlaps nothing that is read; slices, of
-// which those lent to be written are lent alone, are so.
+// SAFETY of every call below: the functions accept all numbers. They require that each pointer is to
+// as many elements as its length says, and that memory written doesn't overlap memory read. Slices
+// ensure the first, and mutable slices, which are exclusive borrows, the second.
 
 pub fn list_lines(
     text: &[u32],

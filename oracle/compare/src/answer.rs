@@ -1,14 +1,14 @@
-//! All that a call answers and writes.
+//! Everything that a call returns and writes.
 
 use crate::input::Call;
 
 #[derive(Clone, PartialEq, Eq)]
 pub struct Answer {
-    /// 0, or why the call is refused.
+    /// 0, or the number of the refusal cause.
     pub number: u32,
     /// The other fields of the answer, in the order of [`fields`].
     pub values: [u64; 6],
-    /// The cells of a call that draws, or the list, as they are after it.
+    /// The cells or the list after the call.
     pub words: Vec<u64>,
 }
 
@@ -24,7 +24,7 @@ impl Answer {
         Self { number: 0, values: all, words }
     }
 
-    /// The field of a name, 0 where the call has none of it.
+    /// Returns the field with a name, or 0 if the call has no such field.
     pub fn named(&self, call: Call, name: &str) -> u64 {
         let place = fields(call).iter().position(|field| *field == name);
         place.map_or(0, |place| self.values[place])
@@ -35,7 +35,7 @@ impl Answer {
     }
 }
 
-/// The names of a call's fields, beside its number.
+/// Returns the names of a call's fields, without its number.
 pub fn fields(call: Call) -> &'static [&'static str] {
     match call {
         Call::ListLines => &["lines"],

@@ -1,4 +1,4 @@
-//! What the program is asked to do.
+//! Command line arguments.
 
 use std::fmt;
 

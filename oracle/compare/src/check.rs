@@ -1,11 +1,11 @@
-//! One call with one input, ours beside what is expected.
+//! Checks one call on one input against the expected answer.
 
 use crate::expected::expected;
 use crate::input::{Call, Input};
 use crate::report::Report;
 use crate::{ours, show, shrink};
 
-/// Compares and counts. The first difference of each call is made small and printed.
+/// Compares and counts. The first difference of each call is shrunk and printed.
 pub fn check(call: Call, input: &Input, origin: &dyn Fn() -> String, report: &Report) {
     let expected = expected(call, input);
     let answer = ours::answer(call, input);

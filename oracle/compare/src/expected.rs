@@ -1,4 +1,4 @@
-//! What is expected of a call: the Rust's answer, and document 01's where the Rust has none.
+//! The expected answer of a call: the Rust's, or document 01's if the Rust has none.
 
 use oracle::{Alignment, ComposedLine, Drawn, Outcome, Tally, Wrap};
 use rules::compose::{Composed, compose, tally};
@@ -9,7 +9,7 @@ use crate::answer::Answer;
 use crate::input::{Call, Input};
 use crate::{refusals, settings};
 
-/// Answers that must all be given, each with who says so, and what kind of input it is.
+/// Answers that the call must all match, each with its source, and the kind of the input.
 #[derive(Default)]
 pub struct Expected {
     pub answers: Vec<(&'static str, Answer)>,
@@ -37,7 +37,7 @@ pub fn expected(call: Call, input: &Input) -> Expected {
     }
 }
 
-/// A refused call answers its number and zeros, and leaves cells and list as they were.
+/// A refused call returns its number and zeros, and leaves cells and list unchanged.
 fn refused(number: u32, call: Call, input: &Input) -> Expected {
     let words = match call {
         Call::ListLines => input.list.clone(),
@@ -48,7 +48,7 @@ fn refused(number: u32, call: Call, input: &Input) -> Expected {
     Expected { answers, refused: true, ..Expected::default() }
 }
 
-/// The Rust's answer, or where it panicked document 01's.
+/// Returns the Rust's answer, or document 01's if the Rust panicked.
 fn settled<T>(
     outcome: Outcome<T>,
     rules: impl FnOnce() -> T,
@@ -62,9 +62,10 @@ fn settled<T>(
 }
 
 fn list_lines(input: &Input) -> Expected {
-    let (own, trim) = (settings::alignment(input.settings.alignment), input.trim == 1);
-    let outcome = oracle::wrapped_lines(&input.text, own, input.limit, trim);
-    let rules = || listed(&input.text, own, input.limit, trim);
+    let (default_alignment, trim) =
+        (settings::alignment(input.settings.alignment), input.trim == 1);
+    let outcome = oracle::wrapped_lines(&input.text, default_alignment, input.limit, trim);
+    let rules = || listed(&input.text, default_alignment, input.limit, trim);
     let mut short = false;
     let expected = settled(outcome, rules, |lines| {
         let mut list = input.list.clone();
@@ -77,16 +78,20 @@ fn list_lines(input: &Input) -> Expected {
     if short { refused(refusals::SHORT_LIST, Call::ListLines, input) } else { expected }
 }
 
-fn listed(text: &[u32], own: Alignment, limit: u16, trim: bool) -> Vec<ComposedLine> {
+fn listed(text: &[u32], default_alignment: Alignment, limit: u16, trim: bool) -> Vec<ComposedLine> {
     let line = |line: Composed| ComposedLine {
         glyphs: line.glyphs.iter().map(|glyph| glyph.number).collect(),
         width: width(&line.glyphs) as u16,
         alignment: line.alignment,
     };
-    compose(text, own, limit.into(), Wrap::On { trim }).lines.into_iter().map(line).collect()
+    compose(text, default_alignment, limit.into(), Wrap::On { trim })
+        .lines
+        .into_iter()
+        .map(line)
+        .collect()
 }
 
-/// Where a glyph is clipped the tally must be document 01's as well.
+/// If a glyph is clipped, the tally must also equal document 01's.
 fn tallied(input: &Input) -> Expected {
     let (text, limit, trim) = (&input.text, input.limit, input.trim == 1);
     let rules = || tally(text, limit.into(), trim);
@@ -136,8 +141,8 @@ fn draw_block(input: &Input) -> Expected {
     settled(outcome.map(|()| cells), rules, |cells| Answer::drawn([], cells))
 }
 
-/// Where a glyph is clipped the cells are document 01's, and the counts are as well those over the
-/// Rust's inner area and lines.
+/// If a glyph is clipped, the cells must be document 01's, and the counts must also equal those
+/// computed from the Rust's inner area and lines.
 fn draw_notice(input: &Input) -> Expected {
     let Input { columns, rows, ref styles, ref text, ref titles, .. } = *input;
     let area = settings::rect(input.area);

@@ -1,4 +1,4 @@
-//! Families of inputs. Each input is made from its number, whichever thread asks for it.
+//! Families of inputs. Each input is generated from its number, independent of the thread.
 
 mod frames;
 mod texts;
@@ -10,7 +10,7 @@ use crate::{scenes, ways};
 
 pub struct Family {
     pub name: &'static str,
-    /// How many there are; without a number, as many as are wanted.
+    /// The number of inputs, or `None` if unlimited.
     pub inputs: Option<u64>,
     pub make: Box<dyn Fn(u64) -> (Input, &'static [Call]) + Sync>,
 }
@@ -44,17 +44,17 @@ pub fn all(arguments: &Arguments) -> Vec<Family> {
 
 const EACH: &[Call] = &Call::ALL;
 
-/// Numbers of their own for each input.
+/// Returns the random number generator of an input.
 fn random(seed: u64, number: u64) -> Random {
     Random::new(seed.rotate_left(40) ^ number)
 }
 
-/// Cells that all differ, with bits set in every field.
+/// Returns cells that all differ, with bits set in every field.
 fn cells(count: u32) -> Vec<u64> {
     (0..u64::from(count)).map(|place| (place << 43) + 0x7ff_0f0f_0f0f + place).collect()
 }
 
-/// A number taken apart into digits of any bases, so that all numbers give all choices.
+/// A number split into digits of mixed bases, so that all numbers enumerate all choices.
 struct Digits(u64);
 
 impl Digits {

@@ -1,4 +1,4 @@
-//! The input of a call: all that any of the calls is given, of which each takes its part.
+//! The inputs of all calls in one struct; each call uses some of its fields.
 
 use crate::raw::{Area, Block, Text};
 
@@ -40,17 +40,17 @@ impl Call {
         matches!(self, Self::DrawBlock | Self::DrawNotice)
     }
 
-    /// Whether the call is given a text.
+    /// Whether the call takes a text.
     pub fn reads_text(self) -> bool {
         !matches!(self, Self::Inner | Self::DrawBlock)
     }
 
-    /// Whether the call is given a block and its titles.
+    /// Whether the call takes a block and its titles.
     pub fn has_block(self) -> bool {
         !matches!(self, Self::ListLines | Self::Tally)
     }
 
-    /// Whether the call is given the settings of a notice.
+    /// Whether the call takes the settings of a notice.
     pub fn has_settings(self) -> bool {
         matches!(self, Self::DrawNotice | Self::LineCount)
     }
@@ -66,7 +66,7 @@ pub struct Input {
     pub cells: Vec<u64>,
     pub area: Area,
     pub block: Block,
-    /// The alignment of `list_lines` is here too.
+    /// Includes the alignment of `list_lines`.
     pub settings: Text,
     /// The limit of `list_lines` and `tally`, the width of `line_count`.
     pub limit: u16,
@@ -75,7 +75,7 @@ pub struct Input {
 }
 
 impl Input {
-    /// An empty text on a screen of one blank cell, with one style that changes nothing.
+    /// Returns an empty text on a screen of one blank cell, with one style that changes nothing.
     pub fn plain() -> Self {
         let mut input = Self {
             text: Vec::new(),

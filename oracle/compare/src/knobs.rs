@@ -1,4 +1,4 @@
-//! The numbers of an input, each with its name, to be read and set.
+//! The numbers of an input, each with a name, a getter and a setter.
 
 use crate::input::Input;
 
@@ -52,7 +52,7 @@ pub const BLOCK: &[Knob] = knobs![
     block.shadow_y,
 ];
 
-/// The symbols of the border.
+/// The border symbols.
 pub const SYMBOLS: &[Knob] = knobs![
     block.top_left,
     block.top_right,

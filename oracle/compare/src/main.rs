@@ -1,9 +1,9 @@
 //! Compares the proved archive with the original Rust, call by call and field by field.
 //!
 //! Usage: `compare [short] [--cases N] [--seed S] [--threads T]`. Every short input is tried, then
-//! random ones until there are N cases. A case is one call with one input, and all that it answers
-//! and writes is compared. Where the Rust has no answer that counts, document 01 written out a
-//! second time, the crate `rules`, has it. The exit status is 1 where a case differs.
+//! random ones until there are N cases. A case is one call on one input, and everything that it
+//! returns and writes is compared. If the Rust has no valid answer, the crate `rules`, an
+//! independent implementation of document 01, gives it. The exit status is 1 if a case differs.
 #![deny(unsafe_code)]
 
 mod answer;

@@ -1,4 +1,4 @@
-//! What the proved archive answers.
+//! The answers of the proved archive.
 
 use crate::answer::Answer;
 use crate::input::{Call, Input};

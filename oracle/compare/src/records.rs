@@ -14,7 +14,7 @@ pub const fn is_head(record: u32) -> bool {
     record >> 31 == 1
 }
 
-/// The style number of a glyph.
+/// Returns the style number of a glyph.
 pub const fn style(glyph: u32) -> u32 {
     glyph % 64
 }

@@ -1,15 +1,15 @@
-//! 'Why a call is refused', written out: "lowest number first, of those a call has inputs for".
+//! The table of 'Why a call is refused': "lowest number first, of those a call has inputs for".
 
 use crate::input::{Call, Input};
 use crate::records::{SYMBOLS, is_head, style};
 
-/// The header's number for a setting that names no case; "this is looked for before all others".
+/// The header's number for an invalid setting; "this is looked for before all others".
 pub const UNNAMED: u32 = 255;
 
-/// A list too short, which is looked for when the lines are known.
+/// The cause for a short list, checked once the lines are known.
 pub const SHORT_LIST: u32 = 9;
 
-/// Why a call is refused, a short list apart, or 0.
+/// Returns the number of the refusal cause, except for a short list, or 0.
 pub fn number(call: Call, input: &Input) -> u32 {
     if unnamed(call, input) {
         return UNNAMED;
@@ -18,7 +18,7 @@ pub fn number(call: Call, input: &Input) -> u32 {
     causes.find(|&cause| holds(cause, call, input)).unwrap_or(0)
 }
 
-/// The causes that a call has inputs for, lowest first.
+/// Returns the causes that a call has inputs for, lowest first.
 fn causes(call: Call) -> &'static [u32] {
     match call {
         Call::ListLines | Call::Tally => &[3, 4, 8],
@@ -92,7 +92,7 @@ fn wrong_titles(titles: &[u32]) -> bool {
     false
 }
 
-/// "a style number, glyphs' included, not below their count"; the shadow's where there is one.
+/// "a style number, glyphs' included, not below their count"; the shadow's if there is one.
 fn wrong_style_number(call: Call, input: &Input) -> bool {
     let Input { block, settings, .. } = input;
     let mut numbers = vec![block.border_style, block.style, block.titles_style];
@@ -109,7 +109,7 @@ fn wrong_style_number(call: Call, input: &Input) -> bool {
     numbers.into_iter().map(u32::from).any(wrong) || glyphs.map(style).any(wrong)
 }
 
-/// "a border or shadow symbol of 2,097,152 or more"; the shadow's where it has one.
+/// "a border or shadow symbol of 2,097,152 or more"; the shadow's if it has one.
 fn wrong_symbol(input: &Input) -> bool {
     let block = &input.block;
     let border = crate::knobs::SYMBOLS.iter().any(|symbol| (symbol.get)(input) >= SYMBOLS.into());

@@ -1,4 +1,4 @@
-//! What was compared, of what kind it was, and what differs.
+//! Counts of the cases compared, of their kinds, and of the differences.
 
 use std::io::{self, Write};
 use std::process::ExitCode;
@@ -27,7 +27,7 @@ const DIFFER: usize = 6;
 #[derive(Default)]
 struct Row {
     counts: [AtomicU64; NAMES.len()],
-    /// Whether a difference was printed.
+    /// Whether a difference was already printed.
     shown: AtomicBool,
 }
 
@@ -51,7 +51,7 @@ impl Report {
         }
     }
 
-    /// Whether no difference of this call was printed, and none will be after this one.
+    /// Whether this is the first difference of the call; no later one is.
     pub fn is_first(&self, call: Call) -> bool {
         !self.rows[call as usize].shown.swap(true, Ordering::Relaxed)
     }
@@ -64,11 +64,11 @@ impl Report {
         self.sum(COMPARED)
     }
 
-    /// Prints at once, and nothing of another thread in between.
+    /// Prints and flushes, without interleaving other threads' output.
     pub fn print(&self, shown: &str) {
         let _printing = self.printing.lock();
         println!("{}", shown.trim_end());
-        // A closed output is found out by the next line.
+        // The next print reports a closed output.
         let _ = io::stdout().flush();
     }
 
@@ -81,7 +81,7 @@ impl Report {
         ));
     }
 
-    /// The table, and the last line.
+    /// Prints the table and the last line.
     pub fn finish(&self) -> ExitCode {
         println!("\n| call | {} |", NAMES.join(" | "));
         println!("|{}", "---|".repeat(NAMES.len() + 1));

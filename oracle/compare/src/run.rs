@@ -1,4 +1,4 @@
-//! The families of inputs, one after the other, shared by the threads.
+//! Runs the families of inputs in order, each divided among the threads.
 
 use std::sync::Mutex;
 use std::sync::atomic::{AtomicU64, Ordering};
@@ -11,10 +11,10 @@ use crate::check::check;
 use crate::families::{self, Family};
 use crate::report::Report;
 
-/// A progress line comes this often.
+/// Interval of the progress lines.
 const BEAT: Duration = Duration::from_secs(5);
 
-/// A thread takes so many inputs at once.
+/// Number of inputs that a thread takes at once.
 const SHARE: u64 = 32;
 
 pub fn run(arguments: &Arguments, report: &Report) {
@@ -33,14 +33,14 @@ pub fn run(arguments: &Arguments, report: &Report) {
     });
 }
 
-/// Prints how far it is until the other end is dropped.
+/// Prints the progress until the sender is dropped.
 fn beat(report: &Report, now: &Mutex<&str>, end: Receiver<()>) {
     while end.recv_timeout(BEAT) == Err(RecvTimeoutError::Timeout) {
         report.progress(&now.lock().expect("no panic while held"));
     }
 }
 
-/// Tries all inputs of a family; those at random until there are enough cases.
+/// Tries all inputs of a family; random ones until there are enough cases.
 fn share(arguments: &Arguments, report: &Report, family: &Family) {
     let next = AtomicU64::new(0);
     let work = || loop {

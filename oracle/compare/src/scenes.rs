@@ -1,4 +1,4 @@
-//! Random inputs, which all calls are asked with.
+//! Random inputs for all calls.
 
 use oracle::Outcome;
 
@@ -9,13 +9,13 @@ use crate::raw::{Area, Text};
 use crate::records::head;
 use crate::{settings, ways};
 
-/// The most of everything.
+/// Maximum sizes of an input.
 #[derive(Clone, Copy)]
 struct Sizes {
     columns: u32,
     rows: u32,
     records: u32,
-    /// A text's lines have up to about so many glyphs.
+    /// Approximate maximum number of glyphs in a text line.
     line: u32,
     titles: u32,
     title: u32,
@@ -36,7 +36,7 @@ const LARGE: Sizes = Sizes {
     limit: 400,
 };
 
-/// Mostly a small input, now and then a large one; one in five at the edge of what is accepted.
+/// Returns a mostly small, occasionally large input; one in five is at or past an accepted bound.
 pub fn scene(random: &mut Random) -> Input {
     let sizes = match random.below(3_000) {
         0 => LARGE,
@@ -78,7 +78,7 @@ fn sized(random: &mut Random, sizes: Sizes) -> Input {
     input
 }
 
-/// Mostly a letter, now and then a symbol at one of the ends.
+/// Returns a letter, or occasionally a very small or very large symbol.
 fn symbol(random: &mut Random) -> u32 {
     match random.below(12) {
         0 => random.pick(&[0, 1, 31, 32, 0x1f_fffe, 0x1f_ffff]),
@@ -86,7 +86,7 @@ fn symbol(random: &mut Random) -> u32 {
     }
 }
 
-/// Mostly one cell wide, now and then of any width.
+/// Returns a glyph, mostly of width 1, occasionally of any width.
 pub fn glyph(random: &mut Random, styles: u32) -> u32 {
     let width = match random.below(10) {
         0 => 0,
@@ -98,7 +98,7 @@ pub fn glyph(random: &mut Random, styles: u32) -> u32 {
     crate::records::glyph(symbol(random), width, whitespace, random.below(styles))
 }
 
-/// Up to so many records, now and then as many; sometimes no record at all.
+/// Returns a text of up to the maximum number of records, occasionally the maximum, sometimes none.
 fn text(random: &mut Random, styles: u32, sizes: Sizes) -> Vec<u32> {
     let most = if random.once_in(10) { sizes.records } else { random.below(sizes.records + 1) };
     let line = 1 + random.below(sizes.line);
@@ -116,7 +116,7 @@ fn title(random: &mut Random, styles: u32, most: u32) -> Vec<u32> {
     records
 }
 
-/// A number below `end`, or now and then close to the end of 16 bits.
+/// Returns a number below `end`, or occasionally one near the end of the 16-bit range.
 fn size(random: &mut Random, end: u32) -> u16 {
     match random.below(40) {
         0 => u16::MAX - random.below16(4),
@@ -124,7 +124,7 @@ fn size(random: &mut Random, end: u32) -> u16 {
     }
 }
 
-/// Where an area starts and how long it is, beside a side of the screen.
+/// Returns the start and length of an area along one axis of the screen.
 fn side(random: &mut Random, screen: u32) -> (u16, u16) {
     let start = if random.once_in(2) { 0 } else { size(random, screen / 2 + 2) };
     let length = if random.once_in(2) { screen as u16 } else { size(random, screen + 4) };
@@ -168,12 +168,13 @@ fn block(random: &mut Random, input: &mut Input, styles: u32) {
     [block.shadow_x, block.shadow_y] = [offset(), offset()];
 }
 
-/// A list with room to spare, or now and then with just enough or one too few.
+/// Sets a list that is longer than the lines, or occasionally exactly long enough or one too short.
 fn list(random: &mut Random, input: &mut Input) {
     let mut length = input.text.len() + 3;
     if random.once_in(8) {
-        let own = settings::alignment(input.settings.alignment);
-        let lines = oracle::wrapped_lines(&input.text, own, input.limit, input.trim == 1);
+        let default_alignment = settings::alignment(input.settings.alignment);
+        let lines =
+            oracle::wrapped_lines(&input.text, default_alignment, input.limit, input.trim == 1);
         if let Outcome::Value(lines) = lines {
             length = lines.len().saturating_sub(random.below(2) as usize);
         }

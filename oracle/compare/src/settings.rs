@@ -1,4 +1,4 @@
-//! The header's flat settings as the oracle's. Numbers that name no case aren't asked for.
+//! Converts the header's flat settings to the oracle's. Invalid numbers aren't passed here.
 
 use oracle::{
     Alignment, Block, BorderSet, Borders, Effect, Notice, Padding, Rect, Shadow, TitlePosition,

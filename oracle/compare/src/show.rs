@@ -1,4 +1,4 @@
-//! A difference in a form to be read.
+//! Formats a difference.
 
 use std::fmt::Write;
 
@@ -9,7 +9,7 @@ use crate::knobs::{AREA, BLOCK, Knob, NUMBERS, SETTINGS, SYMBOLS};
 use crate::ours;
 use crate::records::{BLANK, is_head, style};
 
-/// At most so many words that differ are printed.
+/// Maximum number of differing words printed.
 const WORDS: usize = 6;
 
 pub fn difference(call: Call, input: &Input) -> String {
@@ -27,7 +27,7 @@ fn line(shown: &mut String, name: &str, value: &str) {
     writeln!(shown, "  {name}: {value}").expect("a string takes all");
 }
 
-/// What the call is given.
+/// Formats the input of a call.
 fn input(call: Call, input: &Input) -> String {
     let mut shown = String::new();
     if call.draws() {
@@ -59,7 +59,7 @@ fn input(call: Call, input: &Input) -> String {
     shown
 }
 
-/// The numbers that aren't 0.
+/// Formats the nonzero numbers.
 fn numbers(input: &Input, knobs: &[&[Knob]]) -> String {
     let knobs = knobs.iter().copied().flatten();
     let other = knobs.filter(|knob| (knob.get)(input) != 0);
@@ -71,8 +71,8 @@ fn numbers(input: &Input, knobs: &[&[Knob]]) -> String {
     if named.is_empty() { "all 0".to_owned() } else { format!("{}, others 0", named.join(", ")) }
 }
 
-/// Heads as `|left`, glyphs as `a1`: the symbol and the width, `_` after it for whitespace, then
-/// the style number.
+/// Formats heads as `|left` and glyphs as `a1`: the symbol, the width, `_` for whitespace, then the
+/// style number.
 fn records(records: &[u32]) -> String {
     if records.is_empty() {
         return "no records".to_owned();
@@ -109,7 +109,7 @@ fn answer(call: Call, answer: &Answer) -> String {
     format!("number {}{values}", answer.number)
 }
 
-/// The first words that differ.
+/// Formats the first differing words.
 fn words(
     shown: &mut String,
     call: Call,

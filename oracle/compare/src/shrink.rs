@@ -1,4 +1,4 @@
-//! An input that differs, made as small as it can be while it still differs.
+//! Shrinks a differing input as far as it still differs.
 
 use std::time::{Duration, Instant};
 
@@ -6,7 +6,7 @@ use crate::input::Input;
 use crate::knobs::{AREA, BLOCK, NUMBERS, SETTINGS, SYMBOLS};
 use crate::records::{BLANK, glyph, is_head, style};
 
-/// An input is shrunk no longer than this.
+/// Time limit for shrinking an input.
 const PATIENCE: Duration = Duration::from_secs(20);
 
 struct Shrinking<'a> {
@@ -23,7 +23,7 @@ pub fn smallest(input: &Input, differs: &dyn Fn(&Input) -> bool) -> Input {
 }
 
 impl Shrinking<'_> {
-    /// Tries everything once. True where something became smaller.
+    /// Tries every change once. Returns whether the input became smaller.
     fn round(&mut self) -> bool {
         let mut smaller = self.attempt(blank);
         smaller |= self.screen();
@@ -37,7 +37,7 @@ impl Shrinking<'_> {
         smaller
     }
 
-    /// Keeps a change where the input still differs; one that changes nothing isn't kept.
+    /// Keeps a change if it has an effect and the input still differs.
     fn attempt(&mut self, change: impl FnOnce(&mut Input) -> bool) -> bool {
         if Instant::now() > self.until {
             return false;
@@ -50,7 +50,7 @@ impl Shrinking<'_> {
         kept
     }
 
-    /// Fewer columns and rows, with as many cells or without; and fewer cells alone.
+    /// Reduces columns and rows, with the cells if they match, and the cells alone.
     fn screen(&mut self) -> bool {
         let mut smaller = false;
         for fewer in [|size: u32| size / 2, |size: u32| size.saturating_sub(1)] {
@@ -67,7 +67,7 @@ impl Shrinking<'_> {
         smaller
     }
 
-    /// Drops halves, quarters and so on to single elements of a list of the input.
+    /// Drops halves, quarters and so on down to single elements of a list of the input.
     fn drop_from<T>(&mut self, list: fn(&mut Input) -> &mut Vec<T>) -> bool {
         let mut smaller = false;
         let mut part = list(&mut self.best).len();
@@ -87,7 +87,7 @@ impl Shrinking<'_> {
         smaller
     }
 
-    /// Gives each record less: style 0, letters in order, one cell, no whitespace; a plain head.
+    /// Simplifies each record: style 0, letters in order, width 1, no whitespace; a plain head.
     fn simplify(&mut self, records: fn(&mut Input) -> &mut Vec<u32>) -> bool {
         let mut smaller = false;
         for place in 0..records(&mut self.best).len() {
@@ -102,7 +102,7 @@ impl Shrinking<'_> {
         smaller
     }
 
-    /// Brings each number to 0, or closer to it.
+    /// Sets each number to 0, or closer to it.
     fn numbers(&mut self) -> bool {
         let mut smaller = false;
         for knob in [NUMBERS, AREA, SETTINGS, BLOCK, SYMBOLS].into_iter().flatten() {
@@ -120,7 +120,7 @@ impl Shrinking<'_> {
     }
 }
 
-/// Blanks all cells and makes all entries of the list 0.
+/// Blanks all cells and zeroes all entries of the list.
 fn blank(input: &mut Input) -> bool {
     let before = (input.cells.clone(), input.list.clone());
     input.cells.fill(BLANK);
@@ -128,7 +128,7 @@ fn blank(input: &mut Input) -> bool {
     before != (input.cells.clone(), input.list.clone())
 }
 
-/// Another size; where the cells were columns × rows, they stay so.
+/// Resizes the screen; if the cells were columns × rows, they stay columns × rows.
 fn resized(input: &mut Input, columns: u32, rows: u32) -> bool {
     let count = |columns, rows| u64::from(columns) * u64::from(rows);
     let changed = (input.columns, input.rows) != (columns, rows);
@@ -156,7 +156,7 @@ fn one_cell(record: u32, _: usize) -> u32 {
     if is_head(record) { record } else { record & !(7 << 7) | 1 << 7 }
 }
 
-/// A head of alignment left, its position kept, and its zeros 0.
+/// Returns the head with alignment left, the same position, and its zeros 0.
 fn aligned_left(record: u32, _: usize) -> u32 {
     if is_head(record) { 1 << 31 | record & 3 << 27 } else { record }
 }

@@ -1,4 +1,4 @@
-//! Ways to bring an input to the edge of what is accepted, and over it.
+//! Changes that bring an input to the edge of what is accepted, and past it.
 
 use crate::input::Input;
 use crate::knobs;
@@ -8,7 +8,7 @@ use crate::scenes;
 
 type Way = fn(&mut Input, &mut Random);
 
-/// Two ways at once, each with each, on a small input.
+/// Two changes at once, each pair, on a small input.
 pub fn pairs() -> u64 {
     (WAYS.len() * WAYS.len()) as u64
 }
@@ -21,7 +21,7 @@ pub fn pair(random: &mut Random, number: u64) -> Input {
     input
 }
 
-/// One to three ways.
+/// Applies one to three changes.
 pub fn some(input: &mut Input, random: &mut Random) {
     for _ in 0..1 + random.below(3) {
         random.pick(WAYS)(input, random);
@@ -93,7 +93,7 @@ const WAYS: &[Way] = &[
     |input, _| shorten(&mut input.list),
 ];
 
-/// The first number that names no case, or any above it.
+/// Returns the first invalid number, or any above it.
 fn above(random: &mut Random, first: u8) -> u8 {
     if random.once_in(2) { first } else { first + random.below(256 - u32::from(first)) as u8 }
 }
@@ -103,12 +103,12 @@ fn screen(input: &mut Input, columns: u32, rows: u32) {
     input.cells.resize((columns * rows) as usize, BLANK);
 }
 
-/// Takes the last element off.
+/// Removes the last element.
 fn shorten(list: &mut Vec<u64>) {
     list.truncate(list.len().saturating_sub(1));
 }
 
-/// Changes one element by a random bit.
+/// Changes one element with a random number.
 fn one_of<T: Copy>(list: &mut [T], random: &mut Random, change: fn(T, u32) -> T) {
     if !list.is_empty() {
         let place = random.below(list.len() as u32) as usize;
@@ -116,7 +116,7 @@ fn one_of<T: Copy>(list: &mut [T], random: &mut Random, change: fn(T, u32) -> T)
     }
 }
 
-/// Changes one head by a random bit; where there is none, one is added.
+/// Changes one head with a random number, adding a head if there is none.
 fn heads(records: &mut Vec<u32>, random: &mut Random, change: fn(u32, u32) -> u32) {
     let places: Vec<_> = (0..records.len()).filter(|place| is_head(records[*place])).collect();
     let place = if places.is_empty() { records.len() } else { random.pick(&places) };
@@ -126,7 +126,7 @@ fn heads(records: &mut Vec<u32>, random: &mut Random, change: fn(u32, u32) -> u3
     records[place] = change(records[place], random.below(1 << 16));
 }
 
-/// A text of so many records.
+/// Sets a text of `length` records.
 fn text(input: &mut Input, random: &mut Random, length: usize) {
     if input.text.is_empty() {
         input.text.push(head(3, 0));
@@ -135,14 +135,14 @@ fn text(input: &mut Input, random: &mut Random, length: usize) {
     input.text.resize(length, more);
 }
 
-/// So many titles of so many glyphs each.
+/// Sets `count` titles of `glyphs` glyphs each.
 fn titles(input: &mut Input, count: usize, glyphs: usize) {
     let mut title = vec![head(3, 2)];
     title.resize(1 + glyphs, glyph(116, 1, 0, 0));
     input.titles = title.repeat(count);
 }
 
-/// A style number that isn't below the count of styles, the first or any.
+/// Returns a style number that is out of range: the first one or any.
 fn unlent(input: &Input, random: &mut Random) -> u8 {
     above(random, input.styles.len().min(255) as u8)
 }

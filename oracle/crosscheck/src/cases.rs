@@ -40,12 +40,12 @@ pub fn case(random: &mut Random) -> Case {
 
 const ALIGNMENTS: [Alignment; 3] = [Alignment::Left, Alignment::Center, Alignment::Right];
 
-/// Mostly a letter, now and then any symbol.
+/// Returns a letter, or occasionally any symbol.
 fn symbol(random: &mut Random) -> u32 {
     if random.once_in(8) { random.below(1 << 21) } else { 97 + random.below(26) }
 }
 
-/// Mostly one cell wide, now and then of any width.
+/// Returns a glyph, mostly of width 1, occasionally of any width.
 fn glyph(random: &mut Random, styles: u32) -> u32 {
     let width = match random.below(10) {
         0 => 0,
@@ -57,7 +57,7 @@ fn glyph(random: &mut Random, styles: u32) -> u32 {
     symbol(random) << 10 | width << 7 | whitespace << 6 | random.below(styles)
 }
 
-/// Up to four lines of up to `most` glyphs.
+/// Returns up to four text lines of up to `most` glyphs.
 pub fn text(random: &mut Random, styles: u32, most: u32) -> Vec<u32> {
     let mut records = Vec::new();
     for _ in 0..random.below(5) {
@@ -73,7 +73,7 @@ fn title(random: &mut Random, styles: u32) -> Vec<u32> {
     records
 }
 
-/// A number below `small`, or now and then close to the end of 16 bits.
+/// Returns a number below `small`, or occasionally one near the end of the 16-bit range.
 fn size(random: &mut Random, small: u16) -> u16 {
     match random.below(40) {
         0 => u16::MAX - random.below16(4),
@@ -81,7 +81,7 @@ fn size(random: &mut Random, small: u16) -> u16 {
     }
 }
 
-/// A rectangle that mostly meets the screen and now and then lies far off or has no cell.
+/// Returns a rectangle that mostly intersects the screen; occasionally it is far off or empty.
 fn rect(random: &mut Random) -> Rect {
     let [x, y] = if random.once_in(2) { [0, 0] } else { [size(random, 5), size(random, 3)] };
     let [least_width, least_height] = if random.once_in(4) { [0, 0] } else { [5, 3] };

@@ -1,8 +1,8 @@
-//! Holds document 01's sentences, written out on their own in the crate `rules`, against the Rust's answers.
+//! Compares the crate `rules`, an independent implementation of document 01, with the Rust.
 //!
 //! Usage: `crosscheck [SEED]`. Short texts are tried exhaustively, long texts and whole notices at
 //! random. Prints what was compared, what was skipped and why, and the smallest input of each kind
-//! of difference; the exit status is 1 where there is one.
+//! of difference; the exit status is 1 if there is one.
 
 mod cases;
 mod notices;

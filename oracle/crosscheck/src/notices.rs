@@ -1,4 +1,4 @@
-//! Inner areas, blocks, notices, and how much room they need.
+//! Inner areas, blocks, notices and their measures.
 
 use oracle::{Notice, Outcome};
 use rules::screen::Screen;
@@ -64,8 +64,8 @@ fn block(report: &mut Report, case: &Case) {
     report.same("cells of a block", case, &Outcome::Value(screen.cells), &outcome.map(|()| cells));
 }
 
-/// A notice's counts are always compared. Its cells are, unless a glyph is clipped: then the Rust
-/// writes outside the area or panics. A panic without a clipped glyph is a difference.
+/// Compares a notice's counts, and its cells unless a glyph is clipped: then the Rust writes
+/// outside the area or panics. A panic without a clipped glyph is a difference.
 fn whole(report: &mut Report, case: &Case) {
     let Case { columns, rows, ref text, ref titles, area, notice, .. } = *case;
     let mut screen = screen(case);

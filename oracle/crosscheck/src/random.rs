@@ -1,4 +1,4 @@
-//! Numbers that look random and come again for the same seed (xorshift).
+//! Pseudo-random numbers, reproducible from a seed (xorshift).
 
 pub struct Random(u64);
 
@@ -15,17 +15,17 @@ impl Random {
         self.0
     }
 
-    /// A number below `end`.
+    /// Returns a number below `end`.
     pub fn below(&mut self, end: u32) -> u32 {
         (((self.word() >> 32) * u64::from(end)) >> 32) as u32
     }
 
-    /// A 16-bit number below `end`.
+    /// Returns a 16-bit number below `end`.
     pub fn below16(&mut self, end: u16) -> u16 {
         self.below(u32::from(end)) as u16
     }
 
-    /// True once in `times`.
+    /// Returns true once in `times`.
     pub fn once_in(&mut self, times: u32) -> bool {
         self.below(times) == 0
     }

@@ -1,4 +1,4 @@
-//! What was compared, what was skipped, what differs.
+//! Counts of what was compared, what was skipped, and what differs.
 
 use std::collections::BTreeMap;
 use std::fmt::Debug;
@@ -18,8 +18,8 @@ pub struct Report {
 }
 
 impl Report {
-    /// Compares document 01's answer with the Rust's. Of the inputs that differ, the one that is
-    /// shortest to write down is kept.
+    /// Compares document 01's answer with the Rust's. Keeps the differing input that is shortest
+    /// when formatted.
     pub fn same<T: Debug + PartialEq>(
         &mut self,
         topic: &'static str,
@@ -39,7 +39,7 @@ impl Report {
         }
     }
 
-    /// Counts an input of a kind that the reader should know the number of.
+    /// Counts an input of a kind that is reported.
     pub fn note(&mut self, kind: &'static str) {
         *self.notes.entry(kind).or_default() += 1;
     }

@@ -11,7 +11,7 @@ use crate::report::Report;
 /// Solid glyphs of width 0 to 3 and spaces of width 0 to 2, as (width, whitespace).
 const KINDS: [(u32, u32); 7] = [(0, 0), (1, 0), (2, 0), (3, 0), (0, 1), (1, 1), (2, 1)];
 
-/// Every text line of up to five glyphs of the seven kinds at the limits 1 to 5.
+/// Compares every text line of up to five glyphs of the seven kinds at limits 1 to 5.
 pub fn exhaustive(report: &mut Report) {
     for length in 0..=5 {
         for index in 0..KINDS.len().pow(length) {
@@ -26,8 +26,8 @@ pub fn exhaustive(report: &mut Report) {
                     compare(report, &text, Alignment::Left, limit, Wrap::On { trim });
                 }
                 for column in 0..=5 {
-                    for own in [Alignment::Left, Alignment::Right] {
-                        compare(report, &text, own, limit, Wrap::Off { column });
+                    for default_alignment in [Alignment::Left, Alignment::Right] {
+                        compare(report, &text, default_alignment, limit, Wrap::Off { column });
                     }
                 }
             }
@@ -35,34 +35,41 @@ pub fn exhaustive(report: &mut Report) {
     }
 }
 
-/// Random texts of up to four lines of up to sixty glyphs.
+/// Compares random texts of up to four text lines of up to sixty glyphs.
 pub fn at_random(report: &mut Report, random: &mut Random, count: u32) {
     for _ in 0..count {
         let text = cases::text(random, 64, 60);
-        let own = random.pick(&[Alignment::Left, Alignment::Center, Alignment::Right]);
+        let default_alignment =
+            random.pick(&[Alignment::Left, Alignment::Center, Alignment::Right]);
         let limit = random.pick(&[0, 1, 2, 3, 4, 5, 7, 10, 20, 4_096]);
         for wrap in [
             Wrap::On { trim: true },
             Wrap::On { trim: false },
             Wrap::Off { column: random.below16(30) },
         ] {
-            compare(report, &text, own, limit, wrap);
+            compare(report, &text, default_alignment, limit, wrap);
         }
     }
 }
 
-/// Composed lines, and where the text is wrapped its tally.
-fn compare(report: &mut Report, text: &[u32], own: Alignment, limit: u16, wrap: Wrap) {
-    let input = (text, own, limit, wrap);
-    let composed = compose(text, own, i64::from(limit), wrap).lines;
+/// Compares the composed lines and, if the text is wrapped, its tally.
+fn compare(
+    report: &mut Report,
+    text: &[u32],
+    default_alignment: Alignment,
+    limit: u16,
+    wrap: Wrap,
+) {
+    let input = (text, default_alignment, limit, wrap);
+    let composed = compose(text, default_alignment, i64::from(limit), wrap).lines;
     let document = Outcome::Value(composed.iter().map(listed).collect());
     match wrap {
         Wrap::Off { column } => {
-            let rust = oracle::truncated_lines(text, own, limit, column);
+            let rust = oracle::truncated_lines(text, default_alignment, limit, column);
             report.same("truncated lines", &input, &document, &rust);
         }
         Wrap::On { trim } => {
-            let rust = oracle::wrapped_lines(text, own, limit, trim);
+            let rust = oracle::wrapped_lines(text, default_alignment, limit, trim);
             report.same("wrapped lines", &input, &document, &rust);
             let spanned = rust.clone().map(|lines| respanned(text, limit, lines));
             report.same("glyphs from first to end", &input, &spanned, &rust);

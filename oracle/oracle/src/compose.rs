@@ -1,4 +1,4 @@
-//! The composed lines of a text, pulled from the crate's own composers.
+//! The composed lines of a text, pulled from the crate's `LineComposer`s.
 
 use ratatui_core::glyph::Glyph;
 use ratatui_core::layout::Alignment;
@@ -9,7 +9,7 @@ use ratatui_widgets::reflow::{LineComposer, LineTruncator, WordWrapper};
 use crate::outcome::{Outcome, ask};
 use crate::records::{HeadedLine, Records};
 
-/// A composed line: the record numbers of its glyphs, and what the crate says of it.
+/// A composed line: the record numbers of its glyphs, and the width and alignment from the crate.
 #[derive(Debug, Clone, PartialEq, Eq)]
 pub struct ComposedLine {
     pub glyphs: Vec<u32>,
@@ -18,17 +18,17 @@ pub struct ComposedLine {
 }
 
 impl ComposedLine {
-    /// The record number of the first glyph, 0 where there is none.
+    /// Returns the record number of the first glyph, or 0 if there is none.
     pub fn first(&self) -> u32 {
         self.glyphs.first().copied().unwrap_or(0)
     }
 
-    /// One past the record number of the last glyph, 0 where there is none.
+    /// Returns one past the record number of the last glyph, or 0 if there is none.
     pub fn end(&self) -> u32 {
         self.glyphs.last().map_or(0, |last| last + 1)
     }
 
-    /// The number of the alignment: 0 left, 1 centre, 2 right.
+    /// Returns the number of the alignment: 0 left, 1 centre, 2 right.
     pub fn alignment_number(&self) -> u32 {
         match self.alignment {
             Alignment::Left => 0,
@@ -46,45 +46,45 @@ impl ComposedLine {
     }
 }
 
-/// The lines of a text, wrapped: `WordWrapper::next_line` until `None`.
+/// Returns the wrapped lines of a text: `WordWrapper::next_line` until `None`.
 pub fn wrapped_lines(
     text: &[u32],
-    own: Alignment,
+    default_alignment: Alignment,
     limit: u16,
     trim: bool,
 ) -> Outcome<Vec<ComposedLine>> {
     ask(|| {
         let records = Records::new(text);
         let lines = records.lines(None);
-        pulled(WordWrapper::new(styled(&lines, own), limit, trim))
+        pulled(WordWrapper::new(styled(&lines, default_alignment), limit, trim))
     })
 }
 
-/// The lines of a text, truncated and scrolled to the right by `column`: `LineTruncator::next_line`
-/// until `None`. Swallowed glyphs aren't among a line's glyphs.
+/// Returns the truncated lines of a text, scrolled right by `column`: `LineTruncator::next_line`
+/// until `None`. A line's glyphs don't include swallowed ones.
 pub fn truncated_lines(
     text: &[u32],
-    own: Alignment,
+    default_alignment: Alignment,
     limit: u16,
     column: u16,
 ) -> Outcome<Vec<ComposedLine>> {
     ask(|| {
         let records = Records::new(text);
         let lines = records.lines(None);
-        let mut truncator = LineTruncator::new(styled(&lines, own), limit);
+        let mut truncator = LineTruncator::new(styled(&lines, default_alignment), limit);
         truncator.set_horizontal_offset(column);
         pulled(truncator)
     })
 }
 
-/// What paragraph.rs hands to a composer: each line's glyphs and its resolved alignment.
+/// Returns what paragraph.rs passes to a composer: each line's glyphs and its resolved alignment.
 fn styled<'a>(
     lines: &'a [HeadedLine<'a>],
-    own: Alignment,
+    default_alignment: Alignment,
 ) -> impl Iterator<Item = (impl Iterator<Item = StyledGrapheme<'a>>, Alignment)> {
     lines.iter().map(move |headed| {
         let line = &headed.line;
-        let alignment = line.alignment.unwrap_or(own);
+        let alignment = line.alignment.unwrap_or(default_alignment);
         (line.styled_graphemes(Style::new()), alignment)
     })
 }

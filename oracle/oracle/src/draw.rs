@@ -11,7 +11,7 @@ use crate::settings::{Alignment, Block, Notice, Rect, Wrap};
 use crate::tally::glyph_counts;
 use crate::widgets::{block, paragraph};
 
-/// The counts that the drawing of a notice answers.
+/// The counts that drawing a notice returns.
 #[derive(Debug, Default, Clone, Copy, PartialEq, Eq)]
 pub struct Drawn {
     pub rows: u32,
@@ -19,7 +19,7 @@ pub struct Drawn {
     pub clipped: u32,
 }
 
-/// Draws a block. Where the Rust panics the cells are left as they were.
+/// Draws a block. If the Rust panics, the cells are unchanged.
 pub fn draw_block(
     columns: u32,
     rows: u32,
@@ -34,9 +34,9 @@ pub fn draw_block(
     })
 }
 
-/// Draws a notice as a `Paragraph`, and counts as document 01 does. Where glyphs are clipped the
-/// Rust writes outside the inner area or panics, so the cells are not to be compared; where it
-/// panics they are left as they were, and [`notice_counts`] still counts.
+/// Draws a notice as a `Paragraph`, and counts as document 01 does. If glyphs are clipped, the Rust
+/// writes outside the inner area or panics, so the cells must not be compared; if it panics, they
+/// are unchanged, and [`notice_counts`] still counts.
 #[expect(clippy::too_many_arguments, reason = "the call of document 01 has these")]
 pub fn draw_notice(
     columns: u32,
@@ -56,8 +56,8 @@ pub fn draw_notice(
     outcome.and_then(|()| notice_counts(columns, rows, text, titles, area, settings))
 }
 
-/// The counts of a notice's drawing, by document 01's definitions, from the crate's inner area and
-/// composed lines.
+/// Returns the counts of a notice's drawing, by document 01's definitions, from the crate's inner
+/// area and composed lines.
 pub fn notice_counts(
     columns: u32,
     rows: u32,
@@ -102,7 +102,7 @@ fn start_column(line: &ComposedLine, columns: u16) -> u16 {
     }
 }
 
-/// Lets `draw` draw on a copy of the cells and keeps the copy unless it panics.
+/// Runs `draw` on a copy of the cells and keeps the copy unless it panics.
 fn drawn(
     columns: u32,
     rows: u32,
@@ -121,7 +121,7 @@ fn drawn(
     })
 }
 
-/// The screen as a rectangle.
+/// Returns the screen as a rectangle.
 fn screen(columns: u32, rows: u32) -> Rect {
     let side = |size| u16::try_from(size).expect("an accepted screen fits 16 bits");
     Rect::new(0, 0, side(columns), side(rows))

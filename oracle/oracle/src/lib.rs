@@ -1,9 +1,9 @@
-//! What ratatui-widgets 0.3.2 answers to the inputs of document 01.
+//! The answers of ratatui-widgets 0.3.2 to the inputs of document 01.
 //!
 //! Every function takes packed input as document 01 defines it, runs the unchanged Rust files over
-//! the stand-ins and packs what they give. Inputs that document 01 refuses are not for the oracle:
-//! it has no refusals, and what it answers to them means nothing. A panic of the Rust is an answer
-//! as well, [`Outcome::Panicked`].
+//! the stand-ins and packs their result. The oracle has no refusals: its answers to inputs that
+//! document 01 refuses are meaningless. A panic of the Rust is an answer as well,
+//! [`Outcome::Panicked`].
 
 mod compose;
 mod draw;

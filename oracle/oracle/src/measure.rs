@@ -1,4 +1,4 @@
-//! Sizes: the inner area, the space a frame takes, and how much room a text needs.
+//! Sizes: the inner area, the space that a frame takes, and a text's line count and width.
 
 use ratatui_widgets::paragraph::Paragraph;
 
@@ -44,7 +44,7 @@ pub fn proportional_padding(value: u16) -> Outcome<Padding> {
     ask(|| Padding::proportional(value))
 }
 
-/// Measures a notice of which only the size matters.
+/// Measures a notice whose styles and alignment don't matter.
 fn measured(
     text: &[u32],
     titles: &[u32],

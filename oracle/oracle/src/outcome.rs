@@ -1,11 +1,11 @@
-//! An answer of the Rust, or the panic that came in its place.
+//! An answer of the Rust, or its panic.
 
 use std::any::Any;
 use std::cell::Cell;
 use std::panic::{self, AssertUnwindSafe};
 use std::sync::Once;
 
-/// What the Rust did: it gave a value, or it panicked with a message.
+/// What the Rust did: returned a value, or panicked with a message.
 #[derive(Debug, Clone, PartialEq, Eq)]
 pub enum Outcome<T> {
     Value(T),
@@ -13,7 +13,7 @@ pub enum Outcome<T> {
 }
 
 impl<T> Outcome<T> {
-    /// The value changed by `f`; a panic stays.
+    /// Applies `f` to the value; a panic stays.
     pub fn map<U>(self, f: impl FnOnce(T) -> U) -> Outcome<U> {
         match self {
             Self::Value(value) => Outcome::Value(f(value)),
@@ -21,7 +21,7 @@ impl<T> Outcome<T> {
         }
     }
 
-    /// The outcome that `f` makes of the value; a panic stays.
+    /// Returns the outcome of `f` on the value; a panic stays.
     pub fn and_then<U>(self, f: impl FnOnce(T) -> Outcome<U>) -> Outcome<U> {
         match self {
             Self::Value(value) => f(value),
@@ -31,11 +31,11 @@ impl<T> Outcome<T> {
 }
 
 thread_local! {
-    /// Whether this thread is asking the Rust for an answer.
+    /// Whether this thread is running the Rust.
     static ASKING: Cell<bool> = const { Cell::new(false) };
 }
 
-/// Asks for an answer and catches its panic.
+/// Runs `question` and catches its panic.
 pub fn ask<T>(question: impl FnOnce() -> T) -> Outcome<T> {
     silence_while_asking();
     let before = ASKING.replace(true);
@@ -47,7 +47,7 @@ pub fn ask<T>(question: impl FnOnce() -> T) -> Outcome<T> {
     }
 }
 
-/// A caught panic is part of an answer and prints nothing; any other prints as ever.
+/// Installs a panic hook that prints nothing for a caught panic; any other prints as usual.
 fn silence_while_asking() {
     static HOOK: Once = Once::new();
     HOOK.call_once(|| {

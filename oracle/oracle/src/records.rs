@@ -1,4 +1,4 @@
-//! Records turned into the lines that the Rust files take.
+//! Converts records to the lines that the Rust files take.
 
 use ratatui_core::glyph::{Glyph, SYMBOL_LENGTH};
 use ratatui_core::layout::Alignment;
@@ -6,10 +6,10 @@ use ratatui_core::style::Style;
 use ratatui_core::text::{Line, Span};
 use ratatui_widgets::block::TitlePosition;
 
-/// The styles lent to a call. A call that is lent none draws nothing, and any style will do.
+/// The styles passed to a call. A call without styles draws nothing, so any style will do.
 pub type Styles<'a> = Option<&'a [u64]>;
 
-/// The style of a number.
+/// Returns the style with a number.
 pub fn style(styles: Styles<'_>, number: u8) -> Style {
     styles.map_or_else(Style::new, |lent| Style::from_packed(lent[usize::from(number)]))
 }
@@ -19,7 +19,7 @@ pub fn is_head(record: u32) -> bool {
     record >> 31 == 1
 }
 
-/// The glyphs of some records, with their record numbers.
+/// Returns the glyphs among records, with their record numbers.
 pub fn glyphs(records: &[u32]) -> impl Iterator<Item = Glyph> {
     (0..)
         .zip(records)
@@ -27,14 +27,14 @@ pub fn glyphs(records: &[u32]) -> impl Iterator<Item = Glyph> {
         .map(|(number, &record)| Glyph { record, number })
 }
 
-/// A line with the position that its head gives, for titles.
+/// A line with the position in its head, for titles.
 pub struct HeadedLine<'a> {
     pub position: Option<TitlePosition>,
     pub line: Line<'a>,
 }
 
-/// The records of a text or of titles, with their symbol strings one after the other. Lines borrow
-/// from it.
+/// The records of a text or of titles, with their symbol strings concatenated. Lines borrow from
+/// it.
 pub struct Records<'r> {
     records: &'r [u32],
     symbols: String,
@@ -66,8 +66,8 @@ impl<'r> Records<'r> {
     }
 }
 
-/// The line that a head opens: "alignment 2 (0 left, 1 centre, 2 right, 3 the notice's own) |
-/// position 2", which is "0 top, 1 bottom, 2 the block's".
+/// Returns the line that a head opens: "alignment 2 (0 left, 1 centre, 2 right, 3 the notice's
+/// own) | position 2", which is "0 top, 1 bottom, 2 the block's".
 fn opened<'a>(head: u32) -> HeadedLine<'a> {
     let alignment = match head >> 29 & 0b11 {
         0 => Some(Alignment::Left),

@@ -25,14 +25,14 @@ pub struct BorderSet {
     pub horizontal_bottom: u32,
 }
 
-/// What a shadow does to its cells beyond styling them.
+/// What a shadow does to its cells after styling them.
 #[derive(Debug, Clone, Copy, PartialEq, Eq)]
 pub enum Effect {
     Overlay,
     Symbol(u32),
 }
 
-/// A block's shadow, moved by x and y.
+/// A block's shadow, offset by x and y.
 #[derive(Debug, Default, Clone, Copy, PartialEq, Eq)]
 pub enum Shadow {
     #[default]
@@ -45,7 +45,7 @@ pub enum Shadow {
     },
 }
 
-/// A frame without its titles, which are records of their own.
+/// A block without its titles, which are separate records.
 #[derive(Debug, Default, Clone, Copy, PartialEq, Eq)]
 pub struct Block {
     pub borders: Borders,
@@ -59,16 +59,16 @@ pub struct Block {
     pub shadow: Shadow,
 }
 
-/// How text lines become rows.
+/// How lines are composed.
 #[derive(Debug, Clone, Copy, PartialEq, Eq)]
 pub enum Wrap {
-    /// Truncated, and scrolled to the right by `column`.
+    /// Truncated, and scrolled right by `column`.
     Off { column: u16 },
-    /// Wrapped at words.
+    /// Word-wrapped.
     On { trim: bool },
 }
 
-/// A framed notice without its text, which is records.
+/// A framed notice without its text, which is separate records.
 #[derive(Debug, Clone, Copy, PartialEq, Eq)]
 pub struct Notice {
     pub block: Block,

@@ -1,4 +1,4 @@
-//! Document 01's tally of a text, taken from the crate's composed lines.
+//! Document 01's tally of a text, computed from the crate's composed lines.
 
 use std::collections::BTreeSet;
 
@@ -9,7 +9,7 @@ use crate::outcome::Outcome;
 use crate::records::glyphs;
 use crate::settings::Alignment;
 
-/// The tally's counts, by document 01's names.
+/// The tally's counts, under document 01's names.
 #[derive(Debug, Default, Clone, Copy, PartialEq, Eq)]
 pub struct Tally {
     pub lines: u32,
@@ -20,8 +20,8 @@ pub struct Tally {
     pub dropped: u32,
 }
 
-/// The tally of a text at a limit. The crate drops glyphs without saying so: dropped are those
-/// that are neither emitted nor wider than the limit.
+/// Returns the tally of a text at a limit. The crate drops glyphs silently: dropped are those that
+/// are neither emitted nor wider than the limit.
 pub fn tally(text: &[u32], limit: u16, trim: bool) -> Outcome<Tally> {
     if limit == 0 {
         return Outcome::Value(Tally::default());
@@ -47,14 +47,14 @@ pub fn tally(text: &[u32], limit: u16, trim: bool) -> Outcome<Tally> {
     })
 }
 
-/// How a line's glyphs fare.
+/// Counts of a composed line's glyphs.
 pub struct GlyphCounts {
     pub placed: u32,
     pub clipped: u32,
     pub zero_width: u32,
 }
 
-/// The glyphs of a line that starts at column `offset` of `columns`: "placed are emitted glyphs of
+/// Counts the glyphs of a line that starts at column `offset`: "placed are emitted glyphs of
 /// width above 0 that start below the limit", "clipped (emitted, of width above 0, start at or past
 /// the limit)".
 pub fn glyph_counts(text: &[u32], line: &ComposedLine, offset: u16, columns: u16) -> GlyphCounts {

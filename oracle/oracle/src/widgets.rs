@@ -1,4 +1,4 @@
-//! Settings and records turned into the widgets of the Rust files.
+//! Converts settings and records to the widgets of the Rust files.
 
 use std::collections::BTreeMap;
 use std::sync::Mutex;
@@ -14,7 +14,7 @@ use ratatui_widgets::paragraph::{self, Paragraph};
 use crate::records::{Records, Styles, style};
 use crate::settings::{Block, BorderSet, Borders, Effect, Notice, Shadow, TitlePosition, Wrap};
 
-/// The crate's block, titles and all.
+/// Returns the crate's block, with titles.
 pub fn block<'a>(settings: Block, titles: &'a Records<'_>, styles: Styles<'_>) -> block::Block<'a> {
     let mut block = block::Block::new()
         .borders(borders(settings.borders))
@@ -38,7 +38,7 @@ pub fn block<'a>(settings: Block, titles: &'a Records<'_>, styles: Styles<'_>) -
     }
 }
 
-/// The crate's paragraph, without its block.
+/// Returns the crate's paragraph, without its block.
 pub fn paragraph<'a>(settings: Notice, text: &'a Records<'_>, styles: Styles<'_>) -> Paragraph<'a> {
     let paragraph = Paragraph::new(Text {
         lines: text.lines(styles).into_iter().map(|headed| headed.line).collect(),
@@ -90,8 +90,8 @@ fn shadow(settings: Shadow, styles: Styles<'_>) -> Option<block::Shadow> {
     }
 }
 
-/// The symbol string of a border or a shadow. block/shadow.rs wants it to live for ever, so each
-/// is made once and kept.
+/// Returns the symbol string of a border or shadow. block/shadow.rs requires `'static`, so each is
+/// created once and leaked.
 fn symbol(number: u32) -> &'static str {
     static KEPT: Mutex<BTreeMap<u32, &str>> = Mutex::new(BTreeMap::new());
     let glyph = Glyph::from_symbol(number);

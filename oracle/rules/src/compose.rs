@@ -19,14 +19,14 @@ pub struct Text {
     pub dropped: Vec<Glyph>,
 }
 
-pub fn compose(records: &[u32], own: Alignment, limit: i64, wrap: Wrap) -> Text {
+pub fn compose(records: &[u32], default_alignment: Alignment, limit: i64, wrap: Wrap) -> Text {
     let mut text = Text::default();
     if limit == 0 {
         return text;
     }
     for line in lines(records) {
-        let alignment =
-            [Alignment::Left, Alignment::Center, Alignment::Right, own][line.alignment as usize];
+        let alignment = [Alignment::Left, Alignment::Center, Alignment::Right, default_alignment]
+            [line.alignment as usize];
         let composed = match wrap {
             Wrap::On { trim } => wrapped(&line, limit, trim, &mut text),
             Wrap::Off { column } => vec![truncated(&line, limit, i64::from(column), alignment)],
@@ -43,12 +43,12 @@ fn wrapped(line: &Line, limit: i64, trim: bool, text: &mut Text) -> Vec<Vec<Glyp
     let mut previous_solid = false;
     for &glyph in &line.glyphs {
         let w = glyph.width;
-        // 1.
+        // Step 1.
         if w > limit {
             text.over_wide.push(glyph);
             continue;
         }
-        // 2.
+        // Step 2.
         let overflows = if trim {
             width(&word) + w > limit || width(&spaces) + w > limit
         } else {
@@ -61,7 +61,7 @@ fn wrapped(line: &Line, limit: i64, trim: bool, text: &mut Text) -> Vec<Vec<Glyp
             row.append(&mut word);
             text.dropped.append(&mut spaces);
         }
-        // 3.
+        // Step 3.
         let pending = width(&row) + width(&spaces) + width(&word);
         if width(&row) >= limit || w > 0 && pending >= limit {
             let mut room = (limit - width(&row)).max(0);
@@ -75,7 +75,7 @@ fn wrapped(line: &Line, limit: i64, trim: bool, text: &mut Text) -> Vec<Vec<Glyp
                 continue;
             }
         }
-        // 4.
+        // Step 4.
         if glyph.space { &mut spaces } else { &mut word }.push(glyph);
         previous_solid = !glyph.space;
     }

@@ -1,4 +1,4 @@
-//! 'Inner area and frame', titles apart.
+//! 'Inner area and frame', except titles.
 
 use oracle::{Block, Effect, Shadow, TitlePosition};
 
@@ -47,7 +47,7 @@ pub fn met(area: Area, screen: &Screen) -> Area {
     }
 }
 
-/// The frame over the met area, from the block style to the shadow.
+/// Draws the frame over the met area, from the block style to the shadow.
 pub fn draw(screen: &mut Screen, block: &Block, titles: &[Line], area: Area) {
     if area.is_empty() {
         return;

@@ -1,6 +1,6 @@
-//! Document 01 written out, sentence by sentence, on plain numbers and lists. Nothing here is
-//! shared with the stand-ins; only the types of settings and counts are the oracle's. `crosscheck`
-//! holds it against the Rust, and `vectors` takes the answers from here where a glyph is clipped.
+//! A second implementation of document 01, sentence by sentence, on plain numbers and lists. It
+//! shares nothing with the stand-ins; only the types of settings and counts are the oracle's.
+//! `crosscheck` compares it with the Rust, and `vectors` uses its answer if a glyph is clipped.
 
 pub mod compose;
 pub mod frame;
@@ -26,7 +26,7 @@ pub struct Line {
     pub glyphs: Vec<Glyph>,
 }
 
-/// The lines of some records; "a head opens a line".
+/// Splits records into lines; "a head opens a line".
 pub fn lines(records: &[u32]) -> Vec<Line> {
     let mut lines: Vec<Line> = Vec::new();
     for (number, &record) in (0..).zip(records) {

@@ -29,7 +29,7 @@ pub fn line_width(text: &[u32], block: &Block) -> u32 {
     widest.unwrap_or(0) as u32 + left + space(block.padding.right, block.borders.right)
 }
 
-/// What a frame takes on one side: its padding, and 1 for a border or title.
+/// Returns the space that a frame takes on one side: its padding, and 1 for a border or title.
 fn space(padding: u16, taken: bool) -> u32 {
     held(i64::from(padding) + i64::from(taken)) as u32
 }

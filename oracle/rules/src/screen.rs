@@ -2,7 +2,7 @@
 
 use oracle::Rect;
 
-/// A rectangle in plain numbers.
+/// A rectangle of unbounded numbers.
 #[derive(Debug, Clone, Copy)]
 pub struct Area {
     pub x: i64,
@@ -45,7 +45,7 @@ pub struct Screen {
 }
 
 impl Screen {
-    /// Changes the cells of the screen whose column and row are chosen.
+    /// Changes the cells of the screen whose column and row satisfy `chosen`.
     fn change(&mut self, chosen: impl Fn(i64, i64) -> bool, change: impl Fn(u64) -> u64) {
         for row in 0..self.rows {
             for column in 0..self.columns {

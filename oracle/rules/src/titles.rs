@@ -1,5 +1,5 @@
-//! Titles: 'Inner area and frame' with the rules of `render_left_titles`, `render_center_titles`
-//! and `render_right_titles`, to which it refers.
+//! Titles: 'Inner area and frame', with the rules of `render_left_titles`, `render_center_titles`
+//! and `render_right_titles` to which it refers.
 
 use oracle::{Alignment, Block, TitlePosition};
 
@@ -103,7 +103,7 @@ fn draw_title(
 ) {
     screen.style(style, |x, y| area.holds(x, y));
     let (t, w) = (width(&title.glyphs), area.width);
-    // Right: a start of w - t, or where that is negative as many hidden columns.
+    // Right: starts at w - t; if that is negative, that many columns are hidden.
     let from = if alignment == Some(Alignment::Right) { w - t } else { 0 };
     for (place, glyph) in title.glyphs.iter().enumerate() {
         let start = from + width(&title.glyphs[..place]);

@@ -21,7 +21,7 @@ pub fn run(report: &mut Report) {
 
 const ALL: Borders = Borders { top: true, right: true, bottom: true, left: true };
 
-/// A frame of letters, so that each of the eight parts is told apart.
+/// Returns a frame with a distinct symbol for each of its eight parts.
 pub fn bordered() -> Block {
     let symbol = u32::from;
     Block {
@@ -77,7 +77,7 @@ fn borders(report: &mut Report) {
     report.same("one cell: the top left corner is last", Outcome::Value("1".to_owned()), got);
 }
 
-/// The row that titles make of a block without borders.
+/// Returns the row that titles draw on a block without borders.
 fn title_row(columns: u16, titles: &[Vec<u32>], titles_alignment: Alignment) -> Outcome<String> {
     let mut screen = Screen::blank(u32::from(columns), 1);
     let area = Rect::new(0, 0, columns, 1);
@@ -130,7 +130,7 @@ fn shadows(report: &mut Report) {
     }
 }
 
-/// An overlay styles its cells, keeps their symbols and spares the block's own.
+/// An overlay styles its cells, keeps their symbols and leaves the block's cells unchanged.
 fn overlay(report: &mut Report) {
     let background = 1 << 54 | 100 << 46;
     let mut screen = Screen::blank(3, 1).with_styles(&[0, background]);

@@ -16,8 +16,8 @@ pub fn run(report: &mut Report) {
     report.same("listlines of \"___abc\"", Outcome::Value(expected), listed(&input));
 }
 
-/// What `listlines` prints for an accepted input: "high byte first, limit (2 bytes), trim (byte 0
-/// or 1), then records of 4 bytes".
+/// Returns what `listlines` prints for an accepted input: "high byte first, limit (2 bytes), trim
+/// (byte 0 or 1), then records of 4 bytes".
 fn listed(input: &[u8]) -> Outcome<String> {
     let limit = u16::from_be_bytes([input[0], input[1]]);
     let trim = input[2] == 1;

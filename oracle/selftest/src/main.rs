@@ -1,7 +1,7 @@
-//! Holds the oracle against the worked examples of document 01.
+//! Checks the oracle on the worked examples of document 01.
 //!
 //! Prints `ok NAME` or `FAILED NAME: expected .. got ..` for each, then `N passed, M failed`; the
-//! exit status is 1 where one failed.
+//! exit status is 1 if one failed.
 
 mod frame;
 mod listlines;

@@ -6,12 +6,12 @@ use oracle::ComposedLine;
 /// The blank symbol.
 pub const BLANK: u32 = 32;
 
-/// A head that opens a line of a text, or a title at the top: 0 left, 1 centre, 2 right, 3 none.
+/// Returns the head of a text line, or of a title at the top: 0 left, 1 centre, 2 right, 3 none.
 pub const fn head(alignment: u32) -> u32 {
     1 << 31 | alignment << 29
 }
 
-/// The record of a letter, its style number 0.
+/// Returns the record of a letter, with style number 0.
 pub const fn glyph(letter: char) -> u32 {
     let (symbol, width, whitespace) = match letter {
         '_' => (BLANK, 1, 1),
@@ -23,13 +23,13 @@ pub const fn glyph(letter: char) -> u32 {
     symbol << 10 | width << 7 | whitespace << 6
 }
 
-/// The records of one line.
+/// Returns the records of one text line.
 pub fn line(alignment: u32, letters: &str) -> Vec<u32> {
     let glyphs = letters.chars().map(glyph);
     std::iter::once(head(alignment)).chain(glyphs).collect()
 }
 
-/// The letter of a symbol.
+/// Returns the letter of a symbol.
 pub fn letter(symbol: u32) -> char {
     match symbol {
         BLANK => '_',
@@ -37,7 +37,7 @@ pub fn letter(symbol: u32) -> char {
     }
 }
 
-/// Composed lines in letters, a bar between two.
+/// Formats composed lines as letters, with a bar between lines.
 pub fn shown(text: &[u32], lines: &[ComposedLine]) -> String {
     let letters = |line: &ComposedLine| {
         let records = line.glyphs.iter().map(|&number| text[number as usize]);

@@ -18,7 +18,7 @@ pub fn run(report: &mut Report) {
     measuring(report);
 }
 
-/// A wrapped, trimmed notice without a frame.
+/// Returns a wrapped, trimmed notice without a frame.
 pub fn plain() -> Notice {
     Notice {
         block: Block::default(),
@@ -78,8 +78,8 @@ fn scrolling(report: &mut Report) {
     }
 }
 
-/// "___aWWx" in four columns: x is clipped. The Rust writes it past the area, or panics where that
-/// is off the screen.
+/// "___aWWx" in four columns: x is clipped. The Rust writes it past the area, or panics if that is
+/// off the screen.
 fn clipping(report: &mut Report) {
     let text = line(0, "___aWWx");
     let area = Rect::new(0, 0, 4, 2);

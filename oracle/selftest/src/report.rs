@@ -1,4 +1,4 @@
-//! One line for each example, and the sum of them.
+//! Prints one line for each example, and the totals.
 
 use std::fmt::Debug;
 use std::process::ExitCode;

@@ -7,10 +7,10 @@ use crate::notation::letter;
 /// A blank cell: symbol 32 and zeros.
 pub const BLANK_CELL: u64 = 32 << 43;
 
-/// A style that changes nothing, under number 0.
+/// A style table whose only style, number 0, changes nothing.
 pub const PLAIN: &[u64] = &[0];
 
-/// A screen with the styles that are lent for drawing on it.
+/// A screen and the style table for drawing on it.
 pub struct Screen {
     pub columns: u32,
     pub rows: u32,
@@ -19,7 +19,7 @@ pub struct Screen {
 }
 
 impl Screen {
-    /// A screen of one cell repeated.
+    /// Returns a screen filled with one cell.
     pub fn filled(columns: u32, rows: u32, cell: u64) -> Self {
         Self { columns, rows, cells: vec![cell; (columns * rows) as usize], styles: PLAIN.to_vec() }
     }
@@ -63,7 +63,7 @@ impl Screen {
         )
     }
 
-    /// The symbols as letters, a bar between rows.
+    /// Returns the symbols as letters, with a bar between rows.
     pub fn symbols(&self) -> String {
         let row = |cells: &[u64]| -> String {
             cells.iter().map(|cell| letter((cell >> 43) as u32)).collect()

@@ -1,5 +1,5 @@
 //! "Applying it sets the given colours, then sets the add bits, then clears the remove bits", and
-//! the order in which styles are laid.
+//! the order in which styles are applied.
 
 use oracle::{Block, Notice, Outcome, Rect};
 
@@ -14,7 +14,7 @@ pub fn run(report: &mut Report) {
     text_style_then_own(report);
 }
 
-/// A style without colours.
+/// Returns a style without colours.
 const fn modifiers(add: u64, remove: u64) -> u64 {
     add << 37 | remove << 28
 }
@@ -55,18 +55,18 @@ fn colours(report: &mut Report) {
     report.same("colours: the glyph's own come last", Outcome::Value(expected), got);
 }
 
-/// A text of one glyph whose own style is number 2.
+/// Returns a text of one glyph with style number 2.
 fn styled_glyph() -> Vec<u32> {
     vec![head(0), glyph('a') | 2]
 }
 
-/// A notice whose text style is number 1.
+/// Returns a notice with text style number 1.
 fn styled_notice() -> Notice {
     Notice { text_style: 1, ..plain() }
 }
 
-/// The two styles reach the cell combined into one. Every way in which two styles can treat one
-/// bit, each on a clear and on a set bit, must end as the two applied in turn.
+/// The Rust combines the two styles before applying them. For every combination of two styles on
+/// one bit, clear and set, the result must be that of applying both in turn.
 fn text_style_then_own(report: &mut Report) {
     let apply = |bit: u64, (add, remove): (u64, u64)| (bit | add) & !remove;
     let ways = [(0, 0), (1, 0), (0, 1), (1, 1)];

@@ -41,7 +41,7 @@ fn wrapped_examples(report: &mut Report) {
     report.same("limit 0 gives no line", Outcome::Value(vec![]), none);
 }
 
-/// First, end, width and alignment, and their packed word.
+/// First, end, width and alignment, and the packed entry.
 fn entries(report: &mut Report) {
     let packed = |lines: Vec<ComposedLine>| lines.iter().map(ComposedLine::packed).collect();
     let text = line(0, "___abc");

@@ -1,4 +1,4 @@
-//! Blocks, and what is asked about them: `crates/blockcases` makes the same.
+//! Test blocks and the answers on them: `crates/test_blocks` generates the same blocks.
 
 pub mod areas;
 pub mod drawn;
@@ -15,7 +15,7 @@ use oracle::{Block, Outcome, Rect};
 use crate::sums::{sum_entries, sum_numbers};
 use crate::{Part, Question};
 
-/// What a case asks about. An inner area has no screen.
+/// A test case. One for the inner area has no screen.
 pub struct Case {
     pub block: Block,
     pub area: Rect,
@@ -26,25 +26,26 @@ pub struct Case {
     pub cells: Vec<u64>,
 }
 
-pub const INNER: Question<Case> = Question { file: "replayblocks/data/inner", ask: inner_area };
+pub const INNER: Question<Case> = Question { file: "replay_blocks/data/inner", ask: inner_area };
 
 pub const AREAS: [Part<Case>; 1] = [Part { name: "areas", count: 49_000, case: inner::case }];
 
-pub const DRAWN: Question<Case> = Question { file: "replayblocks/data/blocks", ask: drawn_cells };
+pub const DRAWN: Question<Case> = Question { file: "replay_blocks/data/blocks", ask: drawn_cells };
 
 pub const SCREENS: [Part<Case>; 2] = [
     Part { name: "small screens", count: 40_000, case: drawn::small },
     Part { name: "large screens", count: 48, case: drawn::large },
 ];
 
-pub const TITLED: Question<Case> = Question { file: "replayblocks/data/titled", ask: drawn_cells };
+pub const TITLED: Question<Case> = Question { file: "replay_blocks/data/titled", ask: drawn_cells };
 
 pub const TITLED_SCREENS: [Part<Case>; 2] = [
     Part { name: "small screens", count: 48_000, case: titled::small },
     Part { name: "wide screens", count: 1_536, case: titled::wide },
 ];
 
-/// The inner area, and what the frame takes at the left, right, top and bottom.
+/// Returns the checksum of the inner area and the space that the block takes on the left, right,
+/// top and bottom.
 fn inner_area(case: &Case) -> Outcome<u32> {
     let Case { block, area, ref titles, .. } = *case;
     oracle::inner(block, titles, area).and_then(|Rect { x, y, width, height }| {
@@ -56,7 +57,7 @@ fn inner_area(case: &Case) -> Outcome<u32> {
     })
 }
 
-/// Every cell of the screen after the drawing.
+/// Draws the block and returns the checksum of all cells.
 fn drawn_cells(case: &Case) -> Outcome<u32> {
     let (columns, rows) = (u32::from(case.columns), u32::from(case.rows));
     let Case { block, area, ref titles, ref styles, .. } = *case;

@@ -1,18 +1,17 @@
-//! Writes what the Rust answered for `crates/replay`, `crates/replayblocks` and
-//! `crates/replaynotices`, which make the same cases and compare.
+//! Writes the Rust's answers for `crates/replay_texts`, `crates/replay_blocks` and
+//! `crates/replay_notices`, which generate the same cases and compare.
 //!
-//! Usage: `vectors [FOLDER]`, from the repository's root; the folder is `crates` where none is
-//! given. It gets a file for each question: `wrapped`, `tally`, `truncated` and `measures` in
-//! `replay/data`, `inner`, `blocks` and `titled` in `replayblocks/data`, `notices` in
-//! `replaynotices/data`. A file has a sum of the answer to each case, 4 bytes each, high byte first:
-//! those of short lines, of several lines and of long texts; those of inner areas; those of blocks
-//! without titles on small screens and on large ones; those of blocks with titles on small screens
-//! and on wide ones; those of notices on narrow, small and large screens. A panic of the Rust ends it
-//! with exit status 1.
+//! Usage: `vectors [FOLDER]`, from the repository's root; FOLDER is `crates` by default. Writes one
+//! file for each question into the `data` folder of the crate that reads it: `wrapped`, `tally`,
+//! `truncated` and `measures` for texts, `inner`, `blocks` and `titled` for blocks, `notices` for
+//! notices. A file has the checksum of the answer to each case, 4 bytes each, high byte first:
+//! texts of short lines, of several lines and long texts; inner areas; blocks without titles on
+//! small and on large screens; blocks with titles on small and on wide screens; notices on narrow,
+//! small and large screens. A panic of the Rust ends the program with exit status 1.
 //!
-//! A notice that clips a glyph is the one case that the Rust isn't asked about: it writes the glyph
-//! outside the area or panics. Document 01's answer, by the crate `rules`, stands in the file, and
-//! the cases are counted.
+//! A notice that clips a glyph is the one case not answered by the Rust, which writes the glyph
+//! outside the area or panics. The file has document 01's answer, by the crate `rules`, and these
+//! cases are counted.
 
 mod blocks;
 mod notices;
@@ -26,14 +25,14 @@ use std::process::ExitCode;
 
 use oracle::Outcome;
 
-/// A part of the cases: how many it has, and the case of a number.
+/// A part of the cases: their number, and a function from a number to its case.
 pub struct Part<C> {
     pub name: &'static str,
     pub count: u32,
     pub case: fn(u32) -> C,
 }
 
-/// A question: its file, and the sum of the Rust's answer about a case.
+/// A question: its file, and the checksum of the Rust's answer on a case.
 pub struct Question<C> {
     pub file: &'static str,
     pub ask: fn(&C) -> Outcome<u32>,
@@ -64,7 +63,7 @@ fn write_all(folder: &Path) -> Result<(), String> {
     Ok(())
 }
 
-/// Writes the file of a question: the sums of some parts in their order.
+/// Writes the file of a question: the checksums of its parts in order.
 fn write<C>(folder: &Path, question: &Question<C>, parts: &[Part<C>]) -> Result<(), String> {
     let mut data = Vec::new();
     for part in parts {
@@ -79,7 +78,7 @@ fn write<C>(folder: &Path, question: &Question<C>, parts: &[Part<C>]) -> Result<
         .map_err(|error| format!("{}: {error}", question.file))
 }
 
-/// The sum of the Rust's answer.
+/// Returns the checksum of the Rust's answer.
 fn answer<C>(question: &Question<C>, case: &C) -> Result<u32, String> {
     match (question.ask)(case) {
         Outcome::Value(sum) => Ok(sum),

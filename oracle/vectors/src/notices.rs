@@ -1,4 +1,4 @@
-//! Notices, and what is asked about them: `crates/noticecases` makes the same.
+//! Test notices and the answers on them: `crates/test_notices` generates the same notices.
 
 mod drawn;
 mod kinds;
@@ -13,7 +13,7 @@ use rules::screen::Screen;
 use crate::sums::{sum_entries, sum_numbers};
 use crate::{Part, Question};
 
-/// What a case asks about.
+/// A test case.
 pub struct Case {
     pub notice: Notice,
     pub area: Rect,
@@ -26,7 +26,7 @@ pub struct Case {
 }
 
 pub const DRAWN: Question<Case> =
-    Question { file: "replaynotices/data/notices", ask: counts_and_cells };
+    Question { file: "replay_notices/data/notices", ask: counts_and_cells };
 
 pub const SCREENS: [Part<Case>; 3] = [
     Part { name: "narrow screens", count: 30_000, case: drawn::narrow },
@@ -34,7 +34,7 @@ pub const SCREENS: [Part<Case>; 3] = [
     Part { name: "large screens", count: 480, case: drawn::large },
 ];
 
-/// The rows drawn, the glyphs placed and clipped, and every cell of the screen after the drawing.
+/// Returns the checksum of the rows drawn, the glyphs placed and clipped, and all cells.
 fn counts_and_cells(case: &Case) -> Outcome<u32> {
     counts(case).and_then(|counted| match counted.clipped {
         0 => by_the_rust(case),
@@ -42,13 +42,13 @@ fn counts_and_cells(case: &Case) -> Outcome<u32> {
     })
 }
 
-/// How many rows and glyphs a case draws, by the Rust's composed lines.
+/// Counts the rows and glyphs that a case draws, by the Rust's composed lines.
 fn counts(case: &Case) -> Outcome<Drawn> {
     let Case { notice, area, ref text, ref titles, columns, rows, .. } = *case;
     oracle::notice_counts(columns.into(), rows.into(), text, titles, area, notice)
 }
 
-/// The answer of the Rust, which is right where no glyph is clipped.
+/// Returns the Rust's answer, which is right if no glyph is clipped.
 fn by_the_rust(case: &Case) -> Outcome<u32> {
     let Case { notice, area, ref text, ref titles, columns, rows, ref styles, .. } = *case;
     let mut cells = case.cells.clone();
@@ -56,8 +56,8 @@ fn by_the_rust(case: &Case) -> Outcome<u32> {
         .map(|drawn| sum_drawn(drawn, cells))
 }
 
-/// The answer of document 01, written out in the crate `rules`, for a case with a clipped glyph:
-/// the Rust writes it outside the area or panics.
+/// Returns document 01's answer, by the crate `rules`, for a case with a clipped glyph, which the
+/// Rust writes outside the area or panics on.
 fn by_the_rules(case: &Case) -> u32 {
     let mut screen = Screen {
         columns: case.columns.into(),
@@ -70,7 +70,7 @@ fn by_the_rules(case: &Case) -> u32 {
     sum_drawn(drawn, screen.cells)
 }
 
-/// The sum of the counts, then of the cells' own sum.
+/// Returns the checksum of the counts, then of the cells' checksum.
 fn sum_drawn(drawn: Drawn, cells: Vec<u64>) -> u32 {
     let Drawn { rows, placed, clipped } = drawn;
     sum_numbers([rows, placed, clipped, sum_entries(cells.into_iter())])

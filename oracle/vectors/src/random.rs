@@ -1,6 +1,6 @@
-//! Numbers that look random and come again: `crates/cases` makes the same.
+//! Reproducible pseudo-random numbers, the same as in `crates/test_texts`.
 
-/// The first number of a case.
+/// Returns the first random number of a case.
 pub fn seed(number: u32) -> u32 {
     number.wrapping_mul(2_654_435_769).wrapping_add(1)
 }
@@ -9,7 +9,7 @@ pub fn next(x: u32) -> u32 {
     x.wrapping_mul(1_664_525).wrapping_add(1_013_904_223)
 }
 
-/// A number below `end`, by the upper half of x.
+/// Returns a number below `end`, taken from the upper half of x.
 pub fn below(x: u32, end: u32) -> u32 {
     (x >> 16) % end
 }

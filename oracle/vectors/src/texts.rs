@@ -1,4 +1,4 @@
-//! Texts, and what is asked about them: `crates/cases` makes the same.
+//! Test texts and the answers on them: `crates/test_texts` generates the same texts.
 
 pub mod case;
 mod long;
@@ -12,7 +12,7 @@ pub use questions::QUESTIONS;
 use crate::Part;
 use case::Case;
 
-/// The parts, in the data's order.
+/// The parts, in the order of the data.
 pub const PARTS: [Part<Case>; 3] = [
     Part { name: "short lines", count: 196_080, case: short::case },
     Part { name: "several lines", count: 60_000, case: several::case },

@@ -7,8 +7,8 @@ use Rattle.buffer.proofs.ink_cell.Tie as tie
 enum-known-ink : tie.Need-enum-known-ink
 enum-known-ink c = search needs
 
-apply-style-requires : tie.Need-apply-style-requires
-apply-style-requires c κs = search needs
+set-style-requires : tie.Need-set-style-requires
+set-style-requires c κs = search needs
 
 enum-known-ink-2 : tie.Need-enum-known-ink-2
 enum-known-ink-2 c = search needs
@@ -22,8 +22,8 @@ enum-known-ink-3 c = search needs
 set-symbol-requires-2 : tie.Need-set-symbol-requires-2
 set-symbol-requires-2 c κs = search inks
 
-apply-style-requires-2 : tie.Need-apply-style-requires-2
-apply-style-requires-2 c κs = search needs
+set-style-requires-2 : tie.Need-set-style-requires-2
+set-style-requires-2 c κs = search needs
 
 returns : tie.Need-returns
 returns c = search inks
@@ -39,12 +39,12 @@ ink-cell-spec =
     tie.close
     (tie.spec
     enum-known-ink
-    apply-style-requires
+    set-style-requires
     enum-known-ink-2
     set-symbol-requires
     enum-known-ink-3
     set-symbol-requires-2
-    apply-style-requires-2
+    set-style-requires-2
     returns
     returns-2
     returns-3)

@@ -1,6 +1,6 @@
 -- `buffer::paint_area` meets its contract.
 use Prim.Native.Nat.{_-_}
-use Rattle.buffer.specs.Ink.{inked}
+use Rattle.buffer.specs.InkExtra.{inked}
 use Rattle.buffer.proofs.Rows.{DrawingRows, drawing-rows}
 use Rattle.buffer.proofs.Over.{drawing-area}
 use borrow.Author.Needs.{needs}

@@ -1,7 +1,7 @@
 -- `buffer::paint_row` meets its contract.
 use Prim.Native.Nat.{_-_}
 use lib.ListN.{length}
-use Rattle.buffer.specs.Ink.{inked}
+use Rattle.buffer.specs.InkExtra.{inked}
 use Rattle.buffer.proofs.Changed.{Changing, changing}
 use borrow.Author.Needs.{needs}
 use Rattle.buffer.proofs.paint_row.Statement.{statement}

@@ -1,5 +1,5 @@
 -- `buffer::paint_row_part` meets its contract.
-use Rattle.buffer.proofs.Rows.{row-lent}
+use Rattle.buffer.proofs.Rows.{row-borrowed}
 use borrow.Author.Needs.{needs}
 use Rattle.buffer.proofs.paint_row_part.Statement.{statement}
 use Rattle.buffer.proofs.paint_row_part.Tie as tie
@@ -35,7 +35,7 @@ same-length : tie.Need-same-length
 same-length c = search needs
 
 returns : tie.Need-returns
-returns c = search row-lent
+returns c = search row-borrowed
 
 pub paint-row-part-spec : {M : Type 1} → statement M
 paint-row-part-spec =

@@ -1,5 +1,5 @@
 -- `cell::appearance` meets its contract.
-use Rattle.cell.proofs.Fields.{between}
+use Rattle.cell.proofs.Fields.{between-symbol-and-untouched}
 use Rattle.cell.specs.Cell.{appearanceOf}
 use native.Mathlib.Omega.{arith}
 use borrow.Author.Needs.{needs}
@@ -8,7 +8,7 @@ use Rattle.cell.proofs.appearance.Tie as tie
 
 returns : tie.Need-returns
 unfolding appearanceOf
-returns c = omega (arith, between (c .args .cell))
+returns c = omega (arith, between-symbol-and-untouched (c .args .cell))
 
 pub appearance-spec : {M : Type 1} → statement M
 appearance-spec = tie.close (tie.spec (search needs) returns)

@@ -2,7 +2,7 @@
 use Prim.Native.Nat.{_-_}
 use lib.ListN.{length}
 use Rattle.refuse.proofs.Passes.{Passing, passing, glyphs-all}
-use Rattle.refuse.specs.Scan.{glyphNoStyle}
+use Rattle.refuse.specs.ScanExtra.{glyphNoStyle}
 use borrow.Author.Needs.{needs}
 use Rattle.check_records.proofs.glyph_styles_wrong.Statement.{statement}
 use Rattle.check_records.proofs.glyph_styles_wrong.Tie as tie

@@ -1,19 +1,19 @@
 -- `count_lines::count_lines` meets its contract.
 use lib.ListN.{length}
-use Rattle.compose.specs.Composing.{left}
+use Rattle.line_composer.specs.ComposingExtra.{linesLeft}
 use Rattle.count_lines.proofs.Counting.{Counting, counting}
 use borrow.Author.Needs.{needs}
 use Rattle.count_lines.proofs.count_lines.Statement.{statement}
 use Rattle.count_lines.proofs.count_lines.Tie as tie
 
 abbrev Inv-loop : tie.InvT-loop
-Inv-loop rule own text composer₀ count₀ composer count = Counting rule own text composer count
+Inv-loop rule default text composer₀ count₀ composer count = Counting rule default text composer count
 
 abbrev μ-loop : tie.MeasureT-loop
-μ-loop rule own text composer₀ count₀ composer count = length (left rule own text composer)
+μ-loop rule default text composer₀ count₀ composer count = length (linesLeft rule default text composer)
 
-start-requires : tie.Need-start-requires Inv-loop μ-loop
-start-requires c κs = search needs
+new-requires : tie.Need-new-requires Inv-loop μ-loop
+new-requires c κs = search needs
 
 loop-holds : tie.Need-loop-holds Inv-loop μ-loop
 loop-holds c = search counting
@@ -45,7 +45,7 @@ count-lines-spec =
     (tie.spec
     Inv-loop
     μ-loop
-    start-requires
+    new-requires
     loop-holds
     next-requires
     enum-known-next

@@ -6,21 +6,21 @@ use Rattle.draw_block.proofs.draw_block.Statement.{statement}
 use Rattle.draw_block.proofs.draw_block.Tie as tie
 
 returns : tie.Need-returns
-returns c = block-refused _ _ (c .before .before .before .verdict .ensures) _ (search needs)
+returns c = block-refused _ _ (c .before .before .before .draw-block-verdict .ensures) _ (search needs)
 
 cast-t13 : tie.Need-cast-t13
-cast-t13 c = record { fits = few-columns _ _ (c .before .before .verdict .ensures) (search needs) }
+cast-t13 c = record { fits = few-columns _ _ (c .before .before .draw-block-verdict .ensures) (search needs) }
 
 cast-t14 : tie.Need-cast-t14
-cast-t14 c = record { fits = few-rows _ _ (c .before .before .verdict .ensures) (search needs) }
+cast-t14 c = record { fits = few-rows _ _ (c .before .before .draw-block-verdict .ensures) (search needs) }
 
-draw-on-requires : tie.Need-draw-on-requires
-draw-on-requires c κs = drawable _ _ (c .before .before .before .verdict .ensures) (search needs)
+render-requires : tie.Need-render-requires
+render-requires c κs = drawable _ _ (c .before .before .before .draw-block-verdict .ensures) (search needs)
 
 returns-2 : tie.Need-returns-2
 unfolding drawingOf
 returns-2 c =
-    block-drawn _ _ (c .before .before .before .before .before .before .verdict .ensures) (search needs) _ (c .before .before .draw-on .ensures)
+    block-drawn _ _ (c .before .before .before .before .before .before .draw-block-verdict .ensures) (search needs) _ (c .before .before .render .ensures)
 
 pub draw-block-spec : {M : Type 1} → statement M
 draw-block-spec =
@@ -33,6 +33,6 @@ draw-block-spec =
     (λ c. search needs)
     cast-t13
     cast-t14
-    draw-on-requires
+    render-requires
     (λ c. search needs)
     returns-2)

@@ -6,23 +6,23 @@ use Rattle.draw_notice.proofs.draw_notice.Statement.{statement}
 use Rattle.draw_notice.proofs.draw_notice.Tie as tie
 
 returns : tie.Need-returns
-returns c = notice-refused _ _ (c .before .before .before .verdict .ensures) _ (search needs)
+returns c = notice-refused _ _ (c .before .before .before .draw-notice-verdict .ensures) _ (search needs)
 
 cast-t15 : tie.Need-cast-t15
-cast-t15 c = record { fits = few-columns _ _ (c .before .before .verdict .ensures) (search needs) }
+cast-t15 c = record { fits = few-columns _ _ (c .before .before .draw-notice-verdict .ensures) (search needs) }
 
 cast-t16 : tie.Need-cast-t16
-cast-t16 c = record { fits = few-rows _ _ (c .before .before .verdict .ensures) (search needs) }
+cast-t16 c = record { fits = few-rows _ _ (c .before .before .draw-notice-verdict .ensures) (search needs) }
 
-draw-on-requires : tie.Need-draw-on-requires
-draw-on-requires c κs =
-    let checked = c .before .before .before .verdict .ensures in
+render-requires : tie.Need-render-requires
+render-requires c κs =
+    let checked = c .before .before .before .draw-notice-verdict .ensures in
     (drawable _ _ checked (search needs), composable _ _ checked (search needs))
 
 returns-2 : tie.Need-returns-2
 unfolding drawingOf rowsOf
 returns-2 c =
-    notice-drawn _ _ (c .before .before .before .before .before .before .verdict .ensures) (search needs) _ _ (c .before .before .draw-on .ensures .1) (c .before .before .draw-on .ensures .0)
+    notice-drawn _ _ (c .before .before .before .before .before .before .draw-notice-verdict .ensures) (search needs) _ _ (c .before .before .render .ensures .1) (c .before .before .render .ensures .0)
 
 pub draw-notice-spec : {M : Type 1} → statement M
 draw-notice-spec =
@@ -35,6 +35,6 @@ draw-notice-spec =
     (λ c. search needs)
     cast-t15
     cast-t16
-    draw-on-requires
+    render-requires
     (λ c. search needs)
     returns-2)

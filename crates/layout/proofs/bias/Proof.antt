@@ -7,7 +7,7 @@ use lib.Signed.{nonNeg}
 use mir.Syntax.{w64}
 use mir.Val.{Fits, SFits}
 use mir.Facts.{toZ-ofZ}
-use Rattle.layout.proofs.Signs.{wider, below, back, sum-fits, total}
+use Rattle.layout.proofs.Signs.{wider, biased-below, widened-reads-back, sum-fits, sum-reads-back}
 use native.Mathlib.Omega.{arith}
 use Rattle.layout.proofs.bias.Statement.{statement}
 use Rattle.layout.proofs.bias.Tie as tie
@@ -17,17 +17,17 @@ cast-result c = subst (SFits w64) (sym (toZ-ofZ (c .fits .by))) (wider (c .args 
 
 add-result : tie.Need-add-result
 add-result c =
-    subst (λ (y : ℤ). SFits w64 (y +ℤ pos (2 ^ 31))) (sym (back (c .args .by) (c .fits .by))) (sum-fits (c .args .by) (c .fits .by))
+    subst (λ (y : ℤ). SFits w64 (y +ℤ pos (2 ^ 31))) (sym (widened-reads-back (c .args .by) (c .fits .by))) (sum-fits (c .args .by) (c .fits .by))
 
 cast-result-2 : tie.Need-cast-result-2
 cast-result-2 c =
-    subst (λ (y : ℤ). T (nonNeg y) × Fits w64 (natAbs y)) (sym (total (c .args .by) (c .fits .by)))
-    (tt, record { fits = omega (arith, below (c .args .by) (c .fits .by .sfits)) })
+    subst (λ (y : ℤ). T (nonNeg y) × Fits w64 (natAbs y)) (sym (sum-reads-back (c .args .by) (c .fits .by)))
+    (tt, record { fits = omega (arith, biased-below (c .args .by) (c .fits .by .sfits)) })
 
 returns : tie.Need-returns
 returns c = (
-  ap natAbs (total (c .args .by) (c .fits .by)),
-  subst (λ (y : ℤ). natAbs y < 2 ^ 32) (sym (total (c .args .by) (c .fits .by))) (below (c .args .by) (c .fits .by .sfits)),
+  ap natAbs (sum-reads-back (c .args .by) (c .fits .by)),
+  subst (λ (y : ℤ). natAbs y < 2 ^ 32) (sym (sum-reads-back (c .args .by) (c .fits .by))) (biased-below (c .args .by) (c .fits .by .sfits)),
 )
 
 pub bias-spec : {M : Type 1} → statement M

@@ -31,11 +31,11 @@ slice-read-set-symbol c = search needs
 set-symbol-requires : tie.Need-set-symbol-requires
 set-symbol-requires c κs = search needs
 
-apply-style-requires : tie.Need-apply-style-requires
-apply-style-requires c κs = search needs
+set-style-requires : tie.Need-set-style-requires
+set-style-requires c κs = search needs
 
-apply-style-requires-2 : tie.Need-apply-style-requires-2
-apply-style-requires-2 c κs = search needs
+set-style-requires-2 : tie.Need-set-style-requires-2
+set-style-requires-2 c κs = search needs
 
 mul-row : tie.Need-mul-row
 mul-row c = search needs
@@ -62,8 +62,8 @@ write-glyph-spec =
     mul-set-symbol
     slice-read-set-symbol
     set-symbol-requires
-    apply-style-requires
-    apply-style-requires-2
+    set-style-requires
+    set-style-requires-2
     mul-row
     slice-write-row
     same-length

@@ -1,11 +1,12 @@
-//! Every border set with small rectangles and with those at the end of 16 bits; pairs of titles.
+//! Every set of borders with small rectangles and with those at the end of the 16-bit range; pairs
+//! of titles.
 
 use super::{Digits, cells};
 use crate::input::{Call, Input};
 use crate::raw::Area;
 use crate::records::{glyph, head};
 
-/// No title, one above, one below, one where the block has it, which is below.
+/// No title, one at the top, one at the bottom, or one at the block's position, the bottom.
 fn one_title(digits: &mut Digits) -> Vec<u32> {
     match digits.below(4) {
         0 => Vec::new(),
@@ -44,7 +45,7 @@ const PADDINGS: [[u16; 4]; 8] = [
 
 pub const INNER: u64 = 16 * 4 * 5 * 5 * 6 * 6 * 8;
 
-/// An area, and as the frame takes of them, the measures of an empty text.
+/// An area, and the measures of an empty text, which depend on the space that the block takes.
 pub fn inner(number: u64) -> (Input, &'static [Call]) {
     let mut digits = Digits(number);
     let mut input = Input::plain();
@@ -69,7 +70,7 @@ const SHADOWS: [(u8, i32, i32); 5] =
 
 pub const BLOCKS: u64 = 16 * 4 * 5 * 6 * 5 * 6 * 5;
 
-/// A block on a screen of 4 × 3 cells, on it, over its edges and off it.
+/// A block inside a screen of 4 × 3 cells, across its edges and outside.
 pub fn block(number: u64) -> (Input, &'static [Call]) {
     let mut digits = Digits(number);
     let mut input = on_screen(4, 3);
@@ -84,7 +85,7 @@ pub fn block(number: u64) -> (Input, &'static [Call]) {
     (input, &[Call::DrawBlock])
 }
 
-/// Letters and their widths.
+/// Titles as letters with their widths.
 const TITLES: [&[(u8, u32)]; 7] = [
     &[],
     &[(b'a', 1)],
@@ -97,7 +98,7 @@ const TITLES: [&[(u8, u32)]; 7] = [
 
 pub const PAIRS: u64 = (4 * 7) * (4 * 7) * 3 * 8 * 4;
 
-/// Two titles of every alignment in up to seven columns, with and without borders beside them.
+/// Two titles of every alignment in up to seven columns, with and without side borders.
 pub fn pair(number: u64) -> (Input, &'static [Call]) {
     let mut digits = Digits(number);
     let mut input = on_screen(8, 2);
@@ -113,7 +114,7 @@ pub fn pair(number: u64) -> (Input, &'static [Call]) {
     (input, &[Call::DrawBlock])
 }
 
-/// A screen whose cells all differ, five styles, and a symbol of its own for each part.
+/// A screen whose cells all differ, five styles, and a distinct symbol for each part.
 fn on_screen(columns: u32, rows: u32) -> Input {
     let mut input = Input::plain();
     (input.columns, input.rows) = (columns, rows);

@@ -5,17 +5,17 @@ use crate::input::{Call, Input};
 use crate::raw::Area;
 use crate::records::{glyph, head};
 
-/// One cell, blank, width 2, width 3, zero-width solid, zero-width space, a wide space, as (width,
-/// whitespace); one more kind is a head that centres.
+/// Width 1, space, width 2, width 3, zero-width solid, zero-width space, space of width 2, as
+/// (width, whitespace); one more kind is a centred head.
 const KINDS: [(u32, u32); 7] = [(1, 0), (1, 1), (2, 0), (3, 0), (0, 0), (0, 1), (2, 1)];
 const ALL_KINDS: u64 = KINDS.len() as u64 + 1;
 
-/// How many texts have up to so many records after their first head.
+/// Returns the number of texts with up to `most` records after the first head.
 fn texts(most: u32) -> u64 {
     (0..=most).map(|length| ALL_KINDS.pow(length)).sum()
 }
 
-/// The text of a number: the shortest come first. Its glyphs have the styles 0 and 1.
+/// Returns the text with a number, shortest first. Its glyphs have styles 0 and 1.
 fn records(mut number: u64) -> Vec<u32> {
     let mut length = 0;
     while number >= ALL_KINDS.pow(length) {
@@ -43,7 +43,7 @@ pub fn count(most: u32) -> u64 {
     texts(most) * LIMITS * WRAPS
 }
 
-/// A text at a limit of 0 to 5, unwrapped, wrapped and trimmed, in a list longer than its lines.
+/// A text at a limit of 0 to 5, unwrapped, wrapped and trimmed, with a list longer than its lines.
 pub fn text(number: u64) -> (Input, &'static [Call]) {
     let mut digits = Digits(number);
     let mut input = Input::plain();
@@ -61,7 +61,7 @@ pub fn text(number: u64) -> (Input, &'static [Call]) {
     (input, calls)
 }
 
-/// Unwrapped with a column, wrapped, trimmed.
+/// Unwrapped at a column, wrapped, trimmed.
 const METHODS: [(u8, u16); 6] = [(0, 0), (0, 1), (0, 2), (0, 3), (1, 0), (2, 0)];
 const WIDTHS: u64 = 4;
 const HEIGHTS: u64 = 2;
@@ -71,7 +71,7 @@ pub fn notice_count(most: u32) -> u64 {
     texts(most) * 3 * METHODS.len() as u64 * WIDTHS * HEIGHTS * SCROLLS * 2
 }
 
-/// A text without a frame, in an area with room around it on the screen, or none to its right.
+/// A text without a frame, in an area with free columns on its right on the screen, or without.
 pub fn notice(number: u64) -> (Input, &'static [Call]) {
     let mut digits = Digits(number);
     let mut input = Input::plain();

@@ -1,9 +1,9 @@
-//! Stands in for `bitflags`: the macro, with the methods that borders.rs and block.rs call.
+//! Stand-in for `bitflags`: the macro, with the methods that borders.rs and block.rs call.
 //!
-//! Document 01 names no flags; it speaks of borders one by one ("a left border", "each where both
-//! borders stand"). A set of flags is its bits, and `contains` asks for all of the other's bits.
+//! Document 01 has no flags; it names borders one by one ("a left border", "each where both borders
+//! stand"). A set of flags is its bits, and `contains` checks all of the other's bits.
 
-/// Makes a set of named flags out of a struct-like description.
+/// Defines a set of named flags from a struct-like description.
 #[macro_export]
 macro_rules! bitflags {
     (
@@ -27,12 +27,12 @@ macro_rules! bitflags {
             const NAMED: &'static [(&'static str, Self)] =
                 &[$((stringify!($FLAG), Self::$FLAG)),*];
 
-            /// The set as a number.
+            /// Returns the set as a number.
             pub const fn bits(self) -> $Bits {
                 self.0
             }
 
-            /// The set without a flag.
+            /// Returns the empty set.
             pub const fn empty() -> Self {
                 Self(0)
             }
@@ -57,12 +57,12 @@ macro_rules! bitflags {
                 self.0 & other.0 == other.0
             }
 
-            /// The flags of either set.
+            /// Returns the flags of either set.
             pub const fn union(self, other: Self) -> Self {
                 Self(self.0 | other.0)
             }
 
-            /// The names of the flags that are set.
+            /// Returns the names of the flags that are set.
             pub fn iter_names(self) -> impl Iterator<Item = (&'static str, Self)> {
                 Self::NAMED.iter().copied().filter(move |(_, flag)| self.contains(*flag))
             }

@@ -1,7 +1,7 @@
 //! The screen and its cells.
 //!
 //! Document 01, 'Packed fields': "Cell, 64 bits: symbol 21 | foreground 8 | background 8 |
-//! modifiers 9 | 18 bits never touched. A blank cell has symbol 32 and zeros." And of styles:
+//! modifiers 9 | 18 bits never touched. A blank cell has symbol 32 and zeros." On styles:
 //! "Applying it sets the given colours, then sets the add bits, then clears the remove bits."
 
 use std::ops::{Index, IndexMut};
@@ -11,7 +11,7 @@ use crate::layout::{Position, Rect};
 use crate::style::{Color, Modifier, Style};
 use crate::symbols::merge::MergeStrategy;
 
-/// The width of a symbol: its glyph's field. A swallowed glyph "shows 0 cells".
+/// Width of a symbol: its glyph's width field. A swallowed glyph "shows 0 cells".
 pub trait CellWidth {
     fn cell_width(&self) -> u16;
 }
@@ -33,7 +33,7 @@ pub struct Cell {
 }
 
 impl Cell {
-    /// The cell of a packed word.
+    /// Unpacks a cell.
     pub fn from_packed(word: u64) -> Self {
         Self {
             symbol: (word >> 43) as u32,
@@ -44,7 +44,7 @@ impl Cell {
         }
     }
 
-    /// The packed word of this cell.
+    /// Returns this cell as a packed word.
     pub fn packed(&self) -> u64 {
         u64::from(self.symbol) << 43
             | u64::from(number(self.fg)) << 35
@@ -53,14 +53,14 @@ impl Cell {
             | u64::from(self.untouched)
     }
 
-    /// Sets the symbol to that of a symbol string.
+    /// Sets the symbol from a symbol string.
     pub fn set_symbol(&mut self, symbol: &str) -> &mut Self {
         let glyph = Glyph::decode(symbol).expect("a symbol to set");
         self.symbol = glyph.symbol();
         self
     }
 
-    /// Sets the symbol; replacing is the only strategy.
+    /// Sets the symbol; `Replace` is the only strategy.
     pub fn merge_symbol(&mut self, symbol: &str, strategy: MergeStrategy) -> &mut Self {
         match strategy {
             MergeStrategy::Replace => self.set_symbol(symbol),
@@ -81,7 +81,7 @@ impl Cell {
     }
 }
 
-/// The 8 bits of a colour.
+/// Returns the 8 bits of a colour.
 fn number(color: Color) -> u8 {
     match color {
         Color::Indexed(number) => number,
@@ -89,7 +89,7 @@ fn number(color: Color) -> u8 {
     }
 }
 
-/// A screen of cells, row after row.
+/// A screen of cells, row by row.
 #[derive(Debug, Clone)]
 pub struct Buffer {
     pub area: Rect,
@@ -97,14 +97,14 @@ pub struct Buffer {
 }
 
 impl Buffer {
-    /// The screen of packed cells, its first one at column 0 of row 0.
+    /// Unpacks a screen, whose first cell is at column 0 of row 0.
     pub fn from_packed(area: Rect, words: &[u64]) -> Self {
         let count = usize::from(area.width) * usize::from(area.height);
         assert!(words.len() == count, "cells are not columns × rows");
         Self { area, cells: words.iter().copied().map(Cell::from_packed).collect() }
     }
 
-    /// The cells, packed.
+    /// Returns the cells, packed.
     pub fn packed(&self) -> impl Iterator<Item = u64> {
         self.cells.iter().map(Cell::packed)
     }
@@ -119,8 +119,8 @@ impl Buffer {
         }
     }
 
-    /// Where the cell at a position is held. The Rust panics for a position off the screen, and so
-    /// do we: the oracle reports it.
+    /// Returns the index of the cell at a position. Panics if it is off the screen, as ratatui-core
+    /// does; the oracle reports it.
     fn index_of(&self, position: Position) -> usize {
         assert!(
             self.area.contains(position),

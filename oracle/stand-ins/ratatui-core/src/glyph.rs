@@ -1,14 +1,13 @@
-//! A glyph, and the symbol string by which it travels through the Rust files.
+//! A glyph, and the symbol string that represents it in the Rust files.
 //!
 //! Document 01, 'Packed fields': "Glyph, 32 bits: 0 | symbol 21 | width 3 | whitespace 1 | style 6.
 //! Each symbol is one grapheme; 32 is the blank symbol."
 //!
-//! The Rust files hand symbols on as `&str` and never look inside. Ours is sixteen hexadecimal
-//! digits, the glyph's record and then its number among the records of its text. So width and
-//! whitespace are read from the glyph's own fields, and a composed line tells which records it
-//! holds.
+//! The Rust files pass symbols as `&str` and never inspect them. Here a symbol string is sixteen
+//! hexadecimal digits: the glyph's record, then its record number in its text. So width and
+//! whitespace are read from the glyph's fields, and a composed line has the numbers of its records.
 
-/// The length of every symbol string but the empty one.
+/// Length of every nonempty symbol string.
 pub const SYMBOL_LENGTH: usize = 16;
 
 /// A glyph's packed record and its record number.
@@ -19,7 +18,7 @@ pub struct Glyph {
 }
 
 impl Glyph {
-    /// A glyph that has a symbol and nothing else, as borders and shadows need it.
+    /// Returns a glyph with only a symbol, for borders and shadows.
     pub const fn from_symbol(symbol: u32) -> Self {
         assert!(symbol < 1 << 21, "a symbol has 21 bits");
         Self { record: symbol << 10, number: 0 }
@@ -45,17 +44,17 @@ impl Glyph {
         (self.record & 0b11_1111) as u8
     }
 
-    /// The symbol string of this glyph.
+    /// Returns the symbol string of this glyph.
     pub fn encode(self) -> String {
         format!("{:08x}{:08x}", self.record, self.number)
     }
 
-    /// The glyph of a symbol string. The empty string, which `LineTruncator` puts in the place of
-    /// a swallowed glyph, has none.
+    /// Returns the glyph of a symbol string. The empty string, which `LineTruncator` substitutes
+    /// for a swallowed glyph, has none.
     ///
     /// # Panics
     ///
-    /// Where the string is neither empty nor made by [`Glyph::encode`].
+    /// If the string is neither empty nor from [`Glyph::encode`].
     pub fn decode(symbol: &str) -> Option<Self> {
         if symbol.is_empty() {
             return None;

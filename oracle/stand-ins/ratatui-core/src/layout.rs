@@ -2,10 +2,10 @@
 //!
 //! Document 01, 'Inner area and frame': "Right and bottom are x + width and y + height, held at
 //! 65,535"; "Drawing meets area and screen first (larger x and y, smaller right and bottom)"; and
-//! of the shadow: "x moves by a signed 32-bit offset, held from 0 to 65,535 less width; y
+//! on the shadow: "x moves by a signed 32-bit offset, held from 0 to 65,535 less width; y
 //! likewise".
 
-/// Where a line stands in its row.
+/// Alignment of a line in its row.
 #[derive(Debug, Default, Clone, Copy, PartialEq, Eq, Hash)]
 pub enum Alignment {
     #[default]
@@ -35,7 +35,7 @@ impl From<(u16, u16)> for Position {
     }
 }
 
-/// A signed move.
+/// A signed offset.
 #[derive(Debug, Default, Clone, Copy, PartialEq, Eq, Hash)]
 pub struct Offset {
     pub x: i32,
@@ -70,12 +70,12 @@ impl Rect {
         self.y
     }
 
-    /// One past the last column, held at 65,535.
+    /// Returns one past the last column, saturating at 65,535.
     pub const fn right(self) -> u16 {
         self.x.saturating_add(self.width)
     }
 
-    /// One past the last row, held at 65,535.
+    /// Returns one past the last row, saturating at 65,535.
     pub const fn bottom(self) -> u16 {
         self.y.saturating_add(self.height)
     }
@@ -91,8 +91,8 @@ impl Rect {
             && position.y < self.bottom()
     }
 
-    /// The meeting of two rectangles: larger x and y, smaller right and bottom. Where they have no
-    /// cell in common its width or height is 0.
+    /// Returns the intersection of two rectangles: larger x and y, smaller right and bottom. If
+    /// they have no cell in common, its width or height is 0.
     pub fn intersection(self, other: Self) -> Self {
         let x = self.x.max(other.x);
         let y = self.y.max(other.y);
@@ -104,7 +104,7 @@ impl Rect {
         }
     }
 
-    /// The rectangle moved, its size kept.
+    /// Returns the rectangle moved by an offset, with the same size.
     pub fn offset(self, offset: Offset) -> Self {
         Self {
             x: moved(self.x, offset.x, u16::MAX - self.width),
@@ -114,7 +114,7 @@ impl Rect {
     }
 }
 
-/// `from` moved by `by`, held from 0 to `most`.
+/// Returns `from` + `by`, clamped to 0 to `most`.
 fn moved(from: u16, by: i32, most: u16) -> u16 {
     let to = (i64::from(from) + i64::from(by)).clamp(0, i64::from(most));
     u16::try_from(to).expect("held in 16 bits")

@@ -2,12 +2,12 @@
 //!
 //! Document 01, 'Packed fields': "Style, 64 bits: foreground given 1 | foreground 8 | background
 //! given 1 | background 8 | add 9 | remove 9 | 28 zeros. Applying it sets the given colours, then
-//! sets the add bits, then clears the remove bits." Applying is `Cell::set_style`.
+//! sets the add bits, then clears the remove bits." `Cell::set_style` applies a style.
 
-/// A colour. Document 01 knows colours as numbers of 8 bits, which is `Indexed`.
+/// A colour. Document 01's colours are 8-bit numbers, which is `Indexed`.
 ///
-/// The other two are named by `Dimmed` in block/shadow.rs, a custom shadow filter, which document
-/// 01 leaves out: no cell of the oracle ever holds them.
+/// The other two are used by `Dimmed` in block/shadow.rs, a custom shadow filter, which document 01
+/// leaves out: no cell of the oracle ever has them.
 #[derive(Debug, Clone, Copy, PartialEq, Eq, Hash)]
 pub enum Color {
     Indexed(u8),
@@ -20,12 +20,12 @@ pub enum Color {
 pub struct Modifier(u16);
 
 impl Modifier {
-    /// Named by the same left-out filter.
+    /// Used by the same left-out filter.
     pub const DIM: Self = Self(1 << 1);
 
     const ALL: u16 = 0b1_1111_1111;
 
-    /// The modifiers in the lowest nine bits of a word.
+    /// Returns the modifiers in the lowest nine bits of a word.
     pub const fn from_low_bits(word: u64) -> Self {
         Self(word as u16 & Self::ALL)
     }
@@ -45,7 +45,7 @@ impl Modifier {
     }
 }
 
-/// What is to change about a cell's look.
+/// Changes to a cell's colours and modifiers.
 #[derive(Debug, Default, Clone, Copy, PartialEq, Eq, Hash)]
 pub struct Style {
     pub fg: Option<Color>,
@@ -55,12 +55,12 @@ pub struct Style {
 }
 
 impl Style {
-    /// A style that changes nothing.
+    /// Returns a style that changes nothing.
     pub const fn new() -> Self {
         Self { fg: None, bg: None, add_modifier: Modifier(0), sub_modifier: Modifier(0) }
     }
 
-    /// The style of a packed word.
+    /// Unpacks a style.
     pub fn from_packed(word: u64) -> Self {
         let color = |given: u32, lowest: u32| {
             (word >> given & 1 == 1).then_some(Color::Indexed((word >> lowest) as u8))
@@ -73,12 +73,12 @@ impl Style {
         }
     }
 
-    /// The one style that does what this one and then `other` do, on every cell.
+    /// Returns the style equivalent to applying this one and then `other`.
     ///
-    /// For each modifier bit `other` decides where it removes or adds it, else this style does.
-    /// Removals come last in applying, so what `other` adds must leave this style's removals, and
-    /// what `other` removes needs no leaving of this style's additions. A bit that one style both
-    /// adds and removes ends cleared, alone or combined.
+    /// For each modifier bit, `other` decides if it adds or removes the bit, else this style does.
+    /// Removals are applied last, so a bit that `other` adds must be taken out of this style's
+    /// removals, while a bit that `other` removes may stay in this style's additions. A bit that
+    /// one style both adds and removes is cleared, alone or combined.
     #[must_use]
     pub fn patch(self, other: Self) -> Self {
         let mut add_modifier = self.add_modifier;

@@ -1,8 +1,8 @@
-//! The symbols of borders and shadows.
+//! Symbols of borders and shadows.
 //!
 //! Document 01, 'Inner area and frame': "A border cell gets its symbol, then the border style".
-//! Border and shadow symbols are numbers given by the caller (refusal 7 speaks of them), so the
-//! named sets and shades below are empty: the oracle always gives a block its own eight symbols.
+//! Border and shadow symbols are numbers given by the caller (refusal 7 checks them), so the named
+//! sets and shades below are empty: the oracle always gives a block all eight symbols.
 
 /// The eight symbols of a border.
 pub mod border {
@@ -43,7 +43,7 @@ pub mod border {
     pub const QUADRANT_OUTSIDE: Set<'static> = EMPTY;
 }
 
-/// How a border symbol meets the one that is there.
+/// How a border symbol is merged with the one in the cell.
 pub mod merge {
     /// Document 01: "Left out: .. merge strategies other than `Replace`".
     #[derive(Debug, Default, Clone, Copy, PartialEq, Eq, Hash)]

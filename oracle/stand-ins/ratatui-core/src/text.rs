@@ -1,4 +1,4 @@
-//! Texts, their lines, and the drawing of a title line.
+//! Texts, their lines, and drawing a title line.
 //!
 //! Document 01, 'Rows, pages, tally': "For each glyph of width above 0 its first cell gets the
 //! symbol, then the text style, then the glyph's own style"; and 'Inner area and frame': "A title
@@ -12,7 +12,7 @@ use crate::layout::{Alignment, Rect};
 use crate::style::Style;
 use crate::widgets::Widget;
 
-/// A symbol and the style it is to be drawn with.
+/// A symbol and the style to draw it with.
 #[derive(Debug, Clone, PartialEq, Eq, Hash)]
 pub struct StyledGrapheme<'a> {
     pub symbol: &'a str,
@@ -20,7 +20,7 @@ pub struct StyledGrapheme<'a> {
 }
 
 impl StyledGrapheme<'_> {
-    /// The glyph's whitespace field.
+    /// Returns the glyph's whitespace field.
     pub fn is_whitespace(&self) -> bool {
         Glyph::decode(self.symbol).is_some_and(Glyph::is_whitespace)
     }
@@ -34,7 +34,7 @@ pub struct Span<'a> {
 }
 
 impl<'a> Span<'a> {
-    /// The glyph, styled by `base` and then by its own style.
+    /// Returns the glyph, styled by `base` and then by its own style.
     pub fn styled_graphemes(
         &self,
         base: Style,
@@ -43,7 +43,7 @@ impl<'a> Span<'a> {
     }
 }
 
-/// A line of glyphs; without an alignment it takes its notice's or its block's.
+/// A line of glyphs; without an alignment it has the default of its notice or block.
 #[derive(Debug, Default, Clone, PartialEq, Eq, Hash)]
 pub struct Line<'a> {
     pub spans: Vec<Span<'a>>,
@@ -51,13 +51,13 @@ pub struct Line<'a> {
 }
 
 impl<'a> Line<'a> {
-    /// The sum of the widths of all glyphs.
+    /// Returns the sum of the widths of all glyphs.
     pub fn width(&self) -> usize {
         let widths = self.spans.iter().map(|span| span.symbol.cell_width());
         widths.map(usize::from).sum()
     }
 
-    /// The glyphs, each styled by `base` and then by its own style.
+    /// Returns the glyphs, each styled by `base` and then by its own style.
     pub fn styled_graphemes(&self, base: Style) -> impl Iterator<Item = StyledGrapheme<'a>> {
         self.spans.iter().flat_map(move |span| span.styled_graphemes(base))
     }
@@ -79,7 +79,7 @@ impl Widget for Line<'_> {
     }
 }
 
-/// The drawing of a title line in the columns of `area`. The title's area has its style already.
+/// Draws a title line in the columns of `area`. The area already has the titles style.
 impl Widget for &Line<'_> {
     fn render(self, area: Rect, buf: &mut Buffer) {
         let right = self.alignment == Some(Alignment::Right);
@@ -118,7 +118,7 @@ impl<'a> Text<'a> {
         self.lines.iter()
     }
 
-    /// The number of text lines.
+    /// Returns the number of text lines.
     pub fn height(&self) -> usize {
         self.lines.len()
     }

@@ -1,13 +1,13 @@
-//! The trait of what can be drawn.
+//! The widget trait.
 //!
-//! Document 01 has no sentence for it: each drawing is the widget's own. An absent widget draws
-//! nothing, as paragraph.rs asks for its optional block.
+//! Document 01 has no rule for it: each widget draws itself. `None` draws nothing, as paragraph.rs
+//! requires for its optional block.
 
 use crate::buffer::Buffer;
 use crate::layout::Rect;
 
 pub trait Widget {
-    /// Draws this on the cells of `area`.
+    /// Draws the widget on the cells of `area`.
     fn render(self, area: Rect, buf: &mut Buffer);
 }
 

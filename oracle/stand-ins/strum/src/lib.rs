@@ -1,7 +1,7 @@
-//! Stands in for `strum`: two derives that block.rs and borders.rs put on their enums.
+//! Stand-in for `strum`: two derives that block.rs and borders.rs use on their enums.
 //!
-//! They print an enum's name and read it back. Nothing that document 01 asks for prints or reads
-//! a name, so both derive nothing.
+//! They print and parse an enum's name. Nothing in document 01 prints or parses a name, so both
+//! derive nothing.
 
 use proc_macro::TokenStream;
 
@@ -11,7 +11,7 @@ pub fn display(_item: TokenStream) -> TokenStream {
     TokenStream::new()
 }
 
-/// Derives nothing: no name is ever read.
+/// Derives nothing: no name is ever parsed.
 #[proc_macro_derive(EnumString)]
 pub fn enum_string(_item: TokenStream) -> TokenStream {
     TokenStream::new()

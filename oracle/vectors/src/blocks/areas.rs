@@ -1,11 +1,11 @@
-//! Areas on a screen, over its edges and outside.
+//! Random areas: inside a screen, across its edges and outside.
 
 use oracle::Rect;
 
 use super::words::four_on;
 use crate::random::{below, next};
 
-/// An area made of x and the seven numbers after it.
+/// Returns an area made from x and the next seven random numbers.
 pub fn area(x: u32, columns: u16, rows: u16) -> Rect {
     let y = four_on(x);
     Rect {
@@ -16,8 +16,8 @@ pub fn area(x: u32, columns: u16, rows: u16) -> Rect {
     }
 }
 
-/// An area made of x and the three numbers after it, with at least half the screen's columns and
-/// rows, and that much again past its edges at most.
+/// Returns an area with at least half of the screen's columns and rows, made from x and the next
+/// three random numbers.
 pub fn roomy(x: u32, columns: u16, rows: u16) -> Rect {
     let y = next(next(x));
     Rect {
@@ -28,7 +28,7 @@ pub fn roomy(x: u32, columns: u16, rows: u16) -> Rect {
     }
 }
 
-/// Where an area starts along the cells of a row or a column.
+/// Returns the start of an area along a row or column.
 fn start(x: u32, cells: u16) -> u16 {
     match below(x, 16) {
         0..4 => 0,
@@ -39,7 +39,7 @@ fn start(x: u32, cells: u16) -> u16 {
     }
 }
 
-/// How many cells it has there.
+/// Returns the size of an area along a row or column.
 fn size(x: u32, cells: u16) -> u16 {
     match below(x, 16) {
         0 => 0,

@@ -1,4 +1,4 @@
-//! Blocks to draw: with every set of borders, with and without a shadow.
+//! Blocks to draw, with every set of borders, with and without a shadow.
 
 use oracle::{Block, Padding};
 
@@ -9,19 +9,19 @@ use super::shadows::shadow;
 use super::words::{four_on, words};
 use crate::random::{below, next, seed};
 
-/// The case of a number on a screen of up to 8 × 6 cells.
+/// Returns the case with a number on a screen of up to 8 × 6 cells.
 pub fn small(number: u32) -> Case {
     let a = seed(number);
     let b = next(a);
     case(number, 1 + below(a, 8) as u16, 1 + below(b, 6) as u16, 4, next(b))
 }
 
-/// The case of a number on a screen of 512 × 256 cells.
+/// Returns the case with a number on a screen of 512 × 256 cells.
 pub fn large(number: u32) -> Case {
     case(number, 512, 256, 128, seed(number))
 }
 
-/// The case of a number on a screen, made of x and the numbers after it.
+/// Returns the case with a number on a screen, made from x and the random numbers after it.
 fn case(number: u32, columns: u16, rows: u16, reach: u32, x: u32) -> Case {
     let y = next(x);
     let styles = 1 + below(x, 8);
@@ -36,8 +36,8 @@ fn case(number: u32, columns: u16, rows: u16, reach: u32, x: u32) -> Case {
     }
 }
 
-/// The block of a number with so many styles and a padding, made of x and the numbers after it. Its
-/// shadow is moved by up to `reach`.
+/// Returns the block with a number, made from x and the random numbers after it. Its style numbers
+/// are below `styles`, and its shadow's offsets are mostly at most `reach`.
 pub fn block(number: u32, styles: u32, reach: u32, padding: Padding, x: u32) -> Block {
     let a = four_on(four_on(x));
     let b = next(a);

@@ -1,5 +1,5 @@
-//! Inner areas: everything that stands along a column, with every kind of titles. What stands along
-//! the row is random, and nothing that can stand there is left out.
+//! Inner areas: every vertical axis with every kind of titles. Horizontal axes are random, and each
+//! occurs.
 
 use oracle::{Block, Borders, Padding, Rect};
 
@@ -8,7 +8,8 @@ use super::settings::{framed, position};
 use super::titles::titles;
 use crate::random::{below, seed};
 
-/// What stands along a row or a column: borders and padding at both ends, and an area.
+/// Block settings along one axis: borders and padding at both ends of an area, and its start and
+/// size.
 struct Axis {
     before: bool,
     after: bool,
@@ -18,13 +19,13 @@ struct Axis {
     padding_after: u16,
 }
 
-/// Numbers at both ends of 16 bits.
+/// Numbers at both ends of the 16-bit range.
 const ENDS: [u16; 7] = [0, 1, 2, 3, 65_533, 65_534, 65_535];
 
-/// Paddings, of which two large ones pass 16 bits together.
+/// Paddings. The sum of two large ones overflows 16 bits.
 const PADDINGS: [u16; 5] = [0, 1, 2, 40_000, 65_535];
 
-/// The axis of a number. Those of the numbers below 4,900 are all different.
+/// Returns the axis with a number. The first 4,900 are all different.
 fn axis(number: u32) -> Axis {
     let number = number as usize;
     Axis {
@@ -37,7 +38,7 @@ fn axis(number: u32) -> Axis {
     }
 }
 
-/// The case of a number.
+/// Returns the case with a number.
 pub fn case(number: u32) -> Case {
     let x = seed(number);
     let across = axis(below(x, 4_900));
@@ -53,8 +54,8 @@ pub fn case(number: u32) -> Case {
     }
 }
 
-/// A block whose own titles stand at the position of a number.
-fn block(own: u32, across: &Axis, down: &Axis, x: u32) -> Block {
+/// Returns a block whose default title position is the one with the number `default_position`.
+fn block(default_position: u32, across: &Axis, down: &Axis, x: u32) -> Block {
     let borders =
         Borders { top: down.before, right: across.after, bottom: down.after, left: across.before };
     Block {
@@ -64,7 +65,7 @@ fn block(own: u32, across: &Axis, down: &Axis, x: u32) -> Block {
             down.padding,
             down.padding_after,
         ),
-        titles_position: position(own),
+        titles_position: position(default_position),
         ..framed(borders, x)
     }
 }

@@ -1,11 +1,12 @@
-//! The titles of blocks to draw: any number of them, of any alignment and position.
+//! Titles of the blocks to draw: any number, of any alignment and position.
 
 use super::titles::head;
 use super::words::four_on;
 use crate::random::{below, next, seed};
 
-/// So many titles of up to `most` glyphs, whose style numbers are below `styles`, made of x and the
-/// numbers after it. About half of them have the same head, so that several stand side by side.
+/// Returns `count` titles of up to `most` glyphs, whose style numbers are below `styles`, made from
+/// x and the random numbers after it. About half of the titles share a head, so that several are
+/// side by side.
 pub fn many_titles(count: u32, most: u32, styles: u32, x: u32) -> Vec<u32> {
     let common = any_head(x);
     let mut x = next(next(x));
@@ -19,12 +20,12 @@ pub fn many_titles(count: u32, most: u32, styles: u32, x: u32) -> Vec<u32> {
     titles
 }
 
-/// A head of any alignment and position.
+/// Returns a head of random alignment and position.
 fn any_head(x: u32) -> u32 {
     head(below(next(x), 3), x)
 }
 
-/// How many glyphs a title has: as many as there may be, none, or a number between.
+/// Returns the number of glyphs in a title: `most`, none, or a number between.
 fn length(x: u32, most: u32) -> u32 {
     match below(x, 8) {
         0..2 => most,
@@ -33,7 +34,7 @@ fn length(x: u32, most: u32) -> u32 {
     }
 }
 
-/// So many glyphs, each made of four numbers.
+/// Returns `count` glyphs, each made from four random numbers.
 fn glyphs(count: u32, styles: u32, seed: u32) -> Vec<u32> {
     let mut x = seed;
     let mut glyphs = Vec::new();
@@ -44,14 +45,14 @@ fn glyphs(count: u32, styles: u32, seed: u32) -> Vec<u32> {
     glyphs
 }
 
-/// The glyph of x and the three numbers after it, with a symbol of 21 bits.
+/// Returns a glyph made from x and the next three random numbers, with a 21-bit symbol.
 fn glyph(x: u32, styles: u32) -> u32 {
     let y = next(x);
     let z = next(next(y));
     x >> 11 << 10 | width(y) << 7 | below(z, 2) << 6 | below(z, styles)
 }
 
-/// A width: mostly 0 to 3, and once in sixteen times any.
+/// Returns a glyph width: mostly 0 to 3, any width once in sixteen.
 fn width(x: u32) -> u32 {
     match below(x, 16) {
         0..2 => 0,

@@ -1,31 +1,31 @@
-//! The settings of blocks.
+//! Settings of the test blocks.
 
 use oracle::{Alignment, Block, BorderSet, Borders, Padding, Shadow, TitlePosition};
 
 use crate::random::next;
 
-/// A symbol: the upper 21 bits of x.
+/// Returns a symbol: the upper 21 bits of x.
 pub fn symbol(x: u32) -> u32 {
     x >> 11
 }
 
-/// The borders of a number from 0 to 15: a bit for each side.
+/// Returns the borders with a number from 0 to 15, one bit for each side.
 pub fn borders(number: u32) -> Borders {
     let bit = |place: u32| number >> place & 1 == 1;
     Borders { top: bit(0), right: bit(1), bottom: bit(2), left: bit(3) }
 }
 
-/// The alignment of a number.
+/// Returns the alignment with a number.
 pub fn alignment(number: u32) -> Alignment {
     [Alignment::Left, Alignment::Center, Alignment::Right][number as usize % 3]
 }
 
-/// The position of a number.
+/// Returns the title position with a number.
 pub fn position(number: u32) -> TitlePosition {
     [TitlePosition::Top, TitlePosition::Bottom][number as usize % 2]
 }
 
-/// The symbols of x and the seven numbers after it.
+/// Returns border symbols made from x and the next seven random numbers.
 fn border_set(x: u32) -> BorderSet {
     let b = next(x);
     let c = next(b);
@@ -46,7 +46,7 @@ fn border_set(x: u32) -> BorderSet {
     }
 }
 
-/// A block with some borders, the symbols of x, no shadow, and the other settings plain.
+/// Returns a block with borders and symbols made from x, no shadow, and default settings otherwise.
 pub fn framed(borders: Borders, x: u32) -> Block {
     Block {
         borders,

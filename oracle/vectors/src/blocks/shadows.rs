@@ -1,12 +1,12 @@
-//! The shadows of blocks.
+//! Shadows of the test blocks.
 
 use oracle::{Effect, Shadow};
 
 use super::settings::symbol;
 use crate::random::{below, next};
 
-/// The shadow of a kind, made of x and the five numbers after it: none, an overlay, and two kinds
-/// with a symbol.
+/// Returns the shadow of a kind, made from x and the next five random numbers: 0 is absent, 1 an
+/// overlay, 2 and 3 a symbol.
 pub fn shadow(kind: u32, x: u32, styles: u32, reach: u32) -> Shadow {
     let b = next(x);
     let c = next(b);
@@ -24,7 +24,8 @@ pub fn shadow(kind: u32, x: u32, styles: u32, reach: u32) -> Shadow {
     }
 }
 
-/// How far a shadow is moved: to the ends of 32 or of 16 bits, not at all, or up to `reach`.
+/// Returns a shadow's offset: at the ends of the 32-bit or 16-bit range, 0, or at most `reach`
+/// either way.
 fn offset(x: u32, reach: u32) -> i32 {
     match below(x, 16) {
         0 => -2_147_483_648,

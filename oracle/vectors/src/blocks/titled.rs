@@ -1,4 +1,4 @@
-//! Blocks with titles to draw: up to 16, of every alignment and position.
+//! Blocks to draw with up to 16 titles, of every alignment and position.
 
 use oracle::{Padding, Rect};
 
@@ -9,20 +9,21 @@ use super::many_titles::many_titles;
 use super::words::{four_on, words};
 use crate::random::{below, next, seed};
 
-/// The case of a number on a screen of up to 40 × 5 cells, with titles of up to 16 glyphs.
+/// Returns the case with a number on a screen of up to 40 × 5 cells, with titles of up to 16
+/// glyphs.
 pub fn small(number: u32) -> Case {
     let a = seed(number);
     let b = next(a);
     case(number, 1 + below(a, 40) as u16, 1 + below(b, 5) as u16, 16, next(b))
 }
 
-/// The case of a number on a screen of 512 × 3 cells, with titles of up to 256 glyphs.
+/// Returns the case with a number on a screen of 512 × 3 cells, with titles of up to 256 glyphs.
 pub fn wide(number: u32) -> Case {
     case(number, 512, 3, 256, seed(number))
 }
 
-/// The case of a number on a screen, with titles of up to `most` glyphs, made of x and the numbers
-/// after it.
+/// Returns the case with a number on a screen, with titles of up to `most` glyphs, made from x and
+/// the random numbers after it.
 fn case(number: u32, columns: u16, rows: u16, most: u32, x: u32) -> Case {
     let y = next(x);
     let z = seed(next(y));
@@ -39,7 +40,7 @@ fn case(number: u32, columns: u16, rows: u16, most: u32, x: u32) -> Case {
     }
 }
 
-/// One area in four is any, and the others have room for titles.
+/// Returns an area: one in four is any, the others have room for titles.
 fn titled_area(number: u32, x: u32, columns: u16, rows: u16) -> Rect {
     match number % 4 {
         0 => area(x, columns, rows),
@@ -47,7 +48,7 @@ fn titled_area(number: u32, x: u32, columns: u16, rows: u16) -> Rect {
     }
 }
 
-/// How many titles a block has.
+/// Returns the number of titles.
 fn count(x: u32) -> u32 {
     match below(x, 8) {
         0..4 => below(next(x), 5),

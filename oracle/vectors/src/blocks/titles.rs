@@ -1,10 +1,10 @@
-//! The titles of blocks: up to two, of up to three records each.
+//! Titles of the cases for the inner area: up to two, of up to three records each.
 
 use std::iter::successors;
 
 use crate::random::{below, next};
 
-/// The titles of a kind: none, one, or two.
+/// Returns the titles of a kind: none, one, or two.
 pub fn titles(kind: u32, seed: u32) -> Vec<u32> {
     let count = match kind {
         0 => 0,
@@ -15,8 +15,8 @@ pub fn titles(kind: u32, seed: u32) -> Vec<u32> {
     (0..count).zip(numbers).map(|(place, x)| record(place, kind, x)).collect()
 }
 
-/// The record at a place: the first title stands at the top, at the bottom or at the block's own
-/// position, the second at the bottom. Any number of 31 bits is a glyph.
+/// Returns the record at index `place`. The first title is at the top, the bottom or the block's
+/// position, the second at the bottom. Any 31-bit number is a glyph.
 fn record(place: u32, kind: u32, x: u32) -> u32 {
     match place {
         0 => head((kind + 2) % 3, x),
@@ -25,7 +25,7 @@ fn record(place: u32, kind: u32, x: u32) -> u32 {
     }
 }
 
-/// A head of any alignment.
+/// Returns a title head of random alignment.
 pub fn head(position: u32, x: u32) -> u32 {
     1 << 31 | below(x, 4) << 29 | position << 27
 }

@@ -1,8 +1,8 @@
-//! Random words of 64 bits.
+//! Random 64-bit words.
 
 use crate::random::next;
 
-/// Words whose lowest `zeros` bits are 0, each made of four numbers.
+/// Returns words whose lowest `zeros` bits are 0, each made from four random numbers.
 pub fn words(count: u32, zeros: u32, seed: u32) -> Vec<u64> {
     let mut x = seed;
     let mut words = Vec::new();
@@ -13,12 +13,12 @@ pub fn words(count: u32, zeros: u32, seed: u32) -> Vec<u64> {
     words
 }
 
-/// The number that comes four after x.
+/// Returns the fourth random number after x.
 pub fn four_on(x: u32) -> u32 {
     next(next(next(next(x))))
 }
 
-/// The upper halves of x and of the three numbers after it.
+/// Returns the upper halves of x and of the next three random numbers, concatenated.
 fn word(x: u32) -> u64 {
     let b = next(x);
     let c = next(b);

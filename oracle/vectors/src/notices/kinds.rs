@@ -1,10 +1,10 @@
-//! How many of the notices are of which kind, so that the reader sees that most of them draw.
+//! Counts the notices of each kind, which shows that most of them draw something.
 
 use oracle::{Drawn, Outcome};
 
 use super::{DRAWN, SCREENS, counts};
 
-/// Prints for each part how many cases place a glyph, clip one, and draw no row.
+/// Prints for each part the number of cases that place a glyph, clip one, or draw no row.
 pub fn print_kinds() {
     for part in &SCREENS {
         let (mut placing, mut clipping, mut rowless) = (0, 0, 0);

@@ -1,4 +1,4 @@
-//! The settings of notices.
+//! Settings of the test notices.
 
 use oracle::{Block, Notice, Padding, Wrap};
 
@@ -6,7 +6,7 @@ use crate::blocks::settings::alignment;
 use crate::blocks::words::four_on;
 use crate::random::{below, next};
 
-/// The notice around a block, made of x and the numbers after it.
+/// Returns a notice with a block, made from x and the random numbers after it.
 pub fn notice(block: Block, x: u32) -> Notice {
     let b = next(x);
     let c = next(b);
@@ -21,7 +21,7 @@ pub fn notice(block: Block, x: u32) -> Notice {
     }
 }
 
-/// One notice in three isn't wrapped, one is wrapped, and one is trimmed as well.
+/// Returns unwrapped, wrapped, or wrapped and trimmed, one in three each.
 fn wrap(x: u32) -> Wrap {
     match below(x, 3) {
         0 => Wrap::Off { column: scrolled(next(x), 6) },
@@ -30,8 +30,7 @@ fn wrap(x: u32) -> Wrap {
     }
 }
 
-/// How far a text is scrolled, to the right or down: not at all, by less than `reach`, or past every
-/// end.
+/// Returns the scroll to the right or down: 0, less than `reach`, or past the end of any text.
 fn scrolled(x: u32, reach: u32) -> u16 {
     match below(x, 16) {
         0..8 => 0,
@@ -40,14 +39,14 @@ fn scrolled(x: u32, reach: u32) -> u16 {
     }
 }
 
-/// The padding of x and the three numbers after it.
+/// Returns a padding made from x and the next three random numbers.
 pub fn padding(x: u32) -> Padding {
     let b = next(x);
     let c = next(b);
     Padding::new(padded(x), padded(b), padded(c), padded(next(c)))
 }
 
-/// The padding on one side: mostly none, and once in 128 times more than there is room for.
+/// Returns the padding of one side: mostly none, and once in 128 more than fits.
 fn padded(x: u32) -> u16 {
     match below(x, 128) {
         0..108 => 0,

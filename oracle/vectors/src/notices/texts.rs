@@ -1,10 +1,10 @@
-//! The texts of notices.
+//! Texts of the test notices.
 
 use crate::random::{below, next};
 use crate::texts::case::{self, Manner};
 
-/// A text of up to `most` records, made of x and the numbers after it. Its lines are as long as
-/// half of it at most, on the average.
+/// Returns a text of up to `most` records, made from x and the random numbers after it. Its text
+/// lines have at most about `most / 2` records on average.
 pub fn text(most: u32, x: u32) -> Vec<u32> {
     let b = next(x);
     let c = next(b);
@@ -14,7 +14,7 @@ pub fn text(most: u32, x: u32) -> Vec<u32> {
     case::text(length(d, most), &manner, next(next(d)))
 }
 
-/// The widths of a text's glyphs are below this: mostly up to 3, and once in eight times any.
+/// Returns the exclusive bound of glyph widths: mostly widths up to 3, any width once in eight.
 fn widths(x: u32) -> u32 {
     match below(x, 8) {
         0..2 => 2,
@@ -24,7 +24,7 @@ fn widths(x: u32) -> u32 {
     }
 }
 
-/// How many records a text has: as many as there may be, none, or a number between.
+/// Returns the number of records in a text: `most`, none, or a number between.
 fn length(x: u32, most: u32) -> u32 {
     match below(x, 16) {
         0..4 => most,

@@ -1,30 +1,30 @@
-//! What a case asks about, and random texts.
+//! Test cases and random texts.
 
 use oracle::Alignment;
 
 use super::records;
 use crate::random::{below, next};
 
-/// A text, and how its lines are made: trimmed or not where they are wrapped, and scrolled to the
-/// right by `column` where they are truncated. The number is that of the case in its part.
+/// A test case. `trim` is for wrapped lines, `column` (horizontal scroll) for truncated ones.
+/// `number` is the case's index in its part.
 pub struct Case {
     pub number: u32,
     pub text: Vec<u32>,
-    pub own: Alignment,
+    pub default_alignment: Alignment,
     pub limit: u16,
     pub trim: bool,
     pub column: u16,
 }
 
-/// What a random text is like: one record in `heads` is a head, widths are below `widths`, and one
-/// glyph in `spaces` is whitespace.
+/// Distribution of a random text: one record in `heads` is a head, widths are below `widths`, and
+/// one glyph in `spaces` is whitespace.
 pub struct Manner {
     pub heads: u32,
     pub widths: u32,
     pub spaces: u32,
 }
 
-/// The alignment of a number.
+/// Returns the alignment with a number.
 pub fn alignment(number: u32) -> Alignment {
     match number {
         0 => Alignment::Left,
@@ -33,7 +33,7 @@ pub fn alignment(number: u32) -> Alignment {
     }
 }
 
-/// A text of random records.
+/// Returns a text of `length` random records.
 pub fn text(length: u32, manner: &Manner, seed: u32) -> Vec<u32> {
     let mut x = seed;
     let mut text = Vec::new();
@@ -44,7 +44,8 @@ pub fn text(length: u32, manner: &Manner, seed: u32) -> Vec<u32> {
     text
 }
 
-/// The record at a place that x and the two numbers after it give: first comes a head.
+/// Returns the record at index `place`, made from x and the next two random numbers. Record 0 is a
+/// head.
 fn any_record(place: u32, x: u32, manner: &Manner) -> u32 {
     let second = next(x);
     let third = next(second);

@@ -1,16 +1,15 @@
-//! Random texts of up to 16,384 records, at the limits 1 to 20, 80 and 4,096, and columns below
-//! 8,192.
+//! Random texts of up to 16,384 records, at limits 1 to 20, 80 and 4,096, and columns below 8,192.
 
 use super::case::{Case, Manner, alignment, text};
 use crate::random::{below, next, seed};
 
-/// How rare heads are.
+/// One record in this many is a head.
 const HEADS: [u32; 4] = [3, 20, 300, 16_384];
 
-/// Columns to scroll by come below these, so that longer lines are scrolled further.
+/// Exclusive bounds of the column: longer lines are scrolled further.
 const COLUMNS: [u32; 4] = [8, 64, 1_024, 8_192];
 
-/// The case of a number.
+/// Returns the case with a number.
 pub fn case(number: u32) -> Case {
     let a = seed(number);
     let b = next(a);
@@ -23,14 +22,14 @@ pub fn case(number: u32) -> Case {
     Case {
         number,
         text: text(length(number, d), &manner, f),
-        own: alignment(number % 3),
+        default_alignment: alignment(number % 3),
         limit: limit(below(e, 26)),
         trim: number.is_multiple_of(2),
         column: column(number, COLUMNS[kind], f),
     }
 }
 
-/// One text in five isn't scrolled.
+/// Returns the column: 0 for one text in five.
 fn column(number: u32, end: u32, x: u32) -> u16 {
     if number.is_multiple_of(5) { 0 } else { below(x, end) as u16 }
 }
@@ -43,7 +42,7 @@ fn limit(number: u32) -> u16 {
     }
 }
 
-/// One text in eight has all the records that a call accepts.
+/// Returns the number of records: the maximum that a call accepts for one text in eight.
 fn length(number: u32, x: u32) -> u32 {
     if (number / 2).is_multiple_of(8) { 16_384 } else { below(x, 16_385) }
 }

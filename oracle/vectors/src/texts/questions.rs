@@ -1,4 +1,4 @@
-//! What is asked of each text.
+//! The questions on each text.
 
 use oracle::{ComposedLine, Outcome, Wrap};
 
@@ -8,14 +8,14 @@ use crate::blocks;
 use crate::sums;
 
 pub const QUESTIONS: [Question<Case>; 4] = [
-    Question { file: "replay/data/wrapped", ask: wrapped_lines },
-    Question { file: "replay/data/tally", ask: counts },
-    Question { file: "replay/data/truncated", ask: truncated_lines },
-    Question { file: "replay/data/measures", ask: measures },
+    Question { file: "replay_texts/data/wrapped", ask: wrapped_lines },
+    Question { file: "replay_texts/data/tally", ask: counts },
+    Question { file: "replay_texts/data/truncated", ask: truncated_lines },
+    Question { file: "replay_texts/data/measures", ask: measures },
 ];
 
 fn wrapped_lines(case: &Case) -> Outcome<u32> {
-    oracle::wrapped_lines(&case.text, case.own, case.limit, case.trim)
+    oracle::wrapped_lines(&case.text, case.default_alignment, case.limit, case.trim)
         .map(|lines| sums::sum_entries(lines.iter().map(ComposedLine::packed)))
 }
 
@@ -24,12 +24,12 @@ fn counts(case: &Case) -> Outcome<u32> {
 }
 
 fn truncated_lines(case: &Case) -> Outcome<u32> {
-    oracle::truncated_lines(&case.text, case.own, case.limit, case.column)
+    oracle::truncated_lines(&case.text, case.default_alignment, case.limit, case.column)
         .map(|lines| sums::sum_lines(&lines))
 }
 
-/// How many rows the text needs, wrapped and not, and how many columns, in the block of the inner
-/// area with the case's number.
+/// Returns the checksum of the text's rows, wrapped and unwrapped, and its columns, in the block of
+/// the inner-area case with the same number.
 fn measures(case: &Case) -> Outcome<u32> {
     let blocks::Case { block, titles, .. } = blocks::inner::case(case.number);
     let (wrapped, unwrapped) = (Wrap::On { trim: case.trim }, Wrap::Off { column: case.column });

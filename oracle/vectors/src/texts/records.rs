@@ -1,11 +1,11 @@
-//! The records of the cases' texts.
+//! Records of the test texts.
 
-/// A head of an alignment.
+/// Returns a head with an alignment.
 pub fn head(alignment: u32) -> u32 {
     1 << 31 | alignment << 29
 }
 
-/// A glyph. Its symbol and its style are any that x gives.
+/// Returns a glyph whose symbol and style are taken from x.
 pub fn glyph(width: u32, space: u32, x: u32) -> u32 {
     (x % (1 << 21)) << 10 | width << 7 | space << 6 | (x % 64)
 }

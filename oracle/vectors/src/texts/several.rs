@@ -1,9 +1,9 @@
-//! Random texts of several short lines, at the limits 0 to 8 and the columns 0 to 9.
+//! Random texts of several short text lines, at limits 0 to 8 and columns 0 to 9.
 
 use super::case::{Case, Manner, alignment, text};
 use crate::random::{below, next, seed};
 
-/// The case of a number.
+/// Returns the case with a number.
 pub fn case(number: u32) -> Case {
     let a = seed(number);
     let b = next(a);
@@ -16,7 +16,7 @@ pub fn case(number: u32) -> Case {
     Case {
         number,
         text: text(below(d, 25), &manner, f),
-        own: alignment(number % 3),
+        default_alignment: alignment(number % 3),
         limit: below(e, 9) as u16,
         trim: number.is_multiple_of(2),
         column: below(f, 10) as u16,

@@ -8,11 +8,12 @@ use borrow.Author.Needs.{needs}
 use Rattle.block.proofs.Block.has_title_at_position.Statement.{statement}
 use Rattle.block.proofs.Block.has_title_at_position.Tie as tie
 
+-- before each turn: the remaining records contain a title at the position if and only if all records do
 abbrev Inv-loop : tie.InvT-loop
-Inv-loop titles position own i₀ i = Passing (ofRecord (headIsAt own position)) titles i
+Inv-loop titles position default i₀ i = Passing (ofRecord (headIsAt default position)) titles i
 
 abbrev μ-loop : tie.MeasureT-loop
-μ-loop titles position own i₀ i = length titles - i
+μ-loop titles position default i₀ i = length titles - i
 
 loop-holds : tie.Need-loop-holds Inv-loop μ-loop
 loop-holds c = search passing

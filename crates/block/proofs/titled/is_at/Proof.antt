@@ -1,5 +1,5 @@
 -- `block::titled::is_at` meets its contract.
-use Rattle.block.proofs.Titles.{bottom-is}
+use Rattle.block.proofs.Titles.{bottom-not-top}
 use borrow.Author.Needs.{needs}
 use Rattle.block.proofs.titled.is_at.Statement.{statement}
 use Rattle.block.proofs.titled.is_at.Tie as tie
@@ -20,7 +20,7 @@ returns : tie.Need-returns
 returns c = search needs
 
 returns-2 : tie.Need-returns-2
-returns-2 c = search bottom-is
+returns-2 c = search bottom-not-top
 
 pub is-at-spec : {M : Type 1} → statement M
 is-at-spec =

@@ -3,7 +3,7 @@ use mathlib.Core.Path.{_≡_}
 use mir.Facts.{toZ-ofZ}
 use mir.Syntax.{w32}
 use mir.Val.{ofZ, toZ}
-use Rattle.flat.specs.Flat.{blockFrom}
+use Rattle.flat.specs.FlatExtra.{blockFrom}
 use Rattle.flat.proofs.Named.{block-from}
 use borrow.Author.Needs.{needs}
 use Rattle.flat.proofs.FlatBlock.block.Statement.{statement}

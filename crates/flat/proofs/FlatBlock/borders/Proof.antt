@@ -1,5 +1,5 @@
 -- `flat::FlatBlock/borders` meets its contract.
-use Rattle.flat.specs.Flat.{blockFrom}
+use Rattle.flat.specs.FlatExtra.{blockFrom}
 use borrow.Author.Needs.{needs}
 use Rattle.flat.proofs.FlatBlock.borders.Statement.{statement}
 use Rattle.flat.proofs.FlatBlock.borders.Tie as tie

@@ -4,8 +4,8 @@ use borrow.Author.Needs.{needs}
 use Rattle.pending.proofs.Pending.last_line.Statement.{statement}
 use Rattle.pending.proofs.Pending.last_line.Tie as tie
 
-gathered-requires : tie.Need-gathered-requires
-gathered-requires c κs = search needs
+gather-requires : tie.Need-gather-requires
+gather-requires c κs = search needs
 
 empty-requires : tie.Need-empty-requires
 empty-requires c κs = search needs
@@ -26,7 +26,7 @@ pub last-line-spec : {M : Type 1} → statement M
 last-line-spec =
     tie.close
     (tie.spec
-    gathered-requires
+    gather-requires
     empty-requires
     returns
     returns-2

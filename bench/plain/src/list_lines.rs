@@ -1,0 +1,41 @@
+//! The call `list_lines`.
+
+use crate::line_composer::{LineComposer, Method, WrappedLine};
+use crate::refuse::{self, Refusal, unless};
+use crate::text::Alignment;
+use crate::word_wrapper::Rule;
+
+/// "first 15 | end 15 | width 16 | alignment 2 | 16 zeros".
+fn pack(line: WrappedLine) -> u64 {
+    (line.first as u64) << 49
+        | (line.end as u64) << 34
+        | u64::from(line.width) << 18
+        | (line.alignment as u64) << 16
+}
+
+/// Checks causes 3, 4 and 8.
+pub fn check_text(limit: u16, text: &[u32]) -> Result<(), Refusal> {
+    unless(refuse::text_too_long(text), Refusal::TextLength)?;
+    unless(refuse::text_heads_wrong(text), Refusal::TextHeads)?;
+    unless(refuse::limit_wrong(limit), Refusal::Limit)
+}
+
+/// Lists the composed lines of a text: causes 3, 4, 8, 9. The lines are counted before the first
+/// entry is written.
+pub fn list_lines(
+    text: &[u32],
+    default_alignment: Alignment,
+    limit: u16,
+    trim: bool,
+    list: &mut [u64],
+) -> Result<usize, Refusal> {
+    check_text(limit, text)?;
+    let rule = Rule { limit: limit.into(), trim };
+    let lines = || LineComposer::new(rule, Method::WordWrap, default_alignment, text);
+    let count = lines().count();
+    unless(refuse::list_too_short(list.len(), count), Refusal::ListLength)?;
+    for (entry, line) in list.iter_mut().zip(lines()) {
+        *entry = pack(line);
+    }
+    Ok(count)
+}

@@ -1,3 +1,0 @@
-pub mod Few
-pub mod Pulling
-pub mod Telling

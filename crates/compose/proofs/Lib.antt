@@ -1,8 +1,0 @@
-pub mod Told
-pub mod Methods
-pub mod Composers
-pub mod Opening
-pub mod Pulling
-pub mod ReadBack
-pub mod Pulled
-pub mod Bounds

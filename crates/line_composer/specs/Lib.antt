@@ -1,0 +1,5 @@
+pub mod Lines
+pub mod Wrap
+pub mod Places
+pub mod ComposersExtra
+pub mod ComposingExtra

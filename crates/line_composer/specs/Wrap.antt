@@ -1,0 +1,18 @@
+-- Document 01, 'Wrapping' and 'After the pages': how the lines of a text are composed, wrapped or truncated.
+use Prim.Native.Nat.{ℕ}
+use mathlib.Core.Bool.{false}
+use Rattle.wrapping.specs.declared.Rule.{Rule}
+use Rattle.wrapping.specs.Rule.{ruleOf}
+use Rattle.line_composer.specs.declared.Method.{Method}
+use Rattle.line_composer.specs.declared.Method.the-variants.{WordWrap, Truncate}
+use Rattle.line_composer.specs.declared.Wrap.{Wrap}
+use Rattle.line_composer.specs.declared.Wrap.the-variants.{Off, On}
+
+abbrev pub methodOf : Wrap → Method
+methodOf (On trim) = WordWrap
+methodOf (Off column) = Truncate column
+
+-- truncation never trims
+abbrev pub ruleAt : Wrap → ℕ → Rule
+ruleAt (On trim) limit = ruleOf limit trim
+ruleAt (Off column) limit = ruleOf limit false

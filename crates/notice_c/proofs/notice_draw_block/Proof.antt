@@ -1,0 +1,50 @@
+-- `notice_c::notice_draw_block` meets its contract.
+use Rattle.notice_c.proofs.Known.{answered-unknown, answered-known}
+use mathlib.Core.Path.{_∙_}
+use borrow.Author.Needs.{needs}
+use Rattle.notice_c.proofs.notice_draw_block.Statement.{statement}
+use Rattle.notice_c.proofs.notice_draw_block.Tie as tie
+
+is-known-requires : tie.Need-is-known-requires
+is-known-requires c κs = search needs
+
+returns : tie.Need-returns
+returns c = (answered-unknown _ _ (c .before .is-known .ensures) _ _ (c .if1 .taken), answered-unknown _ _ (c .before .is-known .ensures) _ _ (c .if1 .taken))
+
+block-requires : tie.Need-block-requires
+block-requires c κs = search needs
+
+area-requires : tie.Need-area-requires
+area-requires c κs = search needs
+
+draw-block-requires : tie.Need-draw-block-requires
+draw-block-requires c κs = search needs
+
+framed-number-requires : tie.Need-framed-number-requires
+framed-number-requires c κs = search needs
+
+same-length : tie.Need-same-length
+same-length c = search needs
+
+returns-2 : tie.Need-returns-2
+returns-2 c =
+    let known = c .before .before .before .before .before .before .before .before .is-known .ensures in
+    let test = c .before .before .before .before .before .before .before .if1 .left in
+    let settings = c .before .before .before .before .before .before .block .ensures in
+    let call = c .before .before .before .draw-block .ensures in (
+      answered-known _ _ known _ _ test _ (rw (call .0, settings, c .before .before .before .before .area .ensures) at (c .framed-number .ensures)),
+      answered-known _ _ known _ _ test _ (rw (settings, c .before .before .before .before .area .ensures) at (call .1)),
+    )
+
+pub notice-draw-block-spec : {M : Type 1} → statement M
+notice-draw-block-spec =
+    tie.close
+    (tie.spec
+    is-known-requires
+    returns
+    block-requires
+    area-requires
+    draw-block-requires
+    framed-number-requires
+    same-length
+    returns-2)

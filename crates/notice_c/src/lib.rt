@@ -1,0 +1,205 @@
+// The calls that C and Rust programs link to, declared in include/notice.h. Each is the call of the same name in `notice`, with
+// settings and answers as flat structs. If a setting's number names no case, the call returns 255 and changes nothing.
+use flat::FlatArea;
+use flat::FlatBlock;
+use flat::FlatText;
+use flat_answers::FlatAreaAnswer;
+use flat_answers::FlatDrawAnswer;
+use flat_answers::FlatListAnswer;
+use flat_answers::FlatMeasureAnswer;
+use flat_answers::FlatTallyAnswer;
+ghost use mathlib.Core.Path.{_≡_};
+ghost use mathlib.Core.Bool.{cond, _&&_};
+ghost use Rattle.list_lines.specs.Call.{callOf as listCall, answerOf as listAnswer, listAfter};
+ghost use Rattle.tally.specs.Call.{callOf as tallyCall, answerOf as tallyAnswer};
+ghost use Rattle.inner.specs.Call.{callOf as innerCall, answerOf as innerAnswer};
+ghost use Rattle.measure.specs.LineCount.{callOf as countCall, answerOf as countAnswer};
+ghost use Rattle.measure.specs.LineWidth.{callOf as widthCall, answerOf as widthAnswer};
+ghost use Rattle.draw_block.specs.Call.{callOf as blockCall, answerOf as blockAnswer, cellsAfter as blockCells, blockAnswerNumber};
+ghost use Rattle.draw_notice.specs.Call.{callOf as noticeCall, answerOf as noticeAnswer, cellsAfter as noticeCells};
+ghost use Rattle.flat.specs.FlatExtra.{flagNamed, alignmentNamed, wrapNamed, areaFrom, blockKnown, blockFrom, textKnown, noticeFrom};
+ghost use Rattle.flat_answers.specs.AnswerExtra.{unknownNumber, listKnown, tallyKnown, listFlat, tallyFlat, areaFlat, drawFlat, measureFlat};
+ghost use Rattle.flat_answers.specs.AnswerExtra.{listUnknown, tallyUnknown, areaUnknown, drawUnknown, measureUnknown};
+
+// Lists the composed lines of a text.
+#[no_mangle]
+pub extern "C" fn notice_list_lines(
+    text: &[u32],
+    alignment: u8,
+    limit: u16,
+    trim: u8,
+    list: &mut [u64],
+) -> FlatListAnswer
+    ensures { λ r.
+        let known = listKnown alignment trim in
+        let call = listCall (now (text .entry)) (alignmentNamed alignment) limit (flagNamed trim) (now (list .entry)) in
+        ⌜ (r ≡ cond known (listFlat (listAnswer call)) listUnknown)
+        × (now (list .exit) ≡ cond known (listAfter call) (now (list .entry))) ⌝ }
+{
+    if 2 < alignment {
+        return FlatListAnswer {
+            lines: 0,
+            number: 255,
+        };
+    }
+    if 1 < trim {
+        return FlatListAnswer {
+            lines: 0,
+            number: 255,
+        };
+    }
+    let default_alignment = flat::alignment_named(alignment);
+    flat_answers::list_answer(notice::list_lines(text, default_alignment, limit, trim == 1, list))
+}
+
+// Tallies a text at a limit.
+#[no_mangle]
+pub extern "C" fn notice_tally(text: &[u32], limit: u16, trim: u8) -> FlatTallyAnswer
+    ensures { λ r.
+        let call = tallyCall (now (text .entry)) limit (flagNamed trim) in
+        ⌜ r ≡ cond (tallyKnown trim) (tallyFlat (tallyAnswer call)) tallyUnknown ⌝ }
+{
+    if 1 < trim {
+        return FlatTallyAnswer {
+            number: 255,
+            lines: 0,
+            placed: 0,
+            clipped: 0,
+            zero_width: 0,
+            over_wide: 0,
+            dropped: 0,
+        };
+    }
+    flat_answers::tally_answer(notice::tally(text, limit, trim == 1))
+}
+
+// Returns the inner area of a block.
+#[no_mangle]
+pub extern "C" fn notice_inner(block: FlatBlock, titles: &[u32], area: FlatArea) -> FlatAreaAnswer
+    ensures { λ r.
+        let call = innerCall (blockFrom block) (now (titles .entry)) (areaFrom area) in
+        ⌜ r ≡ cond (blockKnown block) (areaFlat (innerAnswer call)) areaUnknown ⌝ }
+{
+    if !block.is_known() {
+        return FlatAreaAnswer {
+            number: 255,
+            x: 0,
+            y: 0,
+            width: 0,
+            height: 0,
+        };
+    }
+    flat_answers::area_answer(notice::inner(block.block(), titles, area.area()))
+}
+
+// Draws a block.
+#[no_mangle]
+pub extern "C" fn notice_draw_block(
+    columns: u32,
+    rows: u32,
+    cells: &mut [u64],
+    styles: &[u64],
+    titles: &[u32],
+    area: FlatArea,
+    block: FlatBlock,
+) -> u32
+    ensures { λ r.
+        let lent = now (cells .entry) in
+        let call = blockCall columns rows lent (now (styles .entry)) (now (titles .entry)) (areaFrom area) (blockFrom block) in
+        ⌜ (r ≡ cond (blockKnown block) (blockAnswerNumber (blockAnswer call)) unknownNumber)
+        × (now (cells .exit) ≡ cond (blockKnown block) (blockCells call) lent) ⌝ }
+{
+    if !block.is_known() {
+        return 255;
+    }
+    let drawn = block.block();
+    let framed = notice::draw_block(columns, rows, cells, styles, titles, area.area(), drawn);
+    flat_answers::framed_number(framed)
+}
+
+// Draws a notice.
+#[no_mangle]
+pub extern "C" fn notice_draw_notice(
+    columns: u32,
+    rows: u32,
+    cells: &mut [u64],
+    styles: &[u64],
+    text: &[u32],
+    titles: &[u32],
+    area: FlatArea,
+    block: FlatBlock,
+    settings: FlatText,
+) -> FlatDrawAnswer
+    ensures { λ r.
+        let known = blockKnown block && textKnown settings in
+        let lent = now (cells .entry) in
+        let named = noticeFrom block settings in
+        let call = noticeCall columns rows lent (now (styles .entry)) (now (text .entry)) (now (titles .entry)) (areaFrom area) named in
+        ⌜ (r ≡ cond known (drawFlat (noticeAnswer call)) drawUnknown)
+        × (now (cells .exit) ≡ cond known (noticeCells call) lent) ⌝ }
+{
+    if !flat::all_known(block, settings) {
+        return FlatDrawAnswer {
+            number: 255,
+            rows: 0,
+            placed: 0,
+            clipped: 0,
+        };
+    }
+    let notice = settings.notice(block);
+    let drawn = notice::draw_notice(
+        columns,
+        rows,
+        cells,
+        styles,
+        text,
+        titles,
+        area.area(),
+        notice,
+    );
+    flat_answers::draw_answer(drawn)
+}
+
+// Returns the number of lines of a notice at a width, the frame's included. Only `wrap` of the text's settings is used, but
+// all numbers that should name a case are checked.
+#[no_mangle]
+pub extern "C" fn notice_line_count(
+    text: &[u32],
+    titles: &[u32],
+    block: FlatBlock,
+    settings: FlatText,
+    width: u16,
+) -> FlatMeasureAnswer
+    ensures { λ r.
+        let call = countCall (now (text .entry)) (now (titles .entry)) (blockFrom block) (wrapNamed settings) width in
+        ⌜ r ≡ cond (blockKnown block && textKnown settings) (measureFlat (countAnswer call)) measureUnknown ⌝ }
+{
+    if !flat::all_known(block, settings) {
+        return FlatMeasureAnswer {
+            number: 255,
+            value: 0,
+        };
+    }
+    let wrap = settings.named_wrap();
+    flat_answers::measure_answer(notice::line_count(text, titles, block.block(), wrap, width))
+}
+
+// Returns the number of columns that a notice needs.
+#[no_mangle]
+pub extern "C" fn notice_line_width(
+    text: &[u32],
+    titles: &[u32],
+    block: FlatBlock,
+) -> FlatMeasureAnswer
+    ensures { λ r.
+        let call = widthCall (now (text .entry)) (now (titles .entry)) (blockFrom block) in
+        ⌜ r ≡ cond (blockKnown block) (measureFlat (widthAnswer call)) measureUnknown ⌝ }
+{
+    if !block.is_known() {
+        return FlatMeasureAnswer {
+            number: 255,
+            value: 0,
+        };
+    }
+    flat_answers::measure_answer(notice::line_width(text, titles, block.block()))
+}

@@ -1,0 +1,4 @@
+pub mod Changing
+pub mod PageCount
+pub mod Sheets
+pub mod Widening

@@ -1,0 +1,3 @@
+pub mod PagingExtra
+pub mod SheetExtra
+pub mod WidthsExtra

@@ -1,0 +1,38 @@
+-- `render_block::render` meets its contract.
+use Rattle.render_block.proofs.Frames.{frames}
+use borrow.Author.Needs.{needs}
+use Rattle.render_block.proofs.render.Statement.{statement}
+use Rattle.render_block.proofs.render.Tie as tie
+
+area-requires : tie.Need-area-requires
+area-requires c κs = search needs
+
+intersection-requires : tie.Need-intersection-requires
+intersection-requires c κs = search needs
+
+is-empty-requires : tie.Need-is-empty-requires
+is-empty-requires c κs = search needs
+
+returns : tie.Need-returns
+returns c = search frames
+
+render-frame-requires : tie.Need-render-frame-requires
+render-frame-requires c κs = ((search needs, search frames, search frames, search frames, search needs), search frames)
+
+same-length : tie.Need-same-length
+same-length c = search needs
+
+returns-2 : tie.Need-returns-2
+returns-2 c = search frames
+
+pub render-spec : {M : Type 1} → statement M
+render-spec =
+    tie.close
+    (tie.spec
+    area-requires
+    intersection-requires
+    is-empty-requires
+    returns
+    render-frame-requires
+    same-length
+    returns-2)

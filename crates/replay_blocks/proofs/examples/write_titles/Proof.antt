@@ -1,0 +1,60 @@
+-- `replay_blocks::examples::write_titles` meets its contract.
+use borrow.Author.Needs.{needs}
+use Prim.Native.Nat.{_-_, _≤_}
+use lib.ListN.{length, length-set}
+use mathlib.Core.Path.{_≡_}
+use Rattle.replay_blocks.proofs.examples.write_titles.Statement.{statement}
+use Rattle.replay_blocks.proofs.examples.write_titles.Tie as tie
+
+abbrev Inv-loop : tie.InvT-loop
+Inv-loop titles₀ text i₀ titles i = (i ≤ length text) × (length titles ≡ length titles₀)
+
+abbrev μ-loop : tie.MeasureT-loop
+μ-loop titles₀ text i₀ titles i = length text - i
+
+loop-holds : tie.Need-loop-holds Inv-loop μ-loop
+loop-holds c = search needs
+
+shared-slice-read-record : tie.Need-shared-slice-read-record Inv-loop μ-loop
+shared-slice-read-record c = search needs
+
+record-requires : tie.Need-record-requires Inv-loop μ-loop
+record-requires c κs = search needs
+
+mul-titles : tie.Need-mul-titles Inv-loop μ-loop
+mul-titles c = search needs
+
+slice-write-titles : tie.Need-slice-write-titles Inv-loop μ-loop
+slice-write-titles c = search needs
+
+add-i : tie.Need-add-i Inv-loop μ-loop
+add-i c = search needs
+
+loop-less : tie.Need-loop-less Inv-loop μ-loop
+loop-less c = search needs
+
+loop-again : tie.Need-loop-again Inv-loop μ-loop
+loop-again c = (search needs, simp length-set (search needs))
+
+same-length : tie.Need-same-length Inv-loop μ-loop
+same-length c = search needs
+
+returns : tie.Need-returns Inv-loop μ-loop
+returns c = search needs
+
+pub write-titles-spec : {M : Type 1} → statement M
+write-titles-spec =
+    tie.close
+    (tie.spec
+    Inv-loop
+    μ-loop
+    loop-holds
+    shared-slice-read-record
+    record-requires
+    mul-titles
+    slice-write-titles
+    add-i
+    loop-less
+    loop-again
+    same-length
+    returns)

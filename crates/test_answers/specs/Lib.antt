@@ -1,0 +1,3 @@
+pub mod BlocksExtra
+pub mod NoticesExtra
+pub mod TextsExtra

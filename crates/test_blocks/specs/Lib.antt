@@ -1,0 +1,3 @@
+pub mod ScreensExtra
+pub mod SizesExtra
+pub mod TitlesExtra

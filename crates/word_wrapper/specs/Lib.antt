@@ -1,0 +1,2 @@
+pub mod StepsExtra
+pub mod PullsExtra
