@@ -7,3 +7,4 @@ pub mod OnScreen
 pub mod Order
 pub mod Inks
 pub mod Filling
+pub mod Keeping

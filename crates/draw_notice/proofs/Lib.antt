@@ -1,2 +1,3 @@
 pub mod Styles
 pub mod Answers
+pub mod Untouched

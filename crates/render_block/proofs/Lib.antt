@@ -1,3 +1,6 @@
 pub mod Frames
 pub mod KeepsSymbols
 pub mod Keeps
+pub mod Keeping
+pub mod KeepsBits
+pub mod Elsewhere

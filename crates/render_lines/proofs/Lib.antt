@@ -1,3 +1,4 @@
 pub mod Skipping
 pub mod Bounds
 pub mod TextDrawn
+pub mod Keeping

@@ -10,3 +10,5 @@ pub mod LastTitle
 pub mod RightTitles
 pub mod Positions
 pub mod OtherRows
+pub mod Keeping
+pub mod OtherColumns

@@ -1,0 +1,83 @@
+-- Document 01 on the call `draw_block`: "untouched cells are named equal". `keeps-bits`: the 18 bits "never touched" of every cell are
+-- those before the call. `elsewhere`: cells outside the met area and the shadow's area are equal. `answer-blind`: "The answer never
+-- depends on the cells found."
+use Prim.Native.Nat.{ℕ, _/_, _%_, _<_}
+use mathlib.Core.Path.{_≡_, refl, ap, _∙_}
+use mathlib.Core.Bool.{false}
+use mathlib.Core.List.{List}
+use lib.ListN.{length, getD}
+use Rattle.cell.specs.Cell.{cellFrom}
+use Rattle.layout.specs.declared.Rect.{Rect}
+use Rattle.layout.specs.Rect.{meet, contains}
+use Rattle.buffer.specs.declared.Screen.{Screen as ScreenSize}
+use Rattle.buffer.specs.Drawing.{Drawing, drawn, areaOf}
+use Rattle.buffer.specs.Screen.{screenOf}
+use Rattle.buffer.proofs.Changed.{changed-at}
+use Rattle.buffer.proofs.Drawn.{drawn-length}
+use Rattle.refuse.specs.declared.Verdict.{Verdict}
+use Rattle.refuse.specs.declared.Verdict.the-variants.{Accepted, Refused as RefusedFor}
+use Rattle.refuse.specs.Refusal.{unlessRefused}
+use Rattle.shadow.proofs.Keeping.{inShadow}
+use Rattle.render_block.proofs.KeepsBits.{keeps-bits as block-keeps-bits}
+use Rattle.render_block.proofs.Elsewhere.{elsewhere as block-elsewhere}
+use Rattle.draw_block.specs.Call.{Call, callOf, causesOf, verdictOf, answerOf, drawingOf, cellsAfter}
+use Rattle.draw_block.proofs.Answers.{drawable}
+
+-- cell i, which is in column i % columns and row i / columns, after a drawing
+drawn-cell : (columns : ℕ) (d : Drawing) (cells : List ℕ) (i : ℕ) → i < length cells
+    → getD (drawn columns d cells) i 0 ≡ d (i % columns) (i / columns) (getD cells i 0)
+unfolding drawn
+drawn-cell columns d cells i h = changed-at (λ i cell. d (i % columns) (i / columns) cell) cells i h
+
+module _ (call : Call) where
+  abbrev pub screenIn : ScreenSize
+  screenIn = screenOf (call .columns) (call .rows)
+
+  abbrev pub metIn : Rect
+  metIn = meet (call .area) (areaOf screenIn)
+
+  abbrev drawnCells : List ℕ
+  drawnCells = drawn (call .columns) (drawingOf call) (call .cells)
+
+  pub same-length : length (cellsAfter call) ≡ length (call .cells)
+  unfolding cellsAfter
+  same-length = go (verdictOf call)
+    where
+      go : (v : Verdict) → length (unlessRefused v drawnCells (call .cells)) ≡ length (call .cells)
+      go Accepted = drawn-length (call .columns) (drawingOf call) (call .cells)
+      go (RefusedFor why) = refl
+
+  -- cell i; a refused call leaves it
+  module _ (i : ℕ) (h : i < length (call .cells)) where
+    pub keeps-bits : cellFrom (getD (cellsAfter call) i 0) .untouched ≡ cellFrom (getD (call .cells) i 0) .untouched
+    unfolding cellsAfter drawingOf
+    keeps-bits = go (verdictOf call)
+      where
+        go : (v : Verdict)
+            → cellFrom (getD (unlessRefused v drawnCells (call .cells)) i 0) .untouched
+            ≡ cellFrom (getD (call .cells) i 0) .untouched
+        go Accepted =
+            ap (λ (cell : ℕ). cellFrom cell .untouched) (drawn-cell (call .columns) (drawingOf call) (call .cells) i h)
+            ∙ block-keeps-bits (call .styles) screenIn (call .titles) (call .block) (i % call .columns) (i / call .columns) (call .area) (getD (call .cells) i 0)
+        go (RefusedFor why) = refl
+
+    pub elsewhere : contains metIn (i % call .columns) (i / call .columns) ≡ false
+        → inShadow screenIn metIn (call .block .shadow) (i % call .columns) (i / call .columns) ≡ false
+        → getD (cellsAfter call) i 0 ≡ getD (call .cells) i 0
+    unfolding cellsAfter drawingOf
+    elsewhere outside unshadowed = go (verdictOf call) refl
+      where
+        go : (v : Verdict) → v ≡ verdictOf call → getD (unlessRefused v drawnCells (call .cells)) i 0 ≡ getD (call .cells) i 0
+        go Accepted e =
+            drawn-cell (call .columns) (drawingOf call) (call .cells) i h
+            ∙ block-elsewhere (call .styles) screenIn (drawable call Accepted e refl .1 .few-columns) (call .titles) (call .block) (call .area)
+            (i % call .columns) (i / call .columns) (getD (call .cells) i 0) outside unshadowed
+        go (RefusedFor why) e = refl
+
+  -- the same call on other cells
+  abbrev pub onCells : List ℕ → Call
+  onCells cells = callOf (call .columns) (call .rows) cells (call .styles) (call .titles) (call .area) (call .block)
+
+  pub answer-blind : (cells : List ℕ) → length cells ≡ length (call .cells) → answerOf (onCells cells) ≡ answerOf call
+  unfolding answerOf verdictOf causesOf
+  answer-blind cells e = rw e
