@@ -5,6 +5,7 @@ pub mod Row
 pub mod Screen
 pub mod Cells
 pub mod Read
+pub mod Blank
 pub mod Reached
 pub mod Counts
 pub mod Text

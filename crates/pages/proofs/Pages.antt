@@ -13,6 +13,7 @@ use Rattle.pages.specs.Reading.{Seen, seen, OneCell, WrappedNotice, Reac
 use Rattle.pages.proofs.Fit.{Fit}
 use Rattle.pages.proofs.Screen.{accepted-at, inner-some}
 use Rattle.pages.proofs.Read.{pages-read}
+use Rattle.pages.proofs.Blank.{blank-elsewhere}
 use Rattle.pages.proofs.Reached.{wrapped-lines, reached-16, text-accepted}
 use Rattle.pages.proofs.Text.{fit-text, placed-glyphs}
 use Rattle.pages.proofs.Counts.{same-counts}
@@ -40,6 +41,7 @@ pages i w cells =
           ∙ ap (map (λ (g : Glyph). g .symbol)) glyphs;
       places = places;
       glyphs = glyphs;
+      blank-elsewhere = blank-elsewhere i places;
     }
 
 pub page-counts : (i : Call) (w : WrappedNotice i) → SameCounts i (w .trim)

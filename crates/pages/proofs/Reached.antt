@@ -2,12 +2,13 @@
 -- records.
 -- text-accepted: the tally at the inner width accepts every text that `draw_notice` accepts.
 use Prim.Native.Nat.{ℕ, _+_, _-_, _*_, _<_, _≤_}
-use mathlib.Core.Path.{_≡_}
+use mathlib.Core.Path.{_≡_, ap, _∙_}
 use mathlib.Core.List.{List}
 use native.Mathlib.Nat.{div-add-mod', mod-lt, mul-le-mul-right}
 use native.Mathlib.Omega.{arith}
 use borrow.Author.Tests.{le-ltb}
 use lib.ListN.{length}
+use Rattle.text.specs.declared.Alignment.the-variants.{Left}
 use Rattle.layout.specs.declared.Rect.{Rect}
 use Rattle.layout.specs.Rect.{meet}
 use Rattle.buffer.specs.Drawing.{areaOf}
@@ -21,7 +22,10 @@ use Rattle.wrapping.specs.Rule.{ruleOf}
 use Rattle.line_composer.specs.declared.Method.the-variants.{WordWrap}
 use Rattle.line_composer.specs.Lines.{lines}
 use Rattle.line_composer.proofs.Bounds.{lines-short}
+use Rattle.tally_lines.specs.declared.LineCounts.{LineCounts}
+use Rattle.tally_lines.specs.TallyingExtra.{lineCounts}
 use Rattle.tally.specs.Call as tally
+use Rattle.tally.proofs.EveryGlyph.{default-alignment-irrelevant}
 use Rattle.paragraph.specs.Notice.{noticeLines, innerAreaOf}
 use Rattle.draw_notice.specs.Call.{Call, causesOf, verdictOf, screenIn}
 use Rattle.draw_notice.proofs.Answers.{text-sound}
@@ -43,7 +47,7 @@ module _ (i : Call) (w : WrappedNotice i) where
   pub text-short : length (i .text) ≤ 16384
   text-short = text-sound i (w .accepted) .short
 
-  few-columns : innerArea i .width ≤ 512
+  pub few-columns : innerArea i .width ≤ 512
   unfolding innerArea innerAreaOf
   few-columns =
       omega (
@@ -62,6 +66,13 @@ module _ (i : Call) (w : WrappedNotice i) where
   pub wrapped-lines : composedLines i ≡ lines (ruleOf (innerArea i .width) (w .trim)) WordWrap (i .notice .alignment) (i .text)
   unfolding composedLines noticeLines
   wrapped-lines = rw (w .wrapped)
+
+  -- as many as with default alignment left
+  pub left-lines : length (composedLines i) ≡ length (lines (ruleOf (innerArea i .width) (w .trim)) WordWrap Left (i .text))
+  unfolding lineCounts
+  left-lines =
+      ap length wrapped-lines
+      ∙ ap (λ (c : LineCounts). c .lines) (default-alignment-irrelevant (ruleOf (innerArea i .width) (w .trim)) (i .text) (i .notice .alignment) Left)
 
   pub few-lines : length (composedLines i) ≤ 16384
   few-lines = rw wrapped-lines (omega (arith, text-short, lines-short (ruleOf (innerArea i .width) (w .trim)) (i .notice .alignment) (i .text)))

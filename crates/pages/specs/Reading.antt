@@ -1,13 +1,14 @@
 -- Demand 3, 'Nothing is lost', quoted from the demands (docs/PROMISES.md): the symbols read over all pages, the notices it covers.
 use Prim.Native.Nat.{ℕ, zero, suc, _+_, _*_, _<_}
 use mathlib.Core.Path.{_≡_}
-use mathlib.Core.Bool.{Bool, false, cond}
+use mathlib.Core.Bool.{Bool, true, false, cond, _&&_}
 use mathlib.Core.List.{List, [], _∷_, _++_, map}
 use lib.Dec.{eqb}
 use lib.ListN.{length, getD}
 use Rattle.text.specs.Line.{Glyph, glyphsFrom}
+use Rattle.text.specs.Lists.{some}
 use Rattle.cell.specs.Cell.{cellFrom, blankSymbol}
-use Rattle.layout.specs.Rect.{isEmpty}
+use Rattle.layout.specs.Rect.{isEmpty, contains}
 use Rattle.refuse.specs.declared.Verdict.the-variants.{Accepted}
 use Rattle.nothing_lost.specs.Glyphs.{solids}
 use Rattle.line_composer.specs.declared.Wrap.the-variants.{On}
@@ -67,8 +68,24 @@ pub record WrappedNotice (i : Call) : Type 0 where
 abbrev pub Reached : Call → Type 0
 Reached i = (page : ℕ) → page < pagesOf i → (scrollOf i page < 65536) × (verdictOf (pageCall i page) ≡ Accepted)
 
+-- whether a glyph is placed on a page, at a row and column of the screen
+abbrev pub isPlacedAt : ℕ → ℕ → ℕ → Placement → Bool
+isPlacedAt page row column p = eqb (p .page) page && eqb (p .row) row && eqb (p .column) column
+
+-- the symbol of a cell on a page, at a row and column of the screen
+abbrev pub symbolAt : Call → ℕ → ℕ → ℕ → ℕ
+symbolAt i page row column = cellFrom (getD (cellsAfter (pageCall i page)) (row * i .columns + column) 0) .symbol
+
+-- Document 01: "Inner cells without a glyph hold the blank symbol." `placements` has the non-whitespace glyphs, so the cells of
+-- whitespace glyphs hold it too.
+abbrev pub BlankElsewhere : Call → Type 0
+BlankElsewhere i =
+    (page row column : ℕ) → page < pagesOf i → contains (innerArea i) column row ≡ true
+    → some (isPlacedAt page row column) (placements i) ≡ false
+    → symbolAt i page row column ≡ blankSymbol
+
 -- Demand 3, the pages: together they show each non-whitespace glyph of the text once, in text order, in its place, and nothing
--- else. So "Inner cells without a glyph hold the blank symbol": any other symbol would be read.
+-- else.
 pub record NothingLost (i : Call) : Type 0 where
   pub reached : Reached i
   -- "the symbols … are exactly those of its text's non-whitespace glyphs"
@@ -77,6 +94,7 @@ pub record NothingLost (i : Call) : Type 0 where
   pub places : pagesRead i ≡ map seen (placements i)
   -- "Each is there once, in text order"
   pub glyphs : map (λ (p : Placement). p .glyph) (placements i) ≡ solids (glyphsFrom 0 (i .text))
+  pub blank-elsewhere : BlankElsewhere i
 
 -- Demand 3, the counts of a tally call, for glyphs of any width: "placed + clipped + zero-width + over-wide + dropped = glyphs",
 -- "and every dropped glyph is whitespace".
