@@ -28,7 +28,7 @@ module _ (l : ListAnswer) where
   answer-refused why number e n = rw (e, n)
 
 -- the record count of an accepted text, in an input of n records
-Counted : Parsed → ℕ → Type 0
+unfoldable pub Counted : Parsed → ℕ → Type 0
 Counted (Refused number) n = Unit {0}
 Counted (Text limit trim count) n = (count ≡ n) × (count ≤ mostRecords)
 
@@ -39,7 +39,7 @@ counted-of false true c trim limit n e = tt
 counted-of false false true trim limit n e = tt
 counted-of false false false trim limit n e = (refl, ltb-false mostRecords n e)
 
-counted : (input : List ℕ) → Counted (parsedOf input) (length (recordsOf input))
+pub counted : (input : List ℕ) → Counted (parsedOf input) (length (recordsOf input))
 unfolding parsedOf
 counted input = counted-of (incomplete input) (trimWrong input) (tooMany input) (trimOf input) (limitOf input) (length (recordsOf input)) refl
 

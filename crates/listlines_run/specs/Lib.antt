@@ -1,2 +1,3 @@
 pub mod Program
+pub mod Printed
 pub mod CutExtra

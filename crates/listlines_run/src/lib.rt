@@ -1,14 +1,16 @@
 // The program `listlines`: reads a limit, a trim byte and records, and prints the composed lines or the number of the refusal.
+use libc::STDOUT_FILENO;
 use list_lines::ListAnswer;
 use listlines_input::Parsed;
 use text::Alignment;
 ghost use mathlib.Core.Path.{_≡_};
-ghost use Prim.Native.Nat.{_≤_};
-ghost use lib.ListN.{length};
+ghost use Prim.Native.Nat.{_+_, _*_, _≤_};
+ghost use lib.ListN.{length, take};
+ghost use Rattle.io.specs.Counts.{Counts};
 ghost use Rattle.listlines_input.specs.Input.{mostRecords};
 ghost use Rattle.listlines_run.specs.Program.{answerFor, answerOf, listOf};
+ghost use Rattle.listlines_run.specs.Printed.{printedOf};
 
-mod print;
 mod read;
 
 // The program's answer: the count of lines in the list, or the number of a refusal.
@@ -53,14 +55,27 @@ fn answer_to(input: &[u8], text: &mut [u32], list: &mut [u64]) -> Answer
     }
 }
 
+// Writes the output for an input at the start of `output` and returns its length in bytes: at most 24 for each line, 12 for their
+// count.
+fn output_for(input: &[u8], text: &mut [u32], list: &mut [u64], output: &mut [u8]) -> usize
+    requires { ⌜ (mostRecords ≤ length (now text)) × (length (now list) ≡ mostRecords) ⌝ }
+    requires { ⌜ 24 * mostRecords + 12 ≤ length (now output) ⌝ }
+    ensures { λ r. ⌜ Counts r (now (output .exit)) ⌝ }
+    ensures { λ r. ⌜ take r (now (output .exit)) ≡ printedOf (now (input .entry)) ⌝ }
+{
+    match answer_to(input, text, list) {
+        Answer::Refused(number) => listlines_output::put_refused(output, number),
+        Answer::Lines(count) => listlines_output::put_lines(output, &list[..count]),
+    }
+}
+
 // Runs the program: reads from a descriptor, prints to standard output.
 pub fn run(fd: i32) {
     let mut buffer = [0u8; 16394];
     let length = read::read_all(fd, &mut buffer);
     let mut text = [0u32; 4096];
     let mut list = [0u64; 4096];
-    match answer_to(&buffer[..length], &mut text, &mut list) {
-        Answer::Refused(number) => print::refused(number),
-        Answer::Lines(count) => print::lines(&list, count),
-    }
+    let mut output = [0u8; 98316];
+    let bytes = output_for(&buffer[..length], &mut text, &mut list, &mut output);
+    io::write_all(STDOUT_FILENO, &output[..bytes]);
 }

@@ -8,8 +8,8 @@ use native.Mathlib.Omega.{arith}
 use borrow.Author.Tests.{lt-ltb, le-ltb, eq-eqb, ne-eqb}
 use lib.ListN.{length, getD, drop, drop-of-length-le}
 use lib.Seq.{drop-cons}
-use Rattle.preview_append.specs.WrittenExtra.{Written}
-use Rattle.preview_append.proofs.Writing.{written-none, written-then}
+use Rattle.append_bytes.specs.WrittenExtra.{Written}
+use Rattle.append_bytes.proofs.Writing.{written-none, written-then}
 use Rattle.cell.specs.Cell.{cellFrom, appearanceOf}
 use Rattle.preview_sgr.specs.SgrExtra.{sgr}
 use Rattle.preview_utf8.specs.Utf8Extra.{utf8}

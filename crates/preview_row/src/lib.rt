@@ -1,12 +1,12 @@
 // Writes a row of cells as text, with escape sequences for colours and modifiers if asked. The bits of a cell that drawing never
 // touches hold the width of its symbol here; cells that a wide symbol covers are skipped.
-use preview_append::put;
+use append_bytes::put;
 use preview_sgr::put_style;
 use preview_utf8::put_symbol;
 ghost use mathlib.Core.Path.{_≡_};
 ghost use Prim.Native.Nat.{_+_, _-_, _*_, _≤_};
 ghost use lib.ListN.{length};
-ghost use Rattle.preview_append.specs.WrittenExtra.{Written};
+ghost use Rattle.append_bytes.specs.WrittenExtra.{Written};
 ghost use Rattle.preview_row.specs.RowExtra.{styleText, cellText, stepText, styleAfter, coveredAfter, cellsText, endText, rowText};
 
 // Offset of the next byte, style of the previous cell, and count of the next cells that a wide symbol covers.

@@ -5,9 +5,9 @@ use mathlib.Core.List.{List, [], _∷_, _++_, append-assoc, append-nil}
 use native.Mathlib.Omega.{arith}
 use borrow.Author.Tests.{lt-ltb, le-ltb, eq-eqb, ne-eqb}
 use lib.ListN.{length}
-use Rattle.preview_append.specs.WrittenExtra.{Written}
+use Rattle.append_bytes.specs.WrittenExtra.{Written}
 use Rattle.cell.specs.Cell.{cellFrom}
-use Rattle.preview_append.proofs.Writing.{written-none, written-then}
+use Rattle.append_bytes.proofs.Writing.{written-none, written-then}
 use Rattle.preview_sgr.specs.SgrExtra.{digit, decimal, code, codes, colour, sgr}
 
 module _ (old new : List ℕ) (at to n : ℕ) where

@@ -1,12 +1,12 @@
 // Writes a cell's colours and modifiers as an escape sequence.
-use preview_append::put;
-use preview_append::put_2;
-use preview_append::put_all;
+use append_bytes::put;
+use append_bytes::put_2;
+use append_bytes::put_all;
 ghost use mathlib.Core.Path.{_≡_};
 ghost use mathlib.Core.List.{[], _∷_, _++_};
 ghost use Prim.Native.Nat.{_+_, _<_, _≤_};
 ghost use lib.ListN.{length};
-ghost use Rattle.preview_append.specs.WrittenExtra.{Written};
+ghost use Rattle.append_bytes.specs.WrittenExtra.{Written};
 ghost use Rattle.cell.specs.Cell.{cellFrom};
 ghost use Rattle.preview_sgr.specs.SgrExtra.{digit, decimal, code, codes, colour, sgr};
 

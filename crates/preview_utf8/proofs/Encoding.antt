@@ -8,8 +8,8 @@ use borrow.Author.Tests.{lt-ltb, le-ltb, ltb-false, le-leb, lt-leb}
 use lib.Dec.{leb, ltb}
 use lib.ListN.{length}
 use Rattle.text.proofs.Bools.{neither}
-use Rattle.preview_append.specs.WrittenExtra.{Written}
-use Rattle.preview_append.proofs.Writing.{written-then}
+use Rattle.append_bytes.specs.WrittenExtra.{Written}
+use Rattle.append_bytes.proofs.Writing.{written-then}
 use Rattle.preview_utf8.specs.Utf8Extra.{inRange, hidden, shown, following, encoded, utf8}
 
 module _ (low high n : ℕ) where

@@ -1,10 +1,10 @@
 // Writes a symbol as UTF-8. One that can't be shown is replaced, so that no control character reaches the terminal.
-use preview_append::put;
-use preview_append::put_2;
+use append_bytes::put;
+use append_bytes::put_2;
 ghost use mathlib.Core.Path.{_≡_};
 ghost use Prim.Native.Nat.{_+_, _<_, _≤_};
 ghost use lib.ListN.{length};
-ghost use Rattle.preview_append.specs.WrittenExtra.{Written};
+ghost use Rattle.append_bytes.specs.WrittenExtra.{Written};
 ghost use Rattle.preview_utf8.specs.Utf8Extra.{inRange, hidden, shown, following, encoded, utf8};
 
 fn is_in_range(low: u64, high: u64, number: u64) -> bool

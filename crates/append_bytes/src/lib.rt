@@ -2,7 +2,7 @@
 ghost use Prim.Native.Nat.{_+_, _<_, _≤_};
 ghost use mathlib.Core.List.{[], _∷_};
 ghost use lib.ListN.{length};
-ghost use Rattle.preview_append.specs.WrittenExtra.{Written};
+ghost use Rattle.append_bytes.specs.WrittenExtra.{Written};
 
 // Writes a byte at offset `at` and returns the offset of the next one.
 pub fn put(buffer: &mut [u8], at: usize, byte: u8) -> usize

@@ -1,8 +1,8 @@
--- `preview_append::put` meets its contract.
-use Rattle.preview_append.proofs.Writing.{writing}
+-- `append_bytes::put` meets its contract.
+use Rattle.append_bytes.proofs.Writing.{writing}
 use borrow.Author.Needs.{needs}
-use Rattle.preview_append.proofs.put.Statement.{statement}
-use Rattle.preview_append.proofs.put.Tie as tie
+use Rattle.append_bytes.proofs.put.Statement.{statement}
+use Rattle.append_bytes.proofs.put.Tie as tie
 
 slice-write-buffer : tie.Need-slice-write-buffer
 slice-write-buffer c = search needs

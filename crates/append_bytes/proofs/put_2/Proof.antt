@@ -1,8 +1,8 @@
--- `preview_append::put_2` meets its contract.
-use Rattle.preview_append.proofs.Writing.{written-cons}
+-- `append_bytes::put_2` meets its contract.
+use Rattle.append_bytes.proofs.Writing.{written-cons}
 use borrow.Author.Needs.{needs}
-use Rattle.preview_append.proofs.put_2.Statement.{statement}
-use Rattle.preview_append.proofs.put_2.Tie as tie
+use Rattle.append_bytes.proofs.put_2.Statement.{statement}
+use Rattle.append_bytes.proofs.put_2.Tie as tie
 
 put-requires : tie.Need-put-requires
 put-requires c κs = search needs

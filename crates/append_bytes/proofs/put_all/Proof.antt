@@ -1,10 +1,10 @@
--- `preview_append::put_all` meets its contract.
+-- `append_bytes::put_all` meets its contract.
 use Prim.Native.Nat.{_-_}
 use lib.ListN.{length}
-use Rattle.preview_append.proofs.Writing.{Putting, putting}
+use Rattle.append_bytes.proofs.Writing.{Putting, putting}
 use borrow.Author.Needs.{needs}
-use Rattle.preview_append.proofs.put_all.Statement.{statement}
-use Rattle.preview_append.proofs.put_all.Tie as tie
+use Rattle.append_bytes.proofs.put_all.Statement.{statement}
+use Rattle.append_bytes.proofs.put_all.Tie as tie
 
 abbrev Inv-loop : tie.InvT-loop
 Inv-loop buffer₀ at bytes next₀ i₀ buffer next i = Putting buffer₀ bytes at buffer next i

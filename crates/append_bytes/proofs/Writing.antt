@@ -6,7 +6,7 @@ use native.Mathlib.Numerals.{add-one}
 use native.Mathlib.Omega.{arith}
 use lib.ListN.{length, getD, set, take, drop, length-append, length-set}
 use lib.Seq.{take-suc, take-suc-set, take-length, length-take-le, drop-set-lt, drop-drop}
-use Rattle.preview_append.specs.WrittenExtra.{Written}
+use Rattle.append_bytes.specs.WrittenExtra.{Written}
 
 module _ (old : List ℕ) (from : ℕ) where
   pub written-none : Written old from old from []
