@@ -34,7 +34,7 @@ fn style_numbers_wrong(count: usize, text: &[u32], titles: &[u32], notice: Notic
 }
 
 // Returns the verdict of the call's checks, lowest cause first.
-fn draw_notice_verdict(
+pub fn draw_notice_verdict(
     columns: u32,
     rows: u32,
     cells: &[u64],

@@ -16,7 +16,10 @@ use Rattle.measure.specs.declared.MeasureAnswer.the-variants.{Value, Refused as
 use Rattle.render_lines.specs.declared.DrawCounts.{DrawCounts}
 use Rattle.draw_notice.specs.declared.NoticeAnswer.{NoticeAnswer}
 use Rattle.draw_notice.specs.declared.NoticeAnswer.the-variants.{Counts, Refused as NotDrawn}
-use Rattle.flat_answers.specs.AnswerExtra.{listFlat, tallyFlat, areaFlat, drawFlat, measureFlat}
+use Rattle.count_pages.specs.declared.PageCounts.{PageCounts}
+use Rattle.count_pages.specs.declared.PagesAnswer.{PagesAnswer}
+use Rattle.count_pages.specs.declared.PagesAnswer.the-variants.{Pages, Refused as NotCounted}
+use Rattle.flat_answers.specs.AnswerExtra.{listFlat, tallyFlat, areaFlat, drawFlat, measureFlat, pagesFlat}
 
 module _ (a : ListAnswer) where
   pub list-written : (count : ℕ) → a ≡ Written count → record { lines = count; number = 0 } ≡ listFlat a
@@ -65,4 +68,15 @@ module _ (a : MeasureAnswer) where
   unfolding measureFlat
   measure-refused why number e n = rw (e, n)
 
-pub ruleset flattened = (list-written, list-refused, tally-counted, tally-refused, area-there, area-refused, draw-shown, draw-refused, measure-value, measure-refused)
+module _ (a : PagesAnswer) where
+  pub pages-there : (c : PageCounts) → a ≡ Pages c
+      → record { number = 0; x = c .inner .x; y = c .inner .y; width = c .inner .width; height = c .inner .height; lines = c .lines; pages = c .pages } ≡ pagesFlat a
+  unfolding pagesFlat
+  pages-there c e = rw e
+
+  pub pages-refused : (why : Refusal) (number : ℕ) → a ≡ NotCounted why → number ≡ refusalNumber why
+      → record { number = number; x = 0; y = 0; width = 0; height = 0; lines = 0; pages = 0 } ≡ pagesFlat a
+  unfolding pagesFlat
+  pages-refused why number e n = rw (e, n)
+
+pub ruleset flattened = (list-written, list-refused, tally-counted, tally-refused, area-there, area-refused, draw-shown, draw-refused, measure-value, measure-refused, pages-there, pages-refused)

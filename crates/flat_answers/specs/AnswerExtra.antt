@@ -16,11 +16,15 @@ use Rattle.measure.specs.Answers.{measureAnswerNumber, measureAnswerValue}
 use Rattle.render_lines.specs.declared.DrawCounts.{DrawCounts}
 use Rattle.draw_notice.specs.declared.NoticeAnswer.{NoticeAnswer}
 use Rattle.draw_notice.specs.Call.{noticeAnswerNumber, noticeAnswerCounts}
+use Rattle.count_pages.specs.declared.PageCounts.{PageCounts}
+use Rattle.count_pages.specs.declared.PagesAnswer.{PagesAnswer}
+use Rattle.count_pages.specs.Call.{pagesAnswerNumber, pagesAnswerCounts}
 use Rattle.flat_answers.specs.declared.FlatListAnswer.{FlatListAnswer}
 use Rattle.flat_answers.specs.declared.FlatTallyAnswer.{FlatTallyAnswer}
 use Rattle.flat_answers.specs.declared.FlatAreaAnswer.{FlatAreaAnswer}
 use Rattle.flat_answers.specs.declared.FlatDrawAnswer.{FlatDrawAnswer}
 use Rattle.flat_answers.specs.declared.FlatMeasureAnswer.{FlatMeasureAnswer}
+use Rattle.flat_answers.specs.declared.FlatPagesAnswer.{FlatPagesAnswer}
 
 -- number returned for a setting whose number names no case
 abbrev pub unknownNumber : ℕ
@@ -63,6 +67,19 @@ drawFlat answer =
 unfoldable pub measureFlat : MeasureAnswer → FlatMeasureAnswer
 measureFlat answer = record { number = measureAnswerNumber answer; value = measureAnswerValue answer }
 
+unfoldable pub pagesFlat : PagesAnswer → FlatPagesAnswer
+pagesFlat answer =
+    let c : PageCounts = pagesAnswerCounts answer in
+    record {
+      number = pagesAnswerNumber answer;
+      x = c .inner .x;
+      y = c .inner .y;
+      width = c .inner .width;
+      height = c .inner .height;
+      lines = c .lines;
+      pages = c .pages;
+    }
+
 -- the answers to a setting whose number names no case
 abbrev pub listUnknown : FlatListAnswer
 listUnknown = record { lines = 0; number = unknownNumber }
@@ -79,3 +96,6 @@ drawUnknown = record { number = unknownNumber; rows = 0; placed = 0; clipped = 0
 
 abbrev pub measureUnknown : FlatMeasureAnswer
 measureUnknown = record { number = unknownNumber; value = 0 }
+
+abbrev pub pagesUnknown : FlatPagesAnswer
+pagesUnknown = record { number = unknownNumber; x = 0; y = 0; width = 0; height = 0; lines = 0; pages = 0 }

@@ -4,10 +4,11 @@ use notice::InnerAnswer;
 use notice::ListAnswer;
 use notice::MeasureAnswer;
 use notice::NoticeAnswer;
+use notice::PagesAnswer;
 use notice::TallyAnswer;
 ghost use mathlib.Core.Path.{_≡_};
 ghost use Rattle.draw_block.specs.Call.{blockAnswerNumber};
-ghost use Rattle.flat_answers.specs.AnswerExtra.{listFlat, tallyFlat, areaFlat, drawFlat, measureFlat};
+ghost use Rattle.flat_answers.specs.AnswerExtra.{listFlat, tallyFlat, areaFlat, drawFlat, measureFlat, pagesFlat};
 
 // Answer of a list call: count of lines written, and 0 or the number of the refusal.
 #[repr(C)]
@@ -52,6 +53,18 @@ pub struct FlatDrawAnswer {
 pub struct FlatMeasureAnswer {
     pub number: u32,
     pub value: u32,
+}
+
+// Answer of `pages`: 0 or the number of the refusal, the inner area, and the counts of lines and pages.
+#[repr(C)]
+pub struct FlatPagesAnswer {
+    pub number: u32,
+    pub x: u16,
+    pub y: u16,
+    pub width: u16,
+    pub height: u16,
+    pub lines: u32,
+    pub pages: u32,
 }
 
 pub fn list_answer(listed: ListAnswer) -> FlatListAnswer
@@ -148,6 +161,31 @@ pub fn measure_answer(measured: MeasureAnswer) -> FlatMeasureAnswer
         MeasureAnswer::Refused(why) => FlatMeasureAnswer {
             number: why.number(),
             value: 0,
+        },
+    }
+}
+
+pub fn pages_answer(counted: PagesAnswer) -> FlatPagesAnswer
+    ensures { λ r. ⌜ r ≡ pagesFlat counted ⌝ }
+{
+    match counted {
+        PagesAnswer::Pages(counts) => FlatPagesAnswer {
+            number: 0,
+            x: counts.inner.x,
+            y: counts.inner.y,
+            width: counts.inner.width,
+            height: counts.inner.height,
+            lines: counts.lines,
+            pages: counts.pages,
+        },
+        PagesAnswer::Refused(why) => FlatPagesAnswer {
+            number: why.number(),
+            x: 0,
+            y: 0,
+            width: 0,
+            height: 0,
+            lines: 0,
+            pages: 0,
         },
     }
 }

@@ -15,6 +15,8 @@ pub use text::Alignment;
 pub use text::TitlePosition;
 
 // Answers.
+pub use count_pages::PageCounts;
+pub use count_pages::PagesAnswer;
 pub use draw_block::BlockAnswer;
 pub use draw_notice::NoticeAnswer;
 pub use inner::InnerAnswer;
@@ -26,6 +28,7 @@ pub use tally::TallyAnswer;
 pub use tally::TallyCounts;
 
 // Calls.
+pub use count_pages::pages;
 pub use draw_block::draw_block;
 pub use draw_notice::draw_notice;
 pub use inner::inner;

@@ -7,6 +7,7 @@ use flat_answers::FlatAreaAnswer;
 use flat_answers::FlatDrawAnswer;
 use flat_answers::FlatListAnswer;
 use flat_answers::FlatMeasureAnswer;
+use flat_answers::FlatPagesAnswer;
 use flat_answers::FlatTallyAnswer;
 ghost use mathlib.Core.Path.{_≡_};
 ghost use mathlib.Core.Bool.{cond, _&&_};
@@ -17,9 +18,11 @@ ghost use Rattle.measure.specs.LineCount.{callOf as countCall, answerOf as coun
 ghost use Rattle.measure.specs.LineWidth.{callOf as widthCall, answerOf as widthAnswer};
 ghost use Rattle.draw_block.specs.Call.{callOf as blockCall, answerOf as blockAnswer, cellsAfter as blockCells, blockAnswerNumber};
 ghost use Rattle.draw_notice.specs.Call.{callOf as noticeCall, answerOf as noticeAnswer, cellsAfter as noticeCells};
+ghost use Rattle.count_pages.specs.Call.{answerOf as pagesAnswer};
 ghost use Rattle.flat.specs.FlatExtra.{flagNamed, alignmentNamed, wrapNamed, areaFrom, blockKnown, blockFrom, textKnown, noticeFrom};
-ghost use Rattle.flat_answers.specs.AnswerExtra.{unknownNumber, listKnown, tallyKnown, listFlat, tallyFlat, areaFlat, drawFlat, measureFlat};
-ghost use Rattle.flat_answers.specs.AnswerExtra.{listUnknown, tallyUnknown, areaUnknown, drawUnknown, measureUnknown};
+ghost use Rattle.flat_answers.specs.AnswerExtra.{unknownNumber, listKnown, tallyKnown};
+ghost use Rattle.flat_answers.specs.AnswerExtra.{listFlat, tallyFlat, areaFlat, drawFlat, measureFlat, pagesFlat};
+ghost use Rattle.flat_answers.specs.AnswerExtra.{listUnknown, tallyUnknown, areaUnknown, drawUnknown, measureUnknown, pagesUnknown};
 
 // Lists the composed lines of a text.
 #[no_mangle]
@@ -158,6 +161,51 @@ pub extern "C" fn notice_draw_notice(
         notice,
     );
     flat_answers::draw_answer(drawn)
+}
+
+// Returns the inner area, lines and pages of a notice on its screen.
+#[no_mangle]
+pub extern "C" fn notice_pages(
+    columns: u32,
+    rows: u32,
+    cells: &[u64],
+    styles: &[u64],
+    text: &[u32],
+    titles: &[u32],
+    area: FlatArea,
+    block: FlatBlock,
+    settings: FlatText,
+) -> FlatPagesAnswer
+    ensures { λ r.
+        let known = blockKnown block && textKnown settings in
+        let lent = now (cells .entry) in
+        let named = noticeFrom block settings in
+        let call = noticeCall columns rows lent (now (styles .entry)) (now (text .entry)) (now (titles .entry)) (areaFrom area) named in
+        ⌜ r ≡ cond known (pagesFlat (pagesAnswer call)) pagesUnknown ⌝ }
+{
+    if !flat::all_known(block, settings) {
+        return FlatPagesAnswer {
+            number: 255,
+            x: 0,
+            y: 0,
+            width: 0,
+            height: 0,
+            lines: 0,
+            pages: 0,
+        };
+    }
+    let notice = settings.notice(block);
+    let counted = notice::pages(
+        columns,
+        rows,
+        cells,
+        styles,
+        text,
+        titles,
+        area.area(),
+        notice,
+    );
+    flat_answers::pages_answer(counted)
 }
 
 // Returns the number of lines of a notice at a width, the frame's included. Only `wrap` of the text's settings is used, but
