@@ -1,12 +1,14 @@
 /* C and C++ interface of the framed notice on x86-64: the functions exported by the archive that
    `rt staticlib notice_c` builds (target/staticlib/libnotice_c.a). The functions are proved
-   (crates/notice_c); this header is written by hand.
+   (crates/notice_c); this header, its inline functions included, is written by hand. Link with
+   `cc program.c libnotice_c.a`; no other library is needed.
 
    A screen is columns x rows cells, row by row from the top. A text, and a block's titles, are arrays of
    records: each line or title starts with a head, followed by its glyphs. The calls that draw borrow a
    style table; everything styled refers to an entry of it by number, from 0.
 
-   Packed fields, most significant bit first, with their sizes in bits:
+   Packed fields, most significant bit first, with their sizes in bits. Functions below pack glyphs,
+   heads and styles, and read cells and composed lines.
 
      glyph, 32 bits          0 | symbol 21 | width 3 | whitespace 1 | style 6
      head, 32 bits           1 | alignment 2 | position 2 | zeros 27
@@ -16,50 +18,174 @@
      composed line, 64 bits  first 15 | end 15 | width 16 | alignment 2 | zeros 16
 
    - Glyph: a symbol is any number below 2,097,152, read as a code point; 32 is the blank symbol. Width is
-     in columns.
-   - Head: alignment 0 left, 1 centre, 2 right; 3 is the default alignment in a text, and "none given" in
-     a title. Position is 0 in a text; in a title 0 top, 1 bottom, 2 the block's default.
+     in columns: drawing writes the symbol to the first cell and leaves the symbols of the others that the
+     glyph covers; glyphs of width 0 aren't drawn. Lines break at glyphs with whitespace 1, whatever their
+     symbols.
+   - Head: alignment is a notice_alignment, where 3 is the default alignment in a text, and "none given" in
+     a title. Position is 0 in a text, and a notice_position in a title.
    - Style: sets the given colours, then sets the modifiers to add, then clears those to remove.
    - Cell: a blank cell has symbol 32 and zeros.
    - Composed line: first and end are record numbers of the text, counted from 0 with heads included; end
      is one past the last. Both are 0 if the line has no glyph. Its glyphs are those from first to end
-     that are no wider than the limit. Alignment is 0 left, 1 centre, 2 right.
+     that are no wider than the limit; their width can exceed the limit, and those that start at or past
+     it are clipped. Alignment is a notice_alignment other than default.
+
+   Pages: notice_pages returns the number of lines n, the number of pages that they take, and the inner
+   area as drawn, h rows high. Page p, from 0, is drawn by notice_draw_notice with scroll p x h, which is
+   below 16,384, each page on blank cells. If that area has a cell and the text is wrapped, notice_tally at
+   its width, with trim as the notice has it, returns the same n, and the pages are n / h, rounded up.
+   The pages show all lines, but not always all glyphs. If none may be lost, check the tally at that width:
+   every glyph that isn't dropped whitespace is shown if clipped, zero_width and over_wide are 0. Of an
+   unwrapped text the pages show only what fits the width. No page and a text that isn't empty: nothing can
+   be shown, since the inner area has no cell.
 
    Every call terminates, whatever numbers it is given. A call that can't be carried out is refused: its
-   answer has the lowest number that applies, of those listed for the call, and zeros in its other fields.
-
-     0    accepted
-     1    columns not 1 to 512, rows not 1 to 256, or cells not columns x rows
-     2    over 64 styles, or a style's zeros not 0
-     3    a text over 16,384 records
-     4    a non-empty text that doesn't start with a head, or that has a head whose zeros or position
-          aren't 0
-     5    titles: over 16, over 256 glyphs in one, non-empty records that don't start with a head,
-          a head with position 3 or with zeros that aren't 0
-     6    a style number, including those of glyphs, that isn't below the count of styles; so with no
-          styles every drawing is refused
-     7    a border or shadow symbol of 2,097,152 or more, even for a border that isn't drawn
-     8    a limit, or the width given to notice_line_count, over 4,096
-     9    a list shorter than the lines to write
-     255  a setting whose number is none of its cases; this is checked before all others
-
-   A refused call, 255 included, leaves all cells and the list unchanged.
+   answer has 255 if that applies, else the lowest notice_refusal that does, of those listed for the call,
+   and zeros in its other fields. A refused call, 255 included, leaves all cells and the list unchanged.
 
    The caller must ensure only this: each pointer points to as many elements as the length after it says,
    with C's alignment; and cells and list, which are written, overlap nothing that the call reads. A null
    pointer with length 0 is fine. The calls keep nothing afterwards, allocate nothing and have no state:
-   calls on different cells and lists may run at the same time. */
+   calls on different cells and lists may run at the same time. Stack use is bounded: the only recursion is
+   over right titles, at most 16 deep. */
 #ifndef NOTICE_H
 #define NOTICE_H
 
 #include <stddef.h>
 #include <stdint.h>
 
+/* Raised when programs written for an earlier version of this header have to be changed. */
+#define NOTICE_API_VERSION 1
+
 #ifdef __cplusplus
 extern "C" {
 #endif
 
-/* A rectangle of cells. Every rectangle is accepted: the part off the screen isn't drawn. */
+/* Why a call is refused. */
+enum notice_refusal {
+    NOTICE_ACCEPTED = 0,
+    /* Columns not 1 to 512, rows not 1 to 256, or cells not columns x rows. */
+    NOTICE_REFUSED_SCREEN = 1,
+    /* Over 64 styles, or a style's zeros not 0. */
+    NOTICE_REFUSED_STYLES = 2,
+    /* A text over 16,384 records. */
+    NOTICE_REFUSED_TEXT_LENGTH = 3,
+    /* A non-empty text that doesn't start with a head, or that has a head whose zeros or position aren't
+       0. */
+    NOTICE_REFUSED_TEXT_HEADS = 4,
+    /* Titles: over 16, over 256 glyphs in one, non-empty records that don't start with a head, a head with
+       position 3 or with zeros that aren't 0. */
+    NOTICE_REFUSED_TITLES = 5,
+    /* A style number, including those of glyphs, that isn't below the count of styles; so with no styles
+       every drawing is refused. */
+    NOTICE_REFUSED_STYLE_NUMBER = 6,
+    /* A border or shadow symbol of 2,097,152 or more, even for a border that isn't drawn. */
+    NOTICE_REFUSED_SYMBOL = 7,
+    /* A limit, or the width given to notice_line_count, over 4,096. */
+    NOTICE_REFUSED_LIMIT = 8,
+    /* A list shorter than the lines to write. */
+    NOTICE_REFUSED_LIST_LENGTH = 9,
+    /* A setting whose number is none of its cases; this is checked before all others. */
+    NOTICE_UNKNOWN_SETTING = 255
+};
+
+/* Ceilings: the largest sizes that are accepted. */
+enum notice_ceiling {
+    NOTICE_MAX_COLUMNS = 512,
+    NOTICE_MAX_ROWS = 256,
+    NOTICE_MAX_STYLES = 64,
+    /* Of a text, heads included. */
+    NOTICE_MAX_RECORDS = 16384,
+    NOTICE_MAX_TITLES = 16,
+    /* Of one title. */
+    NOTICE_MAX_TITLE_GLYPHS = 256,
+    NOTICE_MAX_LIMIT = 4096
+};
+
+enum notice_alignment {
+    NOTICE_ALIGN_LEFT = 0,
+    NOTICE_ALIGN_CENTRE = 1,
+    NOTICE_ALIGN_RIGHT = 2,
+    /* Only in heads. */
+    NOTICE_ALIGN_DEFAULT = 3
+};
+
+/* Position of a title. */
+enum notice_position {
+    NOTICE_POSITION_TOP = 0,
+    NOTICE_POSITION_BOTTOM = 1,
+    /* Only in heads: the block's. */
+    NOTICE_POSITION_DEFAULT = 2
+};
+
+enum notice_wrap {
+    /* Lines are truncated at the width, and no count says so. */
+    NOTICE_WRAP_OFF = 0,
+    /* Lines are broken at whitespace, or in a word wider than a row; whitespace that would end a broken row
+       is dropped. */
+    NOTICE_WRAP_ON = 1,
+    /* Whitespace that would start a line is dropped too. */
+    NOTICE_WRAP_TRIM = 2
+};
+
+enum notice_shadow {
+    NOTICE_SHADOW_NONE = 0,
+    /* Its cells get the shadow's style. */
+    NOTICE_SHADOW_OVERLAY = 1,
+    /* Its cells get the shadow's style and symbol. */
+    NOTICE_SHADOW_SYMBOL = 2
+};
+
+enum { NOTICE_BLANK_SYMBOL = 32 };
+/* Cells that are all zeros aren't blank. */
+#define NOTICE_BLANK_CELL (UINT64_C(32) << 43)
+
+/* Packing. Each number is cut to the size of its field. */
+
+/* Whitespace: 0 no, 1 yes. */
+static inline uint32_t notice_glyph(uint32_t symbol, uint32_t width, uint32_t whitespace, uint32_t style) {
+    return (symbol & 0x1FFFFF) << 10 | (width & 7) << 7 | (whitespace & 1) << 6 | (style & 63);
+}
+
+static inline uint32_t notice_text_head(uint32_t alignment) {
+    return UINT32_C(1) << 31 | (alignment & 3) << 29;
+}
+
+static inline uint32_t notice_title_head(uint32_t alignment, uint32_t position) {
+    return UINT32_C(1) << 31 | (alignment & 3) << 29 | (position & 3) << 27;
+}
+
+/* Returns a style that gives no colours. */
+static inline uint64_t notice_style(uint32_t add, uint32_t remove) {
+    return (uint64_t)(add & 511) << 37 | (uint64_t)(remove & 511) << 28;
+}
+
+/* Returns a style with its foreground given. */
+static inline uint64_t notice_with_foreground(uint64_t style, uint8_t foreground) {
+    return (style & ~(UINT64_C(511) << 55)) | UINT64_C(1) << 63 | (uint64_t)foreground << 55;
+}
+
+/* Returns a style with its background given. */
+static inline uint64_t notice_with_background(uint64_t style, uint8_t background) {
+    return (style & ~(UINT64_C(511) << 46)) | UINT64_C(1) << 54 | (uint64_t)background << 46;
+}
+
+/* Fields of a cell. */
+
+static inline uint32_t notice_cell_symbol(uint64_t cell) { return (uint32_t)(cell >> 43); }
+static inline uint8_t notice_cell_foreground(uint64_t cell) { return (uint8_t)(cell >> 35 & 255); }
+static inline uint8_t notice_cell_background(uint64_t cell) { return (uint8_t)(cell >> 27 & 255); }
+static inline uint16_t notice_cell_modifiers(uint64_t cell) { return (uint16_t)(cell >> 18 & 511); }
+
+/* Fields of a list's entry, a composed line. */
+
+static inline uint16_t notice_entry_first(uint64_t entry) { return (uint16_t)(entry >> 49); }
+static inline uint16_t notice_entry_end(uint64_t entry) { return (uint16_t)(entry >> 34 & 0x7FFF); }
+static inline uint16_t notice_entry_width(uint64_t entry) { return (uint16_t)(entry >> 18 & 0xFFFF); }
+static inline uint8_t notice_entry_alignment(uint64_t entry) { return (uint8_t)(entry >> 16 & 3); }
+
+/* A rectangle of cells. Every rectangle is accepted. Drawing takes the part that is on the screen and frames
+   that, so if the area overhangs the screen, the inner area as drawn is smaller than notice_inner says. */
 typedef struct notice_area {
     uint16_t x;
     uint16_t y;
@@ -78,7 +204,7 @@ typedef struct notice_block {
     uint32_t vertical_right;
     uint32_t horizontal_top;
     uint32_t horizontal_bottom;
-    /* Symbol for shadow 2, and the offset of the shadow from the block in columns and rows. */
+    /* Symbol of a symbol shadow, and the offset of the shadow from the block in columns and rows. */
     uint32_t shadow_symbol;
     int32_t shadow_x;
     int32_t shadow_y;
@@ -96,28 +222,29 @@ typedef struct notice_block {
     uint8_t border_style;
     uint8_t style;
     uint8_t titles_style;
-    /* Defaults for titles whose heads give none. Alignment: 0 left, 1 centre, 2 right; position: 0 top,
-       1 bottom. */
+    /* Defaults for titles whose heads give none: a notice_alignment and a notice_position other than
+       default. */
     uint8_t titles_alignment;
     uint8_t titles_position;
-    /* 0 none, 1 overlay: its cells get the shadow's style, 2 symbol: its cells get the style and the symbol.
-       The symbol is only checked for 2, the style number for 1 and 2. */
+    /* A notice_shadow. The symbol is only checked for a symbol shadow, the style number for that and for an
+       overlay. */
     uint8_t shadow;
     uint8_t shadow_style;
 } notice_block;
 
-/* Settings of a notice other than its block. */
+/* Settings of a notice other than its block. With all fields 0 it isn't wrapped: lines are cut off at the
+   width. */
 typedef struct notice_text {
     /* Index of the first line drawn, from 0. */
     uint16_t scroll;
-    /* With wrap 0: columns by which left-aligned lines are scrolled to the right. */
+    /* Unwrapped: first column shown of left-aligned lines, from 0; other lines aren't scrolled. */
     uint16_t column;
     /* Style numbers of the notice's whole area, and of its glyphs, which then get their own style. */
     uint8_t style;
     uint8_t text_style;
-    /* Default alignment, of lines whose heads have alignment 3: 0 left, 1 centre, 2 right. */
+    /* Default alignment, of lines whose heads have alignment 3: a notice_alignment other than default. */
     uint8_t alignment;
-    /* 0 not wrapped, lines are truncated at the width; 1 wrapped; 2 wrapped and trimmed. */
+    /* A notice_wrap. */
     uint8_t wrap;
 } notice_text;
 
@@ -155,13 +282,25 @@ typedef struct notice_area_answer {
 } notice_area_answer;
 
 /* 0 or the refusal number; rows drawn, glyphs of the text placed, and glyphs clipped: those of width
-   above 0 that start at or past the inner area's right edge. */
+   above 0 that start at or past the inner area's right edge. Glyphs of an unwrapped text that are cut off
+   or scrolled out are in neither count. */
 typedef struct notice_draw_answer {
     uint32_t number;
     uint32_t rows;
     uint32_t placed;
     uint32_t clipped;
 } notice_draw_answer;
+
+/* 0 or the refusal number, and the inner area as drawn, the number of composed lines and that of pages. */
+typedef struct notice_pages_answer {
+    uint32_t number;
+    uint16_t x;
+    uint16_t y;
+    uint16_t width;
+    uint16_t height;
+    uint32_t lines;
+    uint32_t pages;
+} notice_pages_answer;
 
 /* 0 or the refusal number, and a number of lines or columns. */
 typedef struct notice_measure_answer {
@@ -170,8 +309,8 @@ typedef struct notice_measure_answer {
 } notice_measure_answer;
 
 /* Writes the composed lines of a text, wrapped at the limit, to the list from entry 0; later entries are
-   kept. Alignment is the default alignment: 0 left, 1 centre, 2 right. Trim: 0 no, 1 yes. Limit 0 gives
-   no line.
+   kept. Alignment is the default alignment, a notice_alignment other than default. Trim: 0 no, 1 yes. Limit
+   0 gives no line.
    Refused with 3, 4, 8, 9; 255 for alignment and trim. */
 notice_list_answer notice_list_lines(const uint32_t *text, size_t text_len, uint8_t alignment,
                                      uint16_t limit, uint8_t trim, uint64_t *list, size_t list_len);
@@ -180,7 +319,10 @@ notice_list_answer notice_list_lines(const uint32_t *text, size_t text_len, uint
    Refused with 3, 4, 8; 255 for trim. */
 notice_tally_answer notice_tally(const uint32_t *text, size_t text_len, uint16_t limit, uint8_t trim);
 
-/* Returns the inner area: an area less its borders, titles and padding.
+/* Returns the inner area: an area less its borders, titles and padding, whatever the screen. For area
+   (0, 0, 40, 20) and four borders that is 38 x 18, but drawing on 34 x 9 cells uses 32 x 7: paging by 18
+   rows would show 7 of every 18 lines, and lines counted at 38 columns would be too few. For paging use
+   notice_pages.
    Refused with 5, 7; 255 for the block. */
 notice_area_answer notice_inner(notice_block block, const uint32_t *titles, size_t titles_len,
                                 notice_area area);
@@ -200,6 +342,16 @@ notice_draw_answer notice_draw_notice(uint32_t columns, uint32_t rows, uint64_t 
                                       const uint32_t *text, size_t text_len, const uint32_t *titles,
                                       size_t titles_len, notice_area area, notice_block block,
                                       notice_text settings);
+
+/* Returns the pages of a notice, given as it is to notice_draw_notice; its scroll row is ignored, and the
+   cells are neither read nor written, only their number is checked. Lines and pages are 0 if the inner area
+   has no cell, and also for an empty text: to show its frame, draw it once.
+   Refused as notice_draw_notice is. */
+notice_pages_answer notice_pages(uint32_t columns, uint32_t rows, const uint64_t *cells,
+                                 size_t cells_len, const uint64_t *styles, size_t styles_len,
+                                 const uint32_t *text, size_t text_len, const uint32_t *titles,
+                                 size_t titles_len, notice_area area, notice_block block,
+                                 notice_text settings);
 
 /* Returns the number of rows that a notice needs if its lines have this width, including the rows of
    borders, titles and padding; 0 at width 0. The width is the inner one: it isn't reduced by the frame.
@@ -234,6 +386,7 @@ NOTICE_SIZE(notice_list_answer, 16);
 NOTICE_SIZE(notice_tally_answer, 28);
 NOTICE_SIZE(notice_area_answer, 12);
 NOTICE_SIZE(notice_draw_answer, 16);
+NOTICE_SIZE(notice_pages_answer, 20);
 NOTICE_SIZE(notice_measure_answer, 8);
 #undef NOTICE_SIZE
 #endif

@@ -1,5 +1,6 @@
-/* Draws a framed notice of two pages on blank cells, prints the screens and then the tally, and tries
-   calls that are refused. Ends with `all as promised`, or with the failed check and exit status 1. */
+/* Draws a framed notice of two pages on blank cells, in an area within the screen and in one that overhangs
+   it, prints the screens and the tallies, and tries calls that are refused. Ends with `all as promised`, or
+   with the failed check and exit status 1. */
 #include "notice.h"
 
 #include <stdbool.h>
@@ -7,20 +8,10 @@
 #include <stdlib.h>
 #include <string.h>
 
-enum { COLUMNS = 34, ROWS = 9, CELLS = COLUMNS * ROWS, MOST_RECORDS = 256 };
+enum { COLUMNS = 34, ROWS = 9, CELLS = COLUMNS * ROWS };
 
 /* Style numbers: indices into the style table. */
 enum { PLAIN, FRAME, HEADLINE, SHADE, BADGE };
-
-/* Numbers of the settings. */
-enum { LEFT, CENTRE, RIGHT, OWN };
-enum { TOP, BOTTOM };
-enum { NO_SHADOW, OVERLAY, SYMBOL };
-enum { UNWRAPPED, WRAPPED, TRIMMED };
-
-enum { REFUSED_SCREEN = 1, REFUSED_STYLE_NUMBER = 6, REFUSED_LIST = 9, UNNAMED = 255 };
-
-static const uint64_t BLANK = UINT64_C(32) << 43;
 
 static void check(bool holds, const char *what) {
     if (!holds) {
@@ -35,24 +26,10 @@ static void *allocated(size_t size) {
     return memory;
 }
 
-/* Packed fields. */
-
-static uint32_t head(uint32_t alignment, uint32_t position) {
-    return UINT32_C(1) << 31 | alignment << 29 | position << 27;
+/* Returns a glyph of width 1. */
+static uint32_t glyph(char symbol, uint32_t style) {
+    return notice_glyph((unsigned char)symbol, 1, symbol == ' ', style);
 }
-
-static uint32_t glyph(uint32_t symbol, uint32_t style) {
-    uint32_t width = 1, whitespace = symbol == ' ';
-    return symbol << 10 | width << 7 | whitespace << 6 | style;
-}
-
-/* Returns a style that sets a foreground and adds modifiers. */
-static uint64_t style(uint64_t foreground, uint64_t add) {
-    return UINT64_C(1) << 63 | foreground << 55 | add << 37;
-}
-
-static uint32_t cell_symbol(uint64_t cell) { return (uint32_t)(cell >> 43); }
-static unsigned cell_foreground(uint64_t cell) { return cell >> 35 & 255; }
 
 /* Records in an allocation of exactly their size, so that a read past them is detected. */
 
@@ -63,13 +40,13 @@ typedef struct records {
 
 /* Returns the records of lines of plain text; digits have a separate style. */
 static records packed(uint32_t opening, const char *lines, uint32_t letters, uint32_t digits) {
-    uint32_t all[MOST_RECORDS];
+    uint32_t all[NOTICE_MAX_RECORDS];
     size_t count = 0;
     all[count++] = opening;
     for (const char *c = lines; *c != '\0'; c++) {
-        check(count < MOST_RECORDS, "room for records");
+        check(count < NOTICE_MAX_RECORDS, "room for records");
         bool digit = '0' <= *c && *c <= '9';
-        all[count++] = *c == '\n' ? opening : glyph((unsigned char)*c, digit ? digits : letters);
+        all[count++] = *c == '\n' ? opening : glyph(*c, digit ? digits : letters);
     }
     records made = {allocated(count * sizeof *all), count};
     memcpy(made.at, all, count * sizeof *all);
@@ -94,11 +71,11 @@ static void print_screen(const uint64_t *cells) {
     for (size_t row = 0; row < ROWS; row++) {
         const uint64_t *at = cells + row * COLUMNS;
         for (size_t column = 0; column < COLUMNS; column++) {
-            print_symbol(cell_symbol(at[column]));
+            print_symbol(notice_cell_symbol(at[column]));
         }
         printf("  ");
         for (size_t column = 0; column < COLUMNS; column++) {
-            unsigned foreground = cell_foreground(at[column]);
+            unsigned foreground = notice_cell_foreground(at[column]);
             putchar(foreground == 0 ? '.' : (int)('0' + foreground % 10));
         }
         putchar('\n');
@@ -107,13 +84,14 @@ static void print_screen(const uint64_t *cells) {
 
 static void clear(uint64_t *cells) {
     for (size_t i = 0; i < CELLS; i++) {
-        cells[i] = BLANK;
+        cells[i] = NOTICE_BLANK_CELL;
     }
 }
 
 /* The notice. */
 
 static const notice_area AREA = {.x = 1, .y = 1, .width = 30, .height = 7};
+static const notice_area OVERHANGING = {.x = 0, .y = 0, .width = 40, .height = 20};
 
 static const notice_block BLOCK = {
     .top_left = 0x256D,
@@ -136,13 +114,18 @@ static const notice_block BLOCK = {
     .border_style = FRAME,
     .style = PLAIN,
     .titles_style = FRAME,
-    .titles_alignment = CENTRE,
-    .titles_position = TOP,
-    .shadow = SYMBOL,
+    .titles_alignment = NOTICE_ALIGN_CENTRE,
+    .titles_position = NOTICE_POSITION_TOP,
+    .shadow = NOTICE_SHADOW_SYMBOL,
     .shadow_style = SHADE,
 };
 
-static const notice_text SETTINGS = {.style = PLAIN, .text_style = PLAIN, .wrap = TRIMMED};
+static const notice_text SETTINGS = {
+    .style = PLAIN,
+    .text_style = PLAIN,
+    .alignment = NOTICE_ALIGN_LEFT,
+    .wrap = NOTICE_WRAP_TRIM,
+};
 
 static const char TEXT[] = "Barred since this morning: 1041, 1177, 2063 and 3310.\n"
                            "\n"
@@ -158,51 +141,92 @@ typedef struct lent {
     records titles;
 } lent;
 
-static notice_draw_answer drawn(lent all, notice_block block, notice_text settings) {
+static notice_draw_answer drawn(lent all, notice_area area, notice_block block,
+                                notice_text settings) {
     return notice_draw_notice(COLUMNS, ROWS, all.cells, CELLS, all.styles, all.style_count,
-                              all.text.at, all.text.count, all.titles.at, all.titles.count, AREA,
+                              all.text.at, all.text.count, all.titles.at, all.titles.count, area,
                               block, settings);
 }
 
-/* Draws and prints the pages, then the tally, and checks that the pages have all its glyphs. */
-static void draw_pages(lent all, notice_area_answer inner) {
-    notice_tally_answer tally = notice_tally(all.text.at, all.text.count, inner.width, 1);
-    check(tally.number == 0, "tally accepted");
-    uint32_t pages = (tally.lines + inner.height - 1) / inner.height, rows = 0, placed = 0;
-    check(pages == 2, "two pages");
-    for (uint32_t page = 0; page < pages; page++) {
+static notice_pages_answer counted(lent all, notice_area area, notice_block block) {
+    return notice_pages(COLUMNS, ROWS, all.cells, CELLS, all.styles, all.style_count, all.text.at,
+                        all.text.count, all.titles.at, all.titles.count, area, block, SETTINGS);
+}
+
+/* Checks that the inner cells of a page, read row by row, show the text from `next` on without its blanks,
+   and returns where the next page continues. */
+static const char *read_page(const uint64_t *cells, notice_pages_answer inner, const char *next) {
+    for (size_t i = 0; i < (size_t)inner.width * inner.height; i++) {
+        size_t row = inner.y + i / inner.width, column = inner.x + i % inner.width;
+        uint32_t symbol = notice_cell_symbol(cells[row * COLUMNS + column]);
+        if (symbol != NOTICE_BLANK_SYMBOL) {
+            check(symbol == (unsigned char)*next, "the next glyph of the text");
+            next++;
+            next += strspn(next, " \n");
+        }
+    }
+    return next;
+}
+
+/* Draws and prints the pages, then the tally, and checks that the pages together show each glyph once. */
+static notice_pages_answer draw_pages(lent all, notice_area area) {
+    notice_pages_answer pages = counted(all, area, BLOCK);
+    check(pages.number == NOTICE_ACCEPTED, "pages accepted");
+    check(pages.pages == 2, "two pages");
+    printf("inner area as drawn: %u %u, %u x %u\n", pages.x, pages.y, pages.width, pages.height);
+    uint32_t rows = 0, placed = 0;
+    const char *next = TEXT;
+    for (uint32_t page = 0; page < pages.pages; page++) {
         notice_text settings = SETTINGS;
-        settings.scroll = (uint16_t)(page * inner.height);
+        settings.scroll = (uint16_t)(page * pages.height);
         clear(all.cells);
-        notice_draw_answer answer = drawn(all, BLOCK, settings);
-        check(answer.number == 0, "page accepted");
+        notice_draw_answer answer = drawn(all, area, BLOCK, settings);
+        check(answer.number == NOTICE_ACCEPTED, "page accepted");
         rows += answer.rows;
         placed += answer.placed;
+        next = read_page(all.cells, pages, next);
         printf("page %u of %u: rows %u, placed %u, clipped %u\n", (unsigned)page + 1,
-               (unsigned)pages, (unsigned)answer.rows, (unsigned)answer.placed,
+               (unsigned)pages.pages, (unsigned)answer.rows, (unsigned)answer.placed,
                (unsigned)answer.clipped);
         print_screen(all.cells);
     }
+    check(*next == '\0', "the whole text on the pages");
+    notice_tally_answer tally = notice_tally(all.text.at, all.text.count, pages.width, 1);
+    check(tally.number == NOTICE_ACCEPTED, "tally accepted");
     printf("tally: lines %u, placed %u, clipped %u, zero-width %u, over-wide %u, dropped %u\n",
            (unsigned)tally.lines, (unsigned)tally.placed, (unsigned)tally.clipped,
            (unsigned)tally.zero_width, (unsigned)tally.over_wide, (unsigned)tally.dropped);
+    check(pages.lines == tally.lines, "as many lines as tallied");
     check(rows == tally.lines && placed == tally.placed, "every line and glyph on the pages");
+    return pages;
+}
+
+static void print_measures(lent all, uint16_t width) {
+    notice_measure_answer rows = notice_line_count(all.text.at, all.text.count, all.titles.at,
+                                                   all.titles.count, BLOCK, SETTINGS, width);
+    notice_measure_answer columns = notice_line_width(all.text.at, all.text.count, all.titles.at,
+                                                      all.titles.count, BLOCK);
+    check(rows.number == NOTICE_ACCEPTED && columns.number == NOTICE_ACCEPTED, "measures accepted");
+    printf("on one page: %u rows; unwrapped: %u columns\n", (unsigned)rows.value,
+           (unsigned)columns.value);
 }
 
 /* Lists the lines, one entry each, and checks that a shorter list is refused and unchanged. */
 static void list_lines(records text, uint16_t limit, uint32_t lines) {
     uint64_t *list = allocated(lines * sizeof *list);
     notice_list_answer answer =
-        notice_list_lines(text.at, text.count, LEFT, limit, 1, list, lines);
-    check(answer.number == 0 && answer.lines == lines, "lines listed");
+        notice_list_lines(text.at, text.count, NOTICE_ALIGN_LEFT, limit, 1, list, lines);
+    check(answer.number == NOTICE_ACCEPTED && answer.lines == lines, "lines listed");
     printf("lines:");
     for (size_t i = 0; i < answer.lines; i++) {
-        printf(" %u-%u", (unsigned)(list[i] >> 49), (unsigned)(list[i] >> 34 & 0x7FFF));
+        printf(" %u-%u", notice_entry_first(list[i]), notice_entry_end(list[i]));
     }
     printf("\n");
     uint64_t first = list[0];
-    answer = notice_list_lines(text.at, text.count, LEFT, limit, 1, list, lines - 1);
-    check(answer.number == REFUSED_LIST && answer.lines == 0, "a list too short is refused");
+    answer =
+        notice_list_lines(text.at, text.count, NOTICE_ALIGN_LEFT, limit, 1, list, lines - 1);
+    check(answer.number == NOTICE_REFUSED_LIST_LENGTH && answer.lines == 0,
+          "a list too short is refused");
     check(list[0] == first, "and is as it was");
     free(list);
 }
@@ -213,13 +237,13 @@ static void draw_frames(lent all) {
     clear(all.cells);
     uint32_t number = notice_draw_block(COLUMNS, ROWS, all.cells, CELLS, all.styles,
                                         all.style_count, NULL, 0, corner, BLOCK);
-    check(number == 0, "no titles, null");
+    check(number == NOTICE_ACCEPTED, "no titles, null");
     printf("a block over the edge of the screen, without titles:\n");
     print_screen(all.cells);
     number = notice_draw_block(COLUMNS, ROWS, NULL, 0, NULL, 0, NULL, 0, corner, BLOCK);
-    check(number == REFUSED_SCREEN, "no cells, null");
-    notice_list_answer none = notice_list_lines(NULL, 0, CENTRE, 20, 0, NULL, 0);
-    check(none.number == 0 && none.lines == 0, "no text and no list, null");
+    check(number == NOTICE_REFUSED_SCREEN, "no cells, null");
+    notice_list_answer none = notice_list_lines(NULL, 0, NOTICE_ALIGN_CENTRE, 20, 0, NULL, 0);
+    check(none.number == NOTICE_ACCEPTED && none.lines == 0, "no text and no list, null");
 }
 
 /* Tries a style number out of range and invalid settings: nothing is drawn. */
@@ -228,52 +252,54 @@ static void draw_refused(lent all) {
     memcpy(before, all.cells, CELLS * sizeof *before);
     notice_block block = BLOCK;
     block.border_style = (uint8_t)all.style_count;
-    notice_draw_answer answer = drawn(all, block, SETTINGS);
-    check(answer.number == REFUSED_STYLE_NUMBER, "a style number too high");
+    notice_draw_answer answer = drawn(all, AREA, block, SETTINGS);
+    check(answer.number == NOTICE_REFUSED_STYLE_NUMBER, "a style number too high");
+    check(counted(all, AREA, block).number == answer.number, "pages refused as drawing is");
     printf("a style number too high: %u\n", (unsigned)answer.number);
     block = BLOCK;
-    block.shadow = 3;
+    block.shadow = NOTICE_SHADOW_SYMBOL + 1;
     notice_text settings = SETTINGS;
-    settings.wrap = 3;
-    notice_draw_answer kind = drawn(all, block, SETTINGS), wrap = drawn(all, BLOCK, settings);
-    check(kind.number == UNNAMED && wrap.number == UNNAMED, "a number that names no case");
+    settings.wrap = NOTICE_WRAP_TRIM + 1;
+    notice_draw_answer kind = drawn(all, AREA, block, SETTINGS);
+    notice_draw_answer wrap = drawn(all, AREA, BLOCK, settings);
+    check(kind.number == NOTICE_UNKNOWN_SETTING, "a shadow that names no case");
+    check(wrap.number == NOTICE_UNKNOWN_SETTING, "a wrap that names no case");
     printf("a number that names no case: %u\n", (unsigned)kind.number);
     check(answer.rows + answer.placed + kind.rows + kind.placed == 0, "counts are 0");
-    check(notice_tally(all.text.at, all.text.count, 20, 2).number == UNNAMED, "trim 2");
+    notice_tally_answer trim = notice_tally(all.text.at, all.text.count, 20, 2);
+    check(trim.number == NOTICE_UNKNOWN_SETTING, "trim 2");
     check(memcmp(before, all.cells, CELLS * sizeof *before) == 0, "cells as they were");
     free(before);
 }
 
 int main(void) {
+    const uint64_t plain = notice_style(0, 0), bold = notice_style(1, 0);
     const uint64_t styles[] = {
-        [PLAIN] = 0,
-        [FRAME] = style(4, 0),
-        [HEADLINE] = style(3, 1),
-        [SHADE] = style(8, 0),
-        [BADGE] = style(1, 1),
+        [PLAIN] = plain,
+        [FRAME] = notice_with_foreground(plain, 4),
+        [HEADLINE] = notice_with_foreground(bold, 3),
+        [SHADE] = notice_with_foreground(plain, 8),
+        [BADGE] = notice_with_foreground(bold, 1),
     };
     lent all = {
         .cells = allocated(CELLS * sizeof *all.cells),
         .styles = allocated(sizeof styles),
         .style_count = sizeof styles / sizeof *styles,
-        .text = packed(head(OWN, TOP), TEXT, PLAIN, BADGE),
-        .titles = packed(head(OWN, 2), " Lobby ", HEADLINE, HEADLINE),
+        .text = packed(notice_text_head(NOTICE_ALIGN_DEFAULT), TEXT, PLAIN, BADGE),
+        .titles = packed(notice_title_head(NOTICE_ALIGN_DEFAULT, NOTICE_POSITION_DEFAULT), " Lobby ",
+                         HEADLINE, HEADLINE),
     };
     memcpy(all.styles, styles, sizeof styles);
 
-    notice_area_answer inner = notice_inner(BLOCK, all.titles.at, all.titles.count, AREA);
-    check(inner.number == 0, "inner area accepted");
-    printf("inner area: %u %u, %u x %u\n", inner.x, inner.y, inner.width, inner.height);
-    draw_pages(all, inner);
+    notice_pages_answer pages = draw_pages(all, AREA);
+    print_measures(all, pages.width);
+    list_lines(all.text, pages.width, pages.lines);
 
-    notice_measure_answer rows = notice_line_count(all.text.at, all.text.count, all.titles.at,
-                                                   all.titles.count, BLOCK, SETTINGS, inner.width);
-    notice_measure_answer columns = notice_line_width(all.text.at, all.text.count, all.titles.at,
-                                                      all.titles.count, BLOCK);
-    check(rows.number == 0 && columns.number == 0, "measures accepted");
-    printf("on one page: %u rows; unwrapped: %u columns\n", (unsigned)rows.value,
-           (unsigned)columns.value);
-    list_lines(all.text, inner.width, rows.value - (AREA.height - inner.height));
+    notice_area_answer inner = notice_inner(BLOCK, all.titles.at, all.titles.count, OVERHANGING);
+    check(inner.number == NOTICE_ACCEPTED, "inner area accepted");
+    printf("an area that overhangs the screen, its inner area: %u %u, %u x %u\n", inner.x, inner.y,
+           inner.width, inner.height);
+    draw_pages(all, OVERHANGING);
 
     draw_frames(all);
     draw_refused(all);

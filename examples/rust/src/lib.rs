@@ -138,6 +138,14 @@ pub struct Rows {
     pub clipped: u32,
 }
 
+/// The inner area as drawn, and the numbers of composed lines and pages.
+#[derive(Clone, Copy, Debug, PartialEq, Eq)]
+pub struct PageCounts {
+    pub inner: Rect,
+    pub lines: u32,
+    pub pages: u32,
+}
+
 /// Lists a text's composed lines and returns their number.
 pub fn list_lines(
     text: &[u32],
@@ -159,7 +167,8 @@ pub fn tally(text: &[u32], limit: u16, trim: bool) -> Result<Counts, Refusal> {
 }
 
 impl Block {
-    /// Returns the inner area: an area without borders, titles and padding.
+    /// Returns the inner area, whatever the screen: an area without borders, titles and padding. The one
+    /// that is drawn is smaller if the area overhangs the screen: `Notice::pages` returns it.
     pub fn inner(&self, titles: &[u32], area: Rect) -> Result<Rect, Refusal> {
         let raw::AreaAnswer { number, x, y, width, height } =
             raw::inner(self.flat(), titles, area.flat());
@@ -233,6 +242,21 @@ impl Notice {
         let raw::DrawAnswer { number, rows, placed, clipped } =
             raw::draw_notice(size, cells, styles, text, titles, area, block, self.flat());
         accepted(number).map(|()| Rows { rows, placed, clipped })
+    }
+
+    /// Returns the pages of the notice: page p, from 0, has scroll p × inner height, on blank cells.
+    pub fn pages(
+        &self,
+        screen: &Screen,
+        text: &[u32],
+        titles: &[u32],
+        area: Rect,
+    ) -> Result<PageCounts, Refusal> {
+        let Screen { columns, rows, cells, styles } = screen;
+        let (size, area, block) = ([*columns, *rows], area.flat(), self.block.flat());
+        let raw::PagesAnswer { number, x, y, width, height, lines, pages } =
+            raw::pages(size, cells, styles, text, titles, area, block, self.flat());
+        accepted(number).map(|()| PageCounts { inner: Rect { x, y, width, height }, lines, pages })
     }
 
     /// Returns the rows that the notice needs when its lines have this width.

@@ -1,9 +1,10 @@
-//! Draws the notice of examples/c: two pages on blank cells, then the tally.
+//! Draws the notice of examples/c in an area within the screen and in one that overhangs it: two pages
+//! on blank cells, then the tally.
 #![forbid(unsafe_code)]
 
 use notice::{
-    Alignment, Block, BorderSet, Borders, Effect, Notice, Padding, Rect, Refusal, Screen, Shadow,
-    TitlePosition, Wrap, list_lines, tally,
+    Alignment, Block, BorderSet, Borders, Effect, Notice, Padding, PageCounts, Rect, Refusal,
+    Screen, Shadow, TitlePosition, Wrap, list_lines, tally,
 };
 
 const COLUMNS: usize = 34;
@@ -28,6 +29,7 @@ Holders of these badges go to the desk in the lobby. \
 Doors 7 and 12 stay locked for all others until noon, and door 3 after it.";
 
 const AREA: Rect = Rect { x: 1, y: 1, width: 30, height: 7 };
+const OVERHANGING: Rect = Rect { x: 0, y: 0, width: 40, height: 20 };
 
 fn notice() -> Notice {
     let block = Block {
@@ -80,18 +82,61 @@ fn packed(head: u32, lines: &str, letters: u8, digits: u8) -> Vec<u32> {
     std::iter::once(head).chain(lines.chars().map(record)).collect()
 }
 
+fn symbol(cell: u64) -> char {
+    char::from_u32((cell >> 43) as u32).unwrap_or('?')
+}
+
 /// Prints each row's symbols and, next to them, its foregrounds, a dot for none.
 fn print_screen(cells: &[u64]) {
-    let symbol = |cell: &u64| char::from_u32((cell >> 43) as u32).unwrap_or('?');
     let foreground = |cell: &u64| match (cell >> 35) as u8 {
         0 => '.',
         number => char::from(b'0' + number % 10),
     };
     for row in cells.chunks(COLUMNS) {
-        let symbols: String = row.iter().map(symbol).collect();
+        let symbols: String = row.iter().copied().map(symbol).collect();
         let foregrounds: String = row.iter().map(foreground).collect();
         println!("{symbols}  {foregrounds}");
     }
+}
+
+/// Returns what the inner cells show, row by row, without blanks.
+fn shown(cells: &[u64], inner: Rect) -> String {
+    let [x, y, width, height] = [inner.x, inner.y, inner.width, inner.height].map(usize::from);
+    let rows = cells.chunks(COLUMNS).skip(y).take(height);
+    rows.flat_map(|row| &row[x..x + width]).copied().map(symbol).filter(|c| *c != ' ').collect()
+}
+
+/// Draws and prints the pages, then the tally, and checks that the pages show each glyph once.
+fn draw_pages(
+    mut notice: Notice,
+    screen: &mut Screen,
+    text: &[u32],
+    titles: &[u32],
+    area: Rect,
+) -> Result<PageCounts, Refusal> {
+    let counts = notice.pages(screen, text, titles, area)?;
+    let PageCounts { inner, lines, pages } = counts;
+    println!("inner area as drawn: {} {}, {} x {}", inner.x, inner.y, inner.width, inner.height);
+    let (mut rows, mut placed, mut read) = (0, 0, String::new());
+    for page in 0..pages {
+        notice.scroll = page as u16 * inner.height;
+        screen.cells.fill(BLANK);
+        let drawn = notice.draw(screen, text, titles, area)?;
+        rows += drawn.rows;
+        placed += drawn.placed;
+        read += &shown(screen.cells, inner);
+        print!("page {} of {pages}: rows {}, ", page + 1, drawn.rows);
+        println!("placed {}, clipped {}", drawn.placed, drawn.clipped);
+        print_screen(screen.cells);
+    }
+    assert_eq!(read, TEXT.replace([' ', '\n'], ""), "the whole text on the pages");
+    let tally = tally(text, inner.width, true)?;
+    print!("tally: lines {}, placed {}, ", tally.lines, tally.placed);
+    print!("clipped {}, zero-width {}, ", tally.clipped, tally.zero_width);
+    println!("over-wide {}, dropped {}", tally.over_wide, tally.dropped);
+    assert_eq!(lines, tally.lines, "as many lines as tallied");
+    assert_eq!((rows, placed), (lines, tally.placed), "every line and glyph on the pages");
+    Ok(counts)
 }
 
 fn main() -> Result<(), Refusal> {
@@ -99,45 +144,24 @@ fn main() -> Result<(), Refusal> {
     let text = packed(TEXT_HEAD, TEXT, PLAIN, BADGE);
     let titles = packed(TITLE_HEAD, " Lobby ", HEADLINE, HEADLINE);
     let mut notice = notice();
-
-    let inner = notice.block.inner(&titles, AREA)?;
-    println!("inner area: {} {}, {} x {}", inner.x, inner.y, inner.width, inner.height);
-    let counts = tally(&text, inner.width, true)?;
-    let pages = counts.lines.div_ceil(inner.height.into());
     let mut cells = [BLANK; COLUMNS * ROWS];
-    let (mut rows, mut placed) = (0, 0);
-    for page in 0..pages {
-        notice.scroll = page as u16 * inner.height;
-        cells.fill(BLANK);
-        let mut screen = Screen {
-            columns: COLUMNS as u32,
-            rows: ROWS as u32,
-            cells: &mut cells,
-            styles: &styles,
-        };
-        let drawn = notice.draw(&mut screen, &text, &titles, AREA)?;
-        rows += drawn.rows;
-        placed += drawn.placed;
-        print!("page {} of {pages}: rows {}, ", page + 1, drawn.rows);
-        println!("placed {}, clipped {}", drawn.placed, drawn.clipped);
-        print_screen(&cells);
-    }
-    print!("tally: lines {}, placed {}, ", counts.lines, counts.placed);
-    print!("clipped {}, zero-width {}, ", counts.clipped, counts.zero_width);
-    println!("over-wide {}, dropped {}", counts.over_wide, counts.dropped);
-    assert_eq!((rows, placed), (counts.lines, counts.placed), "every line and glyph on the pages");
+    let mut screen =
+        Screen { columns: COLUMNS as u32, rows: ROWS as u32, cells: &mut cells, styles: &styles };
 
+    let PageCounts { inner, lines, .. } = draw_pages(notice, &mut screen, &text, &titles, AREA)?;
     let count = notice.line_count(&text, &titles, inner.width)?;
     let width = notice.block.line_width(&text, &titles)?;
     println!("on one page: {count} rows; unwrapped: {width} columns");
-    let mut list = vec![0; counts.lines as usize];
+    let mut list = vec![0; lines as usize];
     let written = list_lines(&text, Alignment::Left, inner.width, true, &mut list)?;
     let line = |entry: &u64| format!(" {}-{}", entry >> 49, entry >> 34 & 0x7FFF);
     println!("lines:{}", list[..written].iter().map(line).collect::<String>());
 
-    cells.fill(BLANK);
-    let mut screen =
-        Screen { columns: COLUMNS as u32, rows: ROWS as u32, cells: &mut cells, styles: &styles };
+    let Rect { x, y, width, height } = notice.block.inner(&titles, OVERHANGING)?;
+    println!("an area that overhangs the screen, its inner area: {x} {y}, {width} x {height}");
+    draw_pages(notice, &mut screen, &text, &titles, OVERHANGING)?;
+
+    screen.cells.fill(BLANK);
     let corner = Rect { x: 28, y: 6, width: 20, height: 20 };
     notice.block.draw(&mut screen, &[], corner)?;
     println!("a block over the edge of the screen, without titles:");

@@ -87,6 +87,17 @@ pub struct DrawAnswer {
 }
 
 #[repr(C)]
+pub struct PagesAnswer {
+    pub number: u32,
+    pub x: u16,
+    pub y: u16,
+    pub width: u16,
+    pub height: u16,
+    pub lines: u32,
+    pub pages: u32,
+}
+
+#[repr(C)]
 pub struct MeasureAnswer {
     pub number: u32,
     pub value: u32,
@@ -95,7 +106,7 @@ pub struct MeasureAnswer {
 const _: () = assert!(size_of::<Area>() == 8 && size_of::<Block>() == 64 && size_of::<Text>() == 8);
 const _: () = assert!(size_of::<ListAnswer>() == 16 && size_of::<TallyAnswer>() == 28);
 const _: () = assert!(size_of::<AreaAnswer>() == 12 && size_of::<DrawAnswer>() == 16);
-const _: () = assert!(size_of::<MeasureAnswer>() == 8);
+const _: () = assert!(size_of::<PagesAnswer>() == 20 && size_of::<MeasureAnswer>() == 8);
 
 unsafe extern "C" {
     fn notice_list_lines(
@@ -140,6 +151,22 @@ unsafe extern "C" {
         block: Block,
         settings: Text,
     ) -> DrawAnswer;
+
+    fn notice_pages(
+        columns: u32,
+        rows: u32,
+        cells: *const u64,
+        cells_len: usize,
+        styles: *const u64,
+        styles_len: usize,
+        text: *const u32,
+        text_len: usize,
+        titles: *const u32,
+        titles_len: usize,
+        area: Area,
+        block: Block,
+        settings: Text,
+    ) -> PagesAnswer;
 
     fn notice_line_count(
         text: *const u32,
@@ -237,6 +264,38 @@ pub fn draw_notice(
             columns,
             rows,
             cells.as_mut_ptr(),
+            cells.len(),
+            styles.as_ptr(),
+            styles.len(),
+            text.as_ptr(),
+            text.len(),
+            titles.as_ptr(),
+            titles.len(),
+            area,
+            block,
+            settings,
+        )
+    }
+}
+
+#[allow(dead_code, reason = "other programs include this file and needn't page")]
+#[expect(clippy::too_many_arguments, reason = "as many as the call has")]
+pub fn pages(
+    [columns, rows]: [u32; 2],
+    cells: &[u64],
+    styles: &[u64],
+    text: &[u32],
+    titles: &[u32],
+    area: Area,
+    block: Block,
+    settings: Text,
+) -> PagesAnswer {
+    // SAFETY: above.
+    unsafe {
+        notice_pages(
+            columns,
+            rows,
+            cells.as_ptr(),
             cells.len(),
             styles.as_ptr(),
             styles.len(),

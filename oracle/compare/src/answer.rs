@@ -43,6 +43,7 @@ pub fn fields(call: Call) -> &'static [&'static str] {
         Call::Inner => &["x", "y", "width", "height"],
         Call::DrawBlock => &[],
         Call::DrawNotice => &["rows", "placed", "clipped"],
+        Call::Pages => &["x", "y", "width", "height", "lines", "pages"],
         Call::LineCount | Call::LineWidth => &["value"],
     }
 }

@@ -2,7 +2,7 @@
 
 use oracle::{Alignment, ComposedLine, Drawn, Outcome, Tally, Wrap};
 use rules::compose::{Composed, compose, tally};
-use rules::screen::Screen;
+use rules::screen::{Area, Screen};
 use rules::{frame, lines, measure, notice, width};
 
 use crate::answer::Answer;
@@ -33,6 +33,7 @@ pub fn expected(call: Call, input: &Input) -> Expected {
         Call::Inner => inner(input),
         Call::DrawBlock => draw_block(input),
         Call::DrawNotice => draw_notice(input),
+        Call::Pages => pages(input),
         Call::LineCount | Call::LineWidth => measured(call, input),
     }
 }
@@ -170,6 +171,27 @@ fn draw_notice(input: &Input) -> Expected {
         answers.push((COUNTS, answer(counts, screen.cells)));
     }
     Expected { answers, refused: false, clipped: drawn.clipped > 0, panicked }
+}
+
+/// Pages are lines / height of the inner area, rounded up.
+fn pages(input: &Input) -> Expected {
+    let Input { columns, rows, ref text, ref titles, .. } = *input;
+    let area = settings::rect(input.area);
+    let settings = settings::notice(input.block, input.settings);
+    let outcome = oracle::notice_lines(columns, rows, text, titles, area, settings)
+        .map(|(inner, lines)| (inner.into(), lines.len()));
+    let rules = || {
+        let met = frame::met(area.into(), &screen(input));
+        let inner = frame::inner(&settings.block, &lines(titles), met);
+        let lines = compose(text, settings.alignment, inner.width, settings.wrap).lines;
+        (inner, if inner.is_empty() { 0 } else { lines.len() })
+    };
+    settled(outcome, rules, |(inner, lines): (Area, usize)| {
+        let pages = lines.div_ceil(inner.height.max(1) as usize);
+        let [x, y, width, height] =
+            [inner.x, inner.y, inner.width, inner.height].map(|number| number as u64);
+        Answer::of([x, y, width, height, lines as u64, pages as u64])
+    })
 }
 
 fn measured(call: Call, input: &Input) -> Expected {

@@ -9,17 +9,19 @@ pub enum Call {
     Inner,
     DrawBlock,
     DrawNotice,
+    Pages,
     LineCount,
     LineWidth,
 }
 
 impl Call {
-    pub const ALL: [Self; 7] = [
+    pub const ALL: [Self; 8] = [
         Self::ListLines,
         Self::Tally,
         Self::Inner,
         Self::DrawBlock,
         Self::DrawNotice,
+        Self::Pages,
         Self::LineCount,
         Self::LineWidth,
     ];
@@ -31,13 +33,15 @@ impl Call {
             Self::Inner => "inner",
             Self::DrawBlock => "draw_block",
             Self::DrawNotice => "draw_notice",
+            Self::Pages => "pages",
             Self::LineCount => "line_count",
             Self::LineWidth => "line_width",
         }
     }
 
-    pub fn draws(self) -> bool {
-        matches!(self, Self::DrawBlock | Self::DrawNotice)
+    /// Whether the call takes a screen and styles.
+    pub fn has_screen(self) -> bool {
+        matches!(self, Self::DrawBlock | Self::DrawNotice | Self::Pages)
     }
 
     /// Whether the call takes a text.
@@ -52,7 +56,7 @@ impl Call {
 
     /// Whether the call takes the settings of a notice.
     pub fn has_settings(self) -> bool {
-        matches!(self, Self::DrawNotice | Self::LineCount)
+        matches!(self, Self::DrawNotice | Self::Pages | Self::LineCount)
     }
 }
 

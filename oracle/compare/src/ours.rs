@@ -25,6 +25,7 @@ pub fn answer(call: Call, input: &Input) -> Answer {
             Answer { number, ..Answer::drawn([], cells) }
         }
         Call::DrawNotice => draw_notice(input),
+        Call::Pages => pages(input),
         Call::LineCount => measured(raw::line_count(text, titles, *block, *settings, *limit)),
         Call::LineWidth => measured(raw::line_width(text, titles, *block)),
     }
@@ -51,6 +52,21 @@ fn draw_notice(input: &Input) -> Answer {
         input.settings,
     );
     Answer { number, ..Answer::drawn([rows, placed, clipped].map(u64::from), cells) }
+}
+
+fn pages(input: &Input) -> Answer {
+    let raw::PagesAnswer { number, x, y, width, height, lines, pages } = raw::pages(
+        [input.columns, input.rows],
+        &input.cells,
+        &input.styles,
+        &input.text,
+        &input.titles,
+        input.area,
+        input.block,
+        input.settings,
+    );
+    let [x, y, width, height] = [x, y, width, height].map(u64::from);
+    Answer { number, ..Answer::of([x, y, width, height, lines.into(), pages.into()]) }
 }
 
 fn measured(answer: raw::MeasureAnswer) -> Answer {

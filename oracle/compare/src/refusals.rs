@@ -24,7 +24,7 @@ fn causes(call: Call) -> &'static [u32] {
         Call::ListLines | Call::Tally => &[3, 4, 8],
         Call::Inner => &[5, 7],
         Call::DrawBlock => &[1, 2, 5, 6, 7],
-        Call::DrawNotice => &[1, 2, 3, 4, 5, 6, 7],
+        Call::DrawNotice | Call::Pages => &[1, 2, 3, 4, 5, 6, 7],
         Call::LineCount => &[3, 4, 5, 7, 8],
         Call::LineWidth => &[3, 4, 5, 7],
     }
@@ -100,7 +100,7 @@ fn wrong_style_number(call: Call, input: &Input) -> bool {
         numbers.push(block.shadow_style);
     }
     let mut texts = vec![&input.titles];
-    if call == Call::DrawNotice {
+    if call.has_settings() {
         numbers.extend([settings.style, settings.text_style]);
         texts.push(&input.text);
     }

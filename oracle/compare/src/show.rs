@@ -30,7 +30,7 @@ fn line(shown: &mut String, name: &str, value: &str) {
 /// Formats the input of a call.
 fn input(call: Call, input: &Input) -> String {
     let mut shown = String::new();
-    if call.draws() {
+    if call.has_screen() {
         let Input { columns, rows, cells, styles, .. } = input;
         line(&mut shown, "screen", &format!("{columns} × {rows}, {} cells", cells.len()));
         if let Some(place) = cells.iter().position(|cell| *cell != BLANK) {
@@ -48,7 +48,7 @@ fn input(call: Call, input: &Input) -> String {
     if call.has_settings() || call == Call::ListLines {
         line(&mut shown, "settings", &numbers(input, &[SETTINGS]));
     }
-    if call.draws() || call == Call::Inner {
+    if call.has_screen() || call == Call::Inner {
         line(&mut shown, "area", &numbers(input, &[AREA]));
     } else if call != Call::LineWidth {
         line(&mut shown, "numbers", &numbers(input, &[NUMBERS]));

@@ -66,20 +66,7 @@ pub fn notice_counts(
     area: Rect,
     settings: Notice,
 ) -> Outcome<Drawn> {
-    ask(|| area.intersection(screen(columns, rows)))
-        .and_then(|met| inner(settings.block, titles, met))
-        .and_then(|inner| counts_in(inner, text, settings))
-}
-
-fn counts_in(inner: Rect, text: &[u32], settings: Notice) -> Outcome<Drawn> {
-    if inner.is_empty() {
-        return Outcome::Value(Drawn::default());
-    }
-    let lines = match settings.wrap {
-        Wrap::Off { column } => truncated_lines(text, settings.alignment, inner.width, column),
-        Wrap::On { trim } => wrapped_lines(text, settings.alignment, inner.width, trim),
-    };
-    lines.map(|lines| {
+    notice_lines(columns, rows, text, titles, area, settings).map(|(inner, lines)| {
         let mut counts = Drawn::default();
         let from_scroll = lines.iter().skip(usize::from(settings.scroll));
         for line in from_scroll.take(usize::from(inner.height)) {
@@ -90,6 +77,31 @@ fn counts_in(inner: Rect, text: &[u32], settings: Notice) -> Outcome<Drawn> {
         }
         counts
     })
+}
+
+/// Returns the crate's inner area of a notice as drawn, and its composed lines at that width: none
+/// if the area has no cell.
+pub fn notice_lines(
+    columns: u32,
+    rows: u32,
+    text: &[u32],
+    titles: &[u32],
+    area: Rect,
+    settings: Notice,
+) -> Outcome<(Rect, Vec<ComposedLine>)> {
+    ask(|| area.intersection(screen(columns, rows)))
+        .and_then(|met| inner(settings.block, titles, met))
+        .and_then(|inner| lines_in(inner, text, settings).map(|lines| (inner, lines)))
+}
+
+fn lines_in(inner: Rect, text: &[u32], settings: Notice) -> Outcome<Vec<ComposedLine>> {
+    if inner.is_empty() {
+        return Outcome::Value(Vec::new());
+    }
+    match settings.wrap {
+        Wrap::Off { column } => truncated_lines(text, settings.alignment, inner.width, column),
+        Wrap::On { trim } => wrapped_lines(text, settings.alignment, inner.width, trim),
+    }
 }
 
 /// "Start column: `get_line_offset`, centre being half the area less half the line, each half

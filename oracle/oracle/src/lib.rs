@@ -15,7 +15,7 @@ mod tally;
 mod widgets;
 
 pub use compose::{ComposedLine, truncated_lines, wrapped_lines};
-pub use draw::{Drawn, draw_block, draw_notice, notice_counts};
+pub use draw::{Drawn, draw_block, draw_notice, notice_counts, notice_lines};
 pub use measure::{
     horizontal_space, inner, line_count, line_width, proportional_padding, vertical_space,
 };

@@ -85,5 +85,5 @@ pub fn notice(number: u64) -> (Input, &'static [Call]) {
     input.cells = cells(input.columns * input.rows);
     input.styles = vec![0, 1 << 63 | 5 << 55 | 3 << 37 | 4 << 28, 1 << 54 | 6 << 46];
     (input.settings.style, input.settings.text_style) = (2, 1);
-    (input, &[Call::DrawNotice])
+    (input, &[Call::DrawNotice, Call::Pages])
 }
