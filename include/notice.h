@@ -23,7 +23,8 @@
      symbols.
    - Head: alignment is a notice_alignment, where 3 is the default alignment in a text, and "none given" in
      a title. Position is 0 in a text, and a notice_position in a title.
-   - Style: sets the given colours, then sets the modifiers to add, then clears those to remove.
+   - Style: sets the given colours, then sets the modifiers to add, then clears those to remove. Colours and
+     modifiers are only stored: what they mean is up to whoever shows the cells.
    - Cell: a blank cell has symbol 32 and zeros.
    - Composed line: first and end are record numbers of the text, counted from 0 with heads included; end
      is one past the last. Both are 0 if the line has no glyph. Its glyphs are those from first to end
@@ -327,7 +328,8 @@ notice_tally_answer notice_tally(const uint32_t *text, size_t text_len, uint16_t
 notice_area_answer notice_inner(notice_block block, const uint32_t *titles, size_t titles_len,
                                 notice_area area);
 
-/* Draws a block with its titles on the cells. Returns 0 or the refusal number.
+/* Draws a block with its titles on the cells; titles that don't fit are cut off. Returns 0 or the refusal
+   number.
    Refused with 1, 2, 5, 6, 7; 255 for the block. */
 uint32_t notice_draw_block(uint32_t columns, uint32_t rows, uint64_t *cells, size_t cells_len,
                            const uint64_t *styles, size_t styles_len, const uint32_t *titles,
@@ -371,7 +373,7 @@ notice_measure_answer notice_line_width(const uint32_t *text, size_t text_len, c
 }
 #endif
 
-/* The archive expects these sizes. */
+/* The archive expects these sizes; C++11 and C11 compilers check them. */
 #if defined __cplusplus && __cplusplus >= 201103L
 #define NOTICE_SIZE(type, size) static_assert(sizeof(type) == size, #type)
 #elif defined __STDC_VERSION__ && __STDC_VERSION__ >= 201112L
