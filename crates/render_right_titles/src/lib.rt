@@ -10,8 +10,8 @@ use titles::Group;
 use titles::heads;
 ghost use mathlib.Core.Path.{_≡_};
 ghost use mathlib.Core.List.{reverse};
-ghost use Prim.Native.Nat.{_≤_, _<_};
-ghost use lib.ListN.{length, take};
+ghost use Prim.Native.Nat.{_<_};
+ghost use lib.ListN.{length};
 ghost use Rattle.text.specs.declared.Alignment.the-variants.{Right};
 ghost use Rattle.text.specs.Line.{linesFrom};
 ghost use Rattle.buffer.specs.Drawing.{drawn};
@@ -99,7 +99,7 @@ fn render_previous_title(
     area
 }
 
-// Draws the last of the `count` titles before record `end`, if it belongs to the group, then recurses on those before it.
+// Draws the titles of a group, the last one first. Records before the first head belong to no title.
 fn render_titles_backward(
     screen: Screen,
     cells: &mut [u64],
@@ -108,42 +108,32 @@ fn render_titles_backward(
     block: Block,
     group: Group,
     area: Rect,
-    count: usize,
-    end: usize,
 )
-    requires { ⌜ (0 < screen .columns) × (end ≤ length (now titles)) × (count ≡ length (linesFrom 0 (take end (now titles)))) ⌝ }
+    requires { ⌜ 0 < screen .columns ⌝ }
     requires { ⌜ AreaFits screen (length (now cells)) area ⌝ }
     ensures { λ _.
-        let lines = linesFrom 0 (take end (now (titles .entry))) in
+        let lines = linesFrom 0 (now (titles .entry)) in
         let drawing = titlesDrawn (now (styles .entry)) block (rightTitles area (reverse (titlesOf block group lines))) in
         ⌜ now (cells .exit) ≡ drawn (screen .columns) drawing (now (cells .entry)) ⌝ }
 {
-    if count == 0 {
-        return;
+    let first = line::line_length(titles);
+    let mut left = area;
+    let mut end = titles.len();
+    while first < end {
+        let at = heads::last_head(titles, end);
+        let from = at + 1;
+        left = render_previous_title(
+            screen,
+            cells,
+            styles,
+            block,
+            group,
+            left,
+            titles[at],
+            &titles[from..end],
+        );
+        end = at;
     }
-    let at = heads::last_head(titles, end);
-    let from = at + 1;
-    let left = render_previous_title(
-        screen,
-        cells,
-        styles,
-        block,
-        group,
-        area,
-        titles[at],
-        &titles[from..end],
-    );
-    render_titles_backward(
-        screen,
-        cells,
-        styles,
-        titles,
-        block,
-        group,
-        left,
-        count - 1,
-        at,
-    );
 }
 
 // Draws the right titles at a position, in the titles area (block.rs: `Block::render_right_titles`).
@@ -167,17 +157,5 @@ pub fn render_right_titles(
         position,
         alignment: Alignment::Right,
     };
-    let count = line::count_text_lines(titles);
-    let end = titles.len();
-    render_titles_backward(
-        screen,
-        cells,
-        styles,
-        titles,
-        block,
-        group,
-        area,
-        count,
-        end,
-    );
+    render_titles_backward(screen, cells, styles, titles, block, group, area);
 }

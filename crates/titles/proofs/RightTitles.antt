@@ -1,14 +1,15 @@
 -- Right titles: the area remaining before each, and their order, the last one first.
-use Prim.Native.Nat.{ℕ, _+_, _-_, _<_, _≤_, _^_, min, max}
+use Prim.Native.Nat.{ℕ, zero, suc, _+_, _-_, _<_, _≤_, _^_, min, max}
 use mathlib.Core.Path.{_≡_, refl, sym, ap, _∙_}
 use mathlib.Core.Bool.{Bool, true, false, cond}
 use mathlib.Core.List.{List, [], _∷_, _++_, reverse, reverse-append}
 use native.Mathlib.Omega.{arith}
-use lib.ListN.{length, getD, take, drop, length-append}
+use lib.ListN.{length, getD, take, drop}
 use lib.Seq.{take-length}
 use Rattle.text.specs.declared.Alignment.{Alignment}
 use Rattle.text.specs.declared.TitlePosition.{TitlePosition}
-use Rattle.text.specs.Line.{TextLine, linesFrom}
+use Rattle.text.specs.Record.{isHead}
+use Rattle.text.specs.Line.{TextLine, untilHead, linesFrom}
 use Rattle.layout.specs.declared.Rect.{Rect}
 use Rattle.layout.specs.Rect.{rightOf, isEmpty}
 use Rattle.buffer.specs.declared.Screen.{Screen}
@@ -144,10 +145,6 @@ last-first b g ts t =
     go true = refl
     go false = refl
 
-no-titles : (ts : List TextLine) → length ts ≡ 0 → ts ≡ []
-no-titles [] e = refl
-no-titles (t ∷ ts) e = absurd (omega arith)
-
 -- the title whose head is record `at`, of the records before `end`
 abbrev pub titleAt : List ℕ → ℕ → ℕ → TextLine
 titleAt titles end at = titleOf (at + 1) (getD titles at 0) (take (end - (at + 1)) (drop (at + 1) titles))
@@ -156,46 +153,75 @@ titleAt titles end at = titleOf (at + 1) (getD titles at 0) (take (end - (at + 1
 abbrev pub lastToFirst : Block → Group → List ℕ → ℕ → List TextLine
 lastToFirst b g titles end = reverse (titlesOf b g (linesFrom 0 (take end titles)))
 
--- counting the titles before record `end`
-module _ (titles : List ℕ) (end count : ℕ) (counted : count ≡ length (linesFrom 0 (take end titles))) where
-  none-before : count ≡ 0 → linesFrom 0 (take end titles) ≡ []
-  none-before z = no-titles (linesFrom 0 (take end titles)) (sym counted ∙ z)
+-- The records before the first head belong to no title,
+no-title-before : (number : ℕ) (titles : List ℕ) (end : ℕ) → end ≤ length (untilHead titles) → linesFrom number (take end titles) ≡ []
+no-title-before number titles zero h = refl
+no-title-before number [] (suc end) h = refl
+no-title-before number (r ∷ rs) (suc end) h = go (isHead r) (no-title-before (suc number) rs end) h
+  where
+    go : (b : Bool) → (end ≤ length (untilHead rs) → linesFrom (suc number) (take end rs) ≡ [])
+        → suc end ≤ length (cond b [] (r ∷ untilHead rs))
+        → cond b (titleOf (suc number) r (untilHead (take end rs)) ∷ linesFrom (suc number) (take end rs)) (linesFrom (suc number) (take end rs)) ≡ []
+    go true ih k = absurd (omega arith)
+    go false ih k = ih (omega arith)
 
-  pub backward-fewer : (at : ℕ) → LastHead titles end at → count - 1 ≡ length (linesFrom 0 (take at titles))
-  backward-fewer at l = omega (arith, ap length (l .is-last), length-append (linesFrom 0 (take at titles)) (titleAt titles end at ∷ []))
+-- and those past it hold a title.
+some-title-before : (number : ℕ) (titles : List ℕ) (end : ℕ) → length (untilHead titles) < end → end ≤ length titles → 0 < length (linesFrom number (take end titles))
+some-title-before number titles zero h k = absurd (omega arith)
+some-title-before number [] (suc end) h k = absurd (omega arith)
+some-title-before number (r ∷ rs) (suc end) h k = go (isHead r) (some-title-before (suc number) rs end) h
+  where
+    go : (b : Bool) → (length (untilHead rs) < end → end ≤ length rs → 0 < length (linesFrom (suc number) (take end rs)))
+        → length (cond b [] (r ∷ untilHead rs)) < suc end
+        → 0 < length (cond b (titleOf (suc number) r (untilHead (take end rs)) ∷ linesFrom (suc number) (take end rs)) (linesFrom (suc number) (take end rs)))
+    go true ih m = omega arith
+    go false ih m = ih (omega arith) (omega arith)
 
--- drawing the titles of the group before record `end`
-module _ (s : Screen) (styles titles : List ℕ) (b : Block) (g : Group) (area : Rect) (end : ℕ) where
-  pub backward-none : (count : ℕ) (cells : List ℕ) → count ≡ length (linesFrom 0 (take end titles)) → count ≡ 0
-      → cells ≡ drawn (s .columns) (titlesDrawn styles b (rightTitles area (lastToFirst b g titles end))) cells
-  backward-none count cells counted z = rw (none-before titles end count counted z) (sym (drawn-none (s .columns) cells))
+pub some-title : (titles : List ℕ) (first end : ℕ) → first ≡ length (untilHead titles) → first < end → end ≤ length titles → 0 < length (linesFrom 0 (take end titles))
+some-title titles first end is-first h k = some-title-before 0 titles end (omega (arith, is-first)) k
 
-  pub backward-more : (at : ℕ) (cells next last : List ℕ) (left : Rect) → LastHead titles end at
-      → MovedBack s styles b g (getD titles at 0) (take (end - (at + 1)) (drop (at + 1) titles)) area cells left next
-      → last ≡ drawn (s .columns) (titlesDrawn styles b (rightTitles left (lastToFirst b g titles at))) next
-      → last ≡ drawn (s .columns) (titlesDrawn styles b (rightTitles area (lastToFirst b g titles end))) cells
-  backward-more at cells next last left l m d =
-      let all : lastToFirst b g titles end
-      ≡ cond (isChosen b (g .position) (g .alignment) (getD titles at 0)) (titleAt titles end at ∷ lastToFirst b g titles at) (lastToFirst b g titles at)
-      = ap (λ (ts : List TextLine). reverse (titlesOf b g ts)) (l .is-last) ∙ last-first b g (linesFrom 0 (take at titles)) (titleAt titles end at) in
-      d ∙ m .draws (at + 1) (lastToFirst b g titles at)
-      ∙ ap (λ (ts : List TextLine). drawn (s .columns) (titlesDrawn styles b (rightTitles area ts)) cells) (sym all)
+-- Before each turn: drawing the titles before record `end` in the area `left` completes the drawing of all titles that started in
+-- the area `start` on the old cells.
+pub record WalkingBack (s : Screen) (styles : List ℕ) (b : Block) (g : Group) (titles : List ℕ) (start : Rect) (old : List ℕ) (cells : List ℕ) (left : Rect) (end : ℕ) : Type 0 where
+  pub some : 0 < s .columns
+  pub within : end ≤ length titles
+  pub fits : AreaFits s (length cells) left
+  pub same-length : length cells ≡ length old
+  pub draws : drawn (s .columns) (titlesDrawn styles b (rightTitles left (lastToFirst b g titles end))) cells
+      ≡ drawn (s .columns) (titlesDrawn styles b (rightTitles start (reverse (titlesOf b g (linesFrom 0 titles))))) old
 
-pub moved-fits : (s : Screen) (styles : List ℕ) (b : Block) (g : Group) (head : ℕ) (glyphs : List ℕ) (area : Rect) (cells : List ℕ) (left : Rect) (next : List ℕ)
-    → MovedBack s styles b g head glyphs area cells left next → AreaFits s (length next) left
-moved-fits s styles b g head glyphs area cells left next m = m .fits
+module _ (s : Screen) (styles : List ℕ) (b : Block) (g : Group) (titles : List ℕ) (start : Rect) (old : List ℕ) where
+  pub walk-back-starts : 0 < s .columns → AreaFits s (length old) start → WalkingBack s styles b g titles start old old start (length titles)
+  walk-back-starts some f = record { some = some; within = omega arith; fits = f; same-length = refl; draws = rw (take-length titles) }
 
-pub ruleset backward = (backward-none, backward-fewer, backward-more, moved-fits)
+  module _ (cells : List ℕ) (left : Rect) (end : ℕ) (w : WalkingBack s styles b g titles start old cells left end) where
+    pub walk-back-goes : (at : ℕ) (next : Rect) (after : List ℕ) → LastHead titles end at
+        → MovedBack s styles b g (getD titles at 0) (take (end - (at + 1)) (drop (at + 1) titles)) left cells next after
+        → WalkingBack s styles b g titles start old after next at
+    walk-back-goes at next after l m =
+        let all : lastToFirst b g titles end
+        ≡ cond (isChosen b (g .position) (g .alignment) (getD titles at 0)) (titleAt titles end at ∷ lastToFirst b g titles at) (lastToFirst b g titles at)
+        = ap (λ (ts : List TextLine). reverse (titlesOf b g ts)) (l .is-last) ∙ last-first b g (linesFrom 0 (take at titles)) (titleAt titles end at) in
+        record {
+          some = w .some;
+          within = omega (arith, l .before, w .within);
+          fits = m .fits;
+          same-length = m .same-length ∙ w .same-length;
+          draws =
+              m .draws (at + 1) (lastToFirst b g titles at)
+              ∙ ap (λ (ts : List TextLine). drawn (s .columns) (titlesDrawn styles b (rightTitles left ts)) cells) (sym all)
+              ∙ w .draws;
+        }
 
--- ---- all right titles
+    pub walk-back-ends : (first : ℕ) → first ≡ length (untilHead titles) → end ≤ first
+        → cells ≡ drawn (s .columns) (titlesDrawn styles b (rightTitles start (reverse (titlesOf b g (linesFrom 0 titles))))) old
+    walk-back-ends first is-first h =
+        sym (drawn-none (s .columns) cells) ∙ rw (no-title-before 0 titles end (omega (arith, is-first))) at (w .draws)
 
--- the records before the end are all records
-pub all-counted : (titles : List ℕ) (count : ℕ) → count ≡ length (linesFrom 0 titles) → count ≡ length (linesFrom 0 (take (length titles) titles))
-all-counted titles count e = e ∙ rw (take-length titles)
+    pub walk-back-room : AreaFits s (length cells) left × (0 < s .columns)
+    walk-back-room = (w .fits, w .some)
 
-pub all-drawn : (columns : ℕ) (styles titles : List ℕ) (b : Block) (g : Group) (area : Rect) (cells next : List ℕ)
-    → next ≡ drawn columns (titlesDrawn styles b (rightTitles area (lastToFirst b g titles (length titles)))) cells
-    → next ≡ drawn columns (titlesDrawn styles b (rightTitles area (reverse (filteredTitles b (g .position) (g .alignment) (linesFrom 0 titles))))) cells
-all-drawn columns styles titles b g area cells next e = rw (take-length titles) at e
+    pub walk-back-length : length cells ≡ length old
+    walk-back-length = w .same-length
 
-pub ruleset all-right = (all-counted, all-drawn)
+pub ruleset walking-back = (some-title, walk-back-starts, walk-back-goes, walk-back-ends, walk-back-room, walk-back-length)
