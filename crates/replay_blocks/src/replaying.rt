@@ -57,6 +57,7 @@ fn replay_titled(cells: &mut [u64]) {
     }
     replay_part(Part::Titled, fd, cells);
     replay_part(Part::Wide, fd, cells);
+    replay_part(Part::Right, fd, cells);
     libc::close(fd);
 }
 

@@ -13,6 +13,7 @@ fn print_part(part: Part) -> bool {
         Part::Large => io::write_all(STDOUT_FILENO, b"blocks, large screens: "),
         Part::Titled => io::write_all(STDOUT_FILENO, b"titles, small screens: "),
         Part::Wide => io::write_all(STDOUT_FILENO, b"titles, wide screens: "),
+        Part::Right => io::write_all(STDOUT_FILENO, b"right titles alone: "),
     }
 }
 

@@ -96,6 +96,7 @@ fn manner(case: Case) -> Manner
     Manner {
         titles: case.titles,
         glyphs: case.glyphs,
+        right: case.right,
         styles: case.styles,
     }
 }

@@ -63,6 +63,7 @@ fn manner(case: Case) -> Manner
     Manner {
         titles: case.titles,
         glyphs: 16,
+        right: false,
         styles: case.styles,
     }
 }

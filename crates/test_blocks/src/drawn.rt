@@ -58,6 +58,7 @@ fn case(number: u32, screen: Screen, reach: u32, x: u32) -> Case
         screen: screen,
         titles: 0,
         glyphs: 0,
+        right: false,
         styles: styles,
         seed: x,
     }

@@ -64,6 +64,7 @@ pub fn case(number: u32) -> Case
         },
         titles: number % 5,
         glyphs: 2,
+        right: false,
         styles: 1,
         seed: x,
     }

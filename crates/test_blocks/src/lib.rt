@@ -17,14 +17,16 @@ use block::Block;
 use buffer::Screen;
 use layout::Rect;
 
-// A test case: `titles` titles of at most `glyphs` glyphs, `styles` styles, and the seed of titles, styles and cells. A case for
-// the inner area has no screen, its `titles` is the kind of its titles, and its styles are unused.
+// A test case: `titles` titles of at most `glyphs` glyphs, all of them right titles if `right` is set, `styles` styles, and the seed
+// of titles, styles and cells. A case for the inner area has no screen, its `titles` is the kind of its titles, and its styles are
+// unused.
 pub struct Case {
     pub block: Block,
     pub area: Rect,
     pub screen: Screen,
     pub titles: u32,
     pub glyphs: u32,
+    pub right: bool,
     pub styles: u32,
     pub seed: u32,
 }

@@ -1,6 +1,7 @@
-// Titles of the blocks to draw: any number, of any alignment and position.
+// Titles of the blocks to draw: any number, of any alignment and position, or all at the right.
 use crate::borders::symbol;
 use crate::titles::head;
+use crate::titles::right_head;
 use crate::words::four_on;
 use test_texts::random::below;
 use test_texts::random::next;
@@ -9,24 +10,29 @@ ghost use Prim.Native.Nat.{_<_, _≤_, _+_};
 ghost use lib.ListN.{length};
 ghost use Rattle.test_blocks.specs.TitlesExtra.{Bounded};
 
-// Number of titles, maximum glyphs in each, and exclusive bound of their style numbers.
+// Number of titles, maximum glyphs in each, whether all are right titles, and exclusive bound of their style numbers.
 pub struct Manner {
     pub titles: u32,
     pub glyphs: u32,
+    pub right: bool,
     pub styles: u32,
 }
 
-// Returns a head of random alignment and position.
-fn any_head(x: u32) -> u32 {
-    head(below(next(x), 3), x)
+// Returns a head of random position, and of random alignment unless it is to be a right title's.
+fn any_head(x: u32, right: bool) -> u32 {
+    let position = below(next(x), 3);
+    if right {
+        return right_head(position, x);
+    }
+    head(position, x)
 }
 
 // Returns the head of a title. About half of the titles share one, so that several are side by side.
-fn head_of(x: u32, common: u32) -> u32 {
+fn head_of(x: u32, common: u32, right: bool) -> u32 {
     if below(x, 2) == 0 {
         return common;
     }
-    any_head(next(x))
+    any_head(next(x), right)
 }
 
 // Returns the number of glyphs in a title: `most`, none, or a number between.
@@ -102,7 +108,7 @@ pub fn write_many(titles: &mut [u32], manner: Manner, x: u32) -> usize
     requires { ⌜ 4112 ≤ length (now titles) ⌝ }
     ensures { λ r. ⌜ r ≤ 4112 ⌝ }
 {
-    let common = any_head(x);
+    let common = any_head(x, manner.right);
     let mut y = next(next(x));
     let mut place = 0;
     let mut i = 0;
@@ -113,7 +119,7 @@ pub fn write_many(titles: &mut [u32], manner: Manner, x: u32) -> usize
             titles,
             place,
             end,
-            head_of(y, common),
+            head_of(y, common, manner.right),
             manner.styles,
             seed(y),
         );

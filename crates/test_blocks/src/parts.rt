@@ -11,6 +11,7 @@ pub enum Part {
     Large,
     Titled,
     Wide,
+    Right,
 }
 
 // Returns the number of cases in a part.
@@ -21,6 +22,7 @@ pub fn count(part: Part) -> u32 {
         Part::Large => 48,
         Part::Titled => 48000,
         Part::Wide => 1536,
+        Part::Right => 4096,
     }
 }
 
@@ -34,5 +36,6 @@ pub fn case(part: Part, number: u32) -> Case
         Part::Large => drawn::large(number),
         Part::Titled => titled::small(number),
         Part::Wide => titled::wide(number),
+        Part::Right => titled::right(number),
     }
 }

@@ -49,7 +49,7 @@ fn glyphs(x: u32, most: u32) -> u32
 }
 
 // Returns the case with a number on a screen, with titles of up to `most` glyphs, made from x and the random numbers after it.
-fn case(number: u32, screen: Screen, most: u32, x: u32) -> Case
+fn case(number: u32, screen: Screen, most: u32, right: bool, x: u32) -> Case
     requires { ⌜ Accepted screen ⌝ }
     requires { ⌜ most ≤ 256 ⌝ }
     ensures { λ r. ⌜ Writable r ⌝ }
@@ -63,13 +63,14 @@ fn case(number: u32, screen: Screen, most: u32, x: u32) -> Case
         screen: screen,
         titles: count(z),
         glyphs: glyphs(next(next(z)), most),
+        right: right,
         styles: styles,
         seed: x,
     }
 }
 
 // Returns the case with a number on a screen of up to 40 × 5 cells, with titles of up to 16 glyphs.
-pub fn small(number: u32) -> Case
+fn few_cells(number: u32, right: bool) -> Case
     ensures { λ r. ⌜ Writable r ⌝ }
 {
     let a = seed(number);
@@ -78,7 +79,21 @@ pub fn small(number: u32) -> Case
         columns: (1 + below(a, 40)) as u16,
         rows: (1 + below(b, 5)) as u16,
     };
-    case(number, screen, 16, next(b))
+    case(number, screen, 16, right, next(b))
+}
+
+// Returns such a case with titles of every alignment.
+pub fn small(number: u32) -> Case
+    ensures { λ r. ⌜ Writable r ⌝ }
+{
+    few_cells(number, false)
+}
+
+// Returns such a case with right titles alone: only numbers of blocks whose default alignment is right are used.
+pub fn right(number: u32) -> Case
+    ensures { λ r. ⌜ Writable r ⌝ }
+{
+    few_cells(number % 4096 / 64 * 192 + 128 + number % 64, true)
 }
 
 // Returns the case with a number on a screen of 512 × 3 cells, with titles of up to 256 glyphs.
@@ -89,5 +104,5 @@ pub fn wide(number: u32) -> Case
         columns: 512,
         rows: 3,
     };
-    case(number, screen, 256, seed(number))
+    case(number, screen, 256, false, seed(number))
 }

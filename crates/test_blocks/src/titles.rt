@@ -30,6 +30,13 @@ pub fn head(position: u32, x: u32) -> u32
     text::head::pack(below(x, 4), position)
 }
 
+// Returns the head of a right title in a block whose default alignment is right.
+pub fn right_head(position: u32, x: u32) -> u32
+    requires { ⌜ position < 4 ⌝ }
+{
+    text::head::pack(2 + below(x, 2), position)
+}
+
 // Returns the record at index `place`. The first title is at the top, the bottom or the block's position, the second at the
 // bottom. Any 31-bit number is a glyph.
 fn record_at(place: usize, kind: u32, x: u32) -> u32

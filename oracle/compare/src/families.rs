@@ -30,6 +30,13 @@ pub fn all(arguments: &Arguments) -> Vec<Family> {
         short("small blocks", frames::BLOCKS, frames::block),
         short("pairs of titles", frames::PAIRS, frames::pair),
         Family {
+            name: "right titles",
+            inputs: Some(scenes::RIGHT),
+            make: Box::new(move |number| {
+                (scenes::right_titles(&mut random(seed, number)), &[Call::DrawBlock])
+            }),
+        },
+        Family {
             name: "pairs of causes",
             inputs: Some(ways::pairs()),
             make: Box::new(move |number| (ways::pair(&mut random(seed, number), number), EACH)),

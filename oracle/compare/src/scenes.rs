@@ -26,6 +26,8 @@ const SMALL: Sizes =
     Sizes { columns: 12, rows: 6, records: 24, line: 12, titles: 4, title: 6, limit: 10 };
 const MIDDLE: Sizes =
     Sizes { columns: 80, rows: 25, records: 400, line: 80, titles: 16, title: 20, limit: 60 };
+const WIDE: Sizes =
+    Sizes { columns: 120, rows: 4, records: 0, line: 1, titles: 0, title: 0, limit: 1 };
 const LARGE: Sizes = Sizes {
     columns: 512,
     rows: 256,
@@ -52,6 +54,35 @@ pub fn scene(random: &mut Random) -> Input {
 
 pub fn small(random: &mut Random) -> Input {
     sized(random, SMALL)
+}
+
+/// Number of blocks with right titles alone.
+pub const RIGHT: u64 = 200_000;
+
+/// Returns a block whose titles are all at the right, sixteen in every other block.
+pub fn right_titles(random: &mut Random) -> Input {
+    let mut input = sized(random, WIDE);
+    let styles = input.styles.len() as u32;
+    let count = if random.once_in(2) { 16 } else { 1 + random.below(16) };
+    let most = random.pick(&[2, 6, 20, 300]);
+    let title = |_| right_title(random, styles, most);
+    input.titles = (0..count).flat_map(title).collect();
+    input.block.titles_alignment = 2;
+    input
+}
+
+/// Returns a title of any width up to `most`, at the right by its own alignment or the block's.
+fn right_title(random: &mut Random, styles: u32, most: u32) -> Vec<u32> {
+    let mut records = vec![head(2 + random.below(2), random.below(3))];
+    let mut left = random.below(most + 1);
+    while left > 0 {
+        let width = if random.once_in(8) { 0 } else { 1 + random.below(7.min(left)) };
+        let whitespace = u32::from(random.once_in(3));
+        let style = random.below(styles);
+        records.push(crate::records::glyph(symbol(random), width, whitespace, style));
+        left -= width;
+    }
+    records
 }
 
 fn sized(random: &mut Random, sizes: Sizes) -> Input {

@@ -39,9 +39,10 @@ pub const SCREENS: [Part<Case>; 2] = [
 
 pub const TITLED: Question<Case> = Question { file: "replay_blocks/data/titled", ask: drawn_cells };
 
-pub const TITLED_SCREENS: [Part<Case>; 2] = [
+pub const TITLED_SCREENS: [Part<Case>; 3] = [
     Part { name: "small screens", count: 48_000, case: titled::small },
     Part { name: "wide screens", count: 1_536, case: titled::wide },
+    Part { name: "right titles alone", count: 4_096, case: titled::right },
 ];
 
 /// Returns the checksum of the inner area and the space that the block takes on the left, right,

@@ -1,18 +1,18 @@
-//! Titles of the blocks to draw: any number, of any alignment and position.
+//! Titles of the blocks to draw: any number, of any alignment and position, or all at the right.
 
-use super::titles::head;
+use super::titles::{head, right_head};
 use super::words::four_on;
 use crate::random::{below, next, seed};
 
 /// Returns `count` titles of up to `most` glyphs, whose style numbers are below `styles`, made from
-/// x and the random numbers after it. About half of the titles share a head, so that several are
-/// side by side.
-pub fn many_titles(count: u32, most: u32, styles: u32, x: u32) -> Vec<u32> {
-    let common = any_head(x);
+/// x and the random numbers after it, all of them right titles if `right` is set. About half of the
+/// titles share a head, so that several are side by side.
+pub fn many_titles(count: u32, most: u32, right: bool, styles: u32, x: u32) -> Vec<u32> {
+    let common = any_head(x, right);
     let mut x = next(next(x));
     let mut titles = Vec::new();
     for _ in 0..count {
-        titles.push(if below(x, 2) == 0 { common } else { any_head(next(x)) });
+        titles.push(if below(x, 2) == 0 { common } else { any_head(next(x), right) });
         let y = four_on(x);
         titles.extend(glyphs(length(y, most), styles, seed(x)));
         x = next(next(y));
@@ -20,9 +20,10 @@ pub fn many_titles(count: u32, most: u32, styles: u32, x: u32) -> Vec<u32> {
     titles
 }
 
-/// Returns a head of random alignment and position.
-fn any_head(x: u32) -> u32 {
-    head(below(next(x), 3), x)
+/// Returns a head of random position, and of random alignment unless it is to be a right title's.
+fn any_head(x: u32, right: bool) -> u32 {
+    let position = below(next(x), 3);
+    if right { right_head(position, x) } else { head(position, x) }
 }
 
 /// Returns the number of glyphs in a title: `most`, none, or a number between.

@@ -11,20 +11,31 @@ use crate::random::{below, next, seed};
 
 /// Returns the case with a number on a screen of up to 40 × 5 cells, with titles of up to 16
 /// glyphs.
-pub fn small(number: u32) -> Case {
+fn few_cells(number: u32, right: bool) -> Case {
     let a = seed(number);
     let b = next(a);
-    case(number, 1 + below(a, 40) as u16, 1 + below(b, 5) as u16, 16, next(b))
+    case(number, 1 + below(a, 40) as u16, 1 + below(b, 5) as u16, 16, right, next(b))
+}
+
+/// Returns such a case with titles of every alignment.
+pub fn small(number: u32) -> Case {
+    few_cells(number, false)
+}
+
+/// Returns such a case with right titles alone: only numbers of blocks whose default alignment is
+/// right are used.
+pub fn right(number: u32) -> Case {
+    few_cells(number % 4_096 / 64 * 192 + 128 + number % 64, true)
 }
 
 /// Returns the case with a number on a screen of 512 × 3 cells, with titles of up to 256 glyphs.
 pub fn wide(number: u32) -> Case {
-    case(number, 512, 3, 256, seed(number))
+    case(number, 512, 3, 256, false, seed(number))
 }
 
 /// Returns the case with a number on a screen, with titles of up to `most` glyphs, made from x and
 /// the random numbers after it.
-fn case(number: u32, columns: u16, rows: u16, most: u32, x: u32) -> Case {
+fn case(number: u32, columns: u16, rows: u16, most: u32, right: bool, x: u32) -> Case {
     let y = next(x);
     let z = seed(next(y));
     let styles = 1 + below(x, 8);
@@ -32,7 +43,7 @@ fn case(number: u32, columns: u16, rows: u16, most: u32, x: u32) -> Case {
     Case {
         block: block(number, styles, 4, Padding::uniform(1), four_on(four_on(y))),
         area: titled_area(number / 384, y, columns, rows),
-        titles: many_titles(count(z), glyphs, styles, four_on(z)),
+        titles: many_titles(count(z), glyphs, right, styles, four_on(z)),
         columns,
         rows,
         styles: words(styles, 28, seed(x)),

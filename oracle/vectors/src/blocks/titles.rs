@@ -25,6 +25,11 @@ fn record(place: u32, kind: u32, x: u32) -> u32 {
     }
 }
 
+/// Returns the head of a right title in a block whose default alignment is right.
+pub fn right_head(position: u32, x: u32) -> u32 {
+    1 << 31 | (2 + below(x, 2)) << 29 | position << 27
+}
+
 /// Returns a title head of random alignment.
 pub fn head(position: u32, x: u32) -> u32 {
     1 << 31 | below(x, 4) << 29 | position << 27

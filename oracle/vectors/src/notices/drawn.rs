@@ -44,7 +44,7 @@ fn case(number: u32, columns: u16, rows: u16, most: u32, x: u32) -> Case {
         notice: framed(number, styles, y, next(v)),
         area: notice_area(v, y, columns, rows),
         text: text(most, seed(v)),
-        titles: many_titles(titles(z), 16, styles, four_on(z)),
+        titles: many_titles(titles(z), 16, false, styles, four_on(z)),
         columns,
         rows,
         styles: words(64, 28, seed(x)),
