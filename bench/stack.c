@@ -1,7 +1,8 @@
-/* Measures the stack that each function of the archive takes, on a stack painted beforehand. From the repository's root:
+/* Measures the stack that each function of the archive takes, on a stack painted beforehand. For gcc on x86-64, from the
+   repository's root:
 
      rt staticlib notice_c
-     cc -O2 -std=c11 -Wall -Wextra -maccumulate-outgoing-args -Iinclude bench/stack.c target/staticlib/libnotice_c.a -o target/stack
+     gcc -O2 -std=c11 -Wall -Wextra -maccumulate-outgoing-args -Iinclude bench/stack.c target/staticlib/libnotice_c.a -o target/stack
      target/stack
 
    Each call is made on notices of every alignment, wrap and shadow with sixteen titles, and the deepest byte written counts.

@@ -48,8 +48,8 @@
    with C's alignment; and cells and list, which are written, overlap nothing that the call reads. A null
    pointer with length 0 is fine. The calls keep nothing afterwards, allocate nothing and have no state:
    calls on different cells and lists may run at the same time. Stack use is bounded, as no function calls
-   itself: on x86-64 no call takes over 2 KiB beside its arguments, whatever it is given. notice_draw_notice
-   takes the most, 1,928 bytes; `tools/stack` prints the bytes of each call from an archive's machine code. */
+   itself: no call takes over 2 KiB beside its arguments, whatever it is given. notice_draw_notice takes the
+   most, 1,928 bytes; bench/README.md has the others, `tools/stack` reads them from an archive's machine code. */
 #ifndef NOTICE_H
 #define NOTICE_H
 

@@ -1,4 +1,4 @@
-// Blocks to draw with up to 16 titles, of every alignment and position.
+// Blocks to draw with up to 16 titles, of every alignment and position or all at the right.
 use crate::Case;
 use crate::areas::area;
 use crate::areas::roomy;
@@ -48,7 +48,8 @@ fn glyphs(x: u32, most: u32) -> u32
     }
 }
 
-// Returns the case with a number on a screen, with titles of up to `most` glyphs, made from x and the random numbers after it.
+// Returns the case with a number on a screen, with titles of up to `most` glyphs, all right titles if `right` is set, made from x and
+// the random numbers after it.
 fn case(number: u32, screen: Screen, most: u32, right: bool, x: u32) -> Case
     requires { ⌜ Accepted screen ⌝ }
     requires { ⌜ most ≤ 256 ⌝ }
@@ -69,7 +70,7 @@ fn case(number: u32, screen: Screen, most: u32, right: bool, x: u32) -> Case
     }
 }
 
-// Returns the case with a number on a screen of up to 40 × 5 cells, with titles of up to 16 glyphs.
+// Returns the case with a number on a screen of up to 40 × 5 cells, with titles of up to 16 glyphs, all right titles if `right` is set.
 fn few_cells(number: u32, right: bool) -> Case
     ensures { λ r. ⌜ Writable r ⌝ }
 {
@@ -89,7 +90,7 @@ pub fn small(number: u32) -> Case
     few_cells(number, false)
 }
 
-// Returns such a case with right titles alone: only numbers of blocks whose default alignment is right are used.
+// Returns such a case with right titles alone: it uses the numbers of blocks whose default alignment is right, 64 in each 192.
 pub fn right(number: u32) -> Case
     ensures { λ r. ⌜ Writable r ⌝ }
 {

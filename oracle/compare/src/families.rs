@@ -31,7 +31,7 @@ pub fn all(arguments: &Arguments) -> Vec<Family> {
         short("pairs of titles", frames::PAIRS, frames::pair),
         Family {
             name: "right titles",
-            inputs: Some(scenes::RIGHT),
+            inputs: Some(if arguments.short { 100_000 } else { 1_000_000 }),
             make: Box::new(move |number| {
                 (scenes::right_titles(&mut random(seed, number)), &[Call::DrawBlock])
             }),

@@ -26,6 +26,7 @@ const SMALL: Sizes =
     Sizes { columns: 12, rows: 6, records: 24, line: 12, titles: 4, title: 6, limit: 10 };
 const MIDDLE: Sizes =
     Sizes { columns: 80, rows: 25, records: 400, line: 80, titles: 16, title: 20, limit: 60 };
+/// For blocks with titles of their own, and without a text.
 const WIDE: Sizes =
     Sizes { columns: 120, rows: 4, records: 0, line: 1, titles: 0, title: 0, limit: 1 };
 const LARGE: Sizes = Sizes {
@@ -56,10 +57,7 @@ pub fn small(random: &mut Random) -> Input {
     sized(random, SMALL)
 }
 
-/// Number of blocks with right titles alone.
-pub const RIGHT: u64 = 200_000;
-
-/// Returns a block whose titles are all at the right, sixteen in every other block.
+/// Returns a block whose titles are all at the right, sixteen of them in half of the blocks.
 pub fn right_titles(random: &mut Random) -> Input {
     let mut input = sized(random, WIDE);
     let styles = input.styles.len() as u32;
@@ -75,8 +73,8 @@ pub fn right_titles(random: &mut Random) -> Input {
 fn right_title(random: &mut Random, styles: u32, most: u32) -> Vec<u32> {
     let mut records = vec![head(2 + random.below(2), random.below(3))];
     let mut left = random.below(most + 1);
-    while left > 0 {
-        let width = if random.once_in(8) { 0 } else { 1 + random.below(7.min(left)) };
+    while left > 0 || random.once_in(4) {
+        let width = random.below(7.min(left) + 1);
         let whitespace = u32::from(random.once_in(3));
         let style = random.below(styles);
         records.push(crate::records::glyph(symbol(random), width, whitespace, style));

@@ -1,4 +1,4 @@
-//! Blocks to draw with up to 16 titles, of every alignment and position.
+//! Blocks to draw with up to 16 titles, of every alignment and position or all at the right.
 
 use oracle::{Padding, Rect};
 
@@ -10,7 +10,7 @@ use super::words::{four_on, words};
 use crate::random::{below, next, seed};
 
 /// Returns the case with a number on a screen of up to 40 × 5 cells, with titles of up to 16
-/// glyphs.
+/// glyphs, all right titles if `right` is set.
 fn few_cells(number: u32, right: bool) -> Case {
     let a = seed(number);
     let b = next(a);
@@ -22,8 +22,8 @@ pub fn small(number: u32) -> Case {
     few_cells(number, false)
 }
 
-/// Returns such a case with right titles alone: only numbers of blocks whose default alignment is
-/// right are used.
+/// Returns such a case with right titles alone: it uses the numbers of blocks whose default
+/// alignment is right, 64 in each 192.
 pub fn right(number: u32) -> Case {
     few_cells(number % 4_096 / 64 * 192 + 128 + number % 64, true)
 }
@@ -33,8 +33,8 @@ pub fn wide(number: u32) -> Case {
     case(number, 512, 3, 256, false, seed(number))
 }
 
-/// Returns the case with a number on a screen, with titles of up to `most` glyphs, made from x and
-/// the random numbers after it.
+/// Returns the case with a number on a screen, with titles of up to `most` glyphs, all right titles
+/// if `right` is set, made from x and the random numbers after it.
 fn case(number: u32, columns: u16, rows: u16, most: u32, right: bool, x: u32) -> Case {
     let y = next(x);
     let z = seed(next(y));
