@@ -47,9 +47,12 @@
    The caller must ensure only this: each pointer points to as many elements as the length after it says,
    with C's alignment; and cells and list, which are written, overlap nothing that the call reads. A null
    pointer with length 0 is fine. The calls keep nothing afterwards, allocate nothing and have no state:
-   calls on different cells and lists may run at the same time. Stack use is bounded, as no function calls
-   itself: no call takes over 2 KiB beside its arguments, whatever it is given. notice_draw_notice takes the
-   most, 1,928 bytes; bench/README.md has the others, `tools/stack` reads them from an archive's machine code. */
+   calls on different cells and lists may run at the same time.
+
+   Stack use is bounded, as no function calls itself. In the archive built here no call takes over 2 KiB,
+   whatever it is given; notice_draw_notice takes the most, 1,928 bytes. Arguments and answer are in the
+   caller's frame besides, under 200 bytes. This is read from the machine code, not proved: `tools/stack`
+   prints the bytes of each call of any archive. */
 #ifndef NOTICE_H
 #define NOTICE_H
 

@@ -90,7 +90,8 @@ pub fn small(number: u32) -> Case
     few_cells(number, false)
 }
 
-// Returns such a case with right titles alone: it uses the numbers of blocks whose default alignment is right, 64 in each 192.
+// Returns such a case with right titles alone: it uses the numbers of blocks whose default alignment is right, 64 in each 192. The
+// remainder keeps them in 32 bits.
 pub fn right(number: u32) -> Case
     ensures { λ r. ⌜ Writable r ⌝ }
 {

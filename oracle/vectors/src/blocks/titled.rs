@@ -23,7 +23,7 @@ pub fn small(number: u32) -> Case {
 }
 
 /// Returns such a case with right titles alone: it uses the numbers of blocks whose default
-/// alignment is right, 64 in each 192.
+/// alignment is right, 64 in each 192. The remainder keeps them in 32 bits.
 pub fn right(number: u32) -> Case {
     few_cells(number % 4_096 / 64 * 192 + 128 + number % 64, true)
 }
