@@ -1,10 +1,12 @@
-//! Links the archive that `rt staticlib notice_c` writes.
+//! Links the archive that `rt staticlib notice_c` writes, or the one in another folder.
 
 use std::path::Path;
-use std::process;
+use std::{env, process};
 
 fn main() {
-    let folder = Path::new(env!("CARGO_MANIFEST_DIR")).join("../target/staticlib");
+    println!("cargo:rerun-if-env-changed=ARCHIVE_FOLDER");
+    let named = env::var_os("ARCHIVE_FOLDER").unwrap_or_else(|| "../target/staticlib".into());
+    let folder = Path::new(env!("CARGO_MANIFEST_DIR")).join(named);
     let archive = folder.join("libnotice_c.a");
     println!("cargo:rerun-if-changed={}", archive.display());
     if !archive.exists() {

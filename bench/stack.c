@@ -5,7 +5,8 @@
      gcc -O2 -std=c11 -Wall -Wextra -maccumulate-outgoing-args -Iinclude bench/stack.c target/staticlib/libnotice_c.a -o target/stack
      target/stack
 
-   Each call is made on notices of every alignment, wrap and shadow with sixteen titles, and the deepest byte written counts.
+   Each call is made on notices of every alignment, wrap, shadow and ambiguous width with sixteen titles, and the deepest byte
+   written counts.
    tools/stack tells from the code what each call can take at most: no figure printed here is larger. Bytes are counted
    from the caller's stack pointer at the call, for which the flag reserves the arguments' place beforehand. */
 #define _DEFAULT_SOURCE
@@ -37,12 +38,12 @@ static uint32_t number;
 
 static void list_lines(void) {
     AT_CALL();
-    number = notice_list_lines(text, text_len, 0, 20, 1, list, 16384).number;
+    number = notice_list_lines(text, text_len, settings.ambiguous, 0, 20, 1, list, 16384).number;
 }
 
 static void tally(void) {
     AT_CALL();
-    number = notice_tally(text, text_len, 20, 1).number;
+    number = notice_tally(text, text_len, settings.ambiguous, 20, 1).number;
 }
 
 static void inner(void) {
@@ -52,7 +53,8 @@ static void inner(void) {
 
 static void draw_block(void) {
     AT_CALL();
-    number = notice_draw_block(COLUMNS, ROWS, cells, CELLS, styles, 1, titles, titles_len, area, block);
+    number = notice_draw_block(COLUMNS, ROWS, cells, CELLS, styles, 1, titles, titles_len, settings.ambiguous, area,
+                               block);
 }
 
 static void draw_notice(void) {
@@ -74,7 +76,7 @@ static void line_count(void) {
 
 static void line_width(void) {
     AT_CALL();
-    number = notice_line_width(text, text_len, titles, titles_len, block).number;
+    number = notice_line_width(text, text_len, settings.ambiguous, titles, titles_len, block).number;
 }
 
 static const struct {
@@ -105,17 +107,22 @@ static size_t painted(void (*make)(void)) {
     return (size_t)(at_call - lowest);
 }
 
+/* Widths of one and two cells and the ambiguous one. */
+static uint32_t width(uint32_t choice) {
+    return choice % 3 == 2 ? NOTICE_WIDTH_AMBIGUOUS : 1 + choice % 3;
+}
+
 /* Words of one to five glyphs, each after a space, and sixteen titles of one alignment, half of them below. */
 static void fill(uint32_t alignment) {
     text_len = titles_len = 0;
     text[text_len++] = notice_text_head(alignment);
     for (uint32_t word = 0; word < WORDS; word++)
         for (uint32_t glyph = 0; glyph <= word % 5; glyph++)
-            text[text_len++] = notice_glyph(glyph ? 97 + glyph : NOTICE_BLANK_SYMBOL, 1 + word % 2, glyph == 0, 0);
+            text[text_len++] = notice_glyph(glyph ? 97 + glyph : NOTICE_BLANK_SYMBOL, width(word), glyph == 0, 0);
     for (uint32_t title = 0; title < NOTICE_MAX_TITLES; title++) {
         titles[titles_len++] = notice_title_head(alignment, title % 2);
         for (uint32_t glyph = 0; glyph < title % 9; glyph++)
-            titles[titles_len++] = notice_glyph(65 + title, 1 + glyph % 2, 0, 0);
+            titles[titles_len++] = notice_glyph(65 + title, width(glyph), 0, 0);
     }
 }
 
@@ -124,10 +131,11 @@ int main(void) {
     memset(&block, 0, sizeof block);
     block.border_top = block.border_right = block.border_bottom = block.border_left = 1;
     block.shadow_x = block.shadow_y = 1;
-    for (int choice = 0; choice < 3 * 3 * 3; choice++) {
+    for (int choice = 0; choice < 3 * 3 * 3 * 2; choice++) {
         fill(choice % 3);
         settings.wrap = choice / 3 % 3;
-        block.shadow = choice / 9;
+        block.shadow = choice / 9 % 3;
+        settings.ambiguous = choice / 27 ? NOTICE_AMBIGUOUS_WIDE : NOTICE_AMBIGUOUS_NARROW;
         for (size_t call = 0; call < sizeof CALLS / sizeof *CALLS; call++) {
             size_t bytes = painted(CALLS[call].make);
             if (bytes > most[call])

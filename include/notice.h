@@ -18,9 +18,10 @@
      composed line, 64 bits  first 15 | end 15 | width 16 | alignment 2 | zeros 16
 
    - Glyph: a symbol is any number below 2,097,152, read as a code point; 32 is the blank symbol. Width is
-     in columns: drawing writes the symbol to the first cell and leaves the symbols of the others that the
-     glyph covers; glyphs of width 0 aren't drawn. Lines break at glyphs with whitespace 1, whatever their
-     symbols.
+     in columns, 0 to 6; 7 is ambiguous (Unicode UAX 11): each call that reads widths takes a
+     notice_ambiguous, by which it is read as 1 or 2. Drawing writes the symbol to the first cell and leaves
+     the symbols of the others that the glyph covers; glyphs of width 0 aren't drawn. Lines break at glyphs
+     with whitespace 1, whatever their symbols.
    - Head: alignment is a notice_alignment, where 3 is the default alignment in a text, and "none given" in
      a title. Position is 0 in a text, and a notice_position in a title.
    - Style: sets the given colours, then sets the modifiers to add, then clears those to remove. Colours and
@@ -28,17 +29,17 @@
    - Cell: a blank cell has symbol 32 and zeros.
    - Composed line: first and end are record numbers of the text, counted from 0 with heads included; end
      is one past the last. Both are 0 if the line has no glyph. Its glyphs are those from first to end
-     that are no wider than the limit; their width can exceed the limit, and those that start at or past
-     it are clipped. Alignment is a notice_alignment other than default.
+     that are read as no wider than the limit; their width can exceed the limit, and those that start at or
+     past it are clipped. Alignment is a notice_alignment other than default.
 
    Pages: notice_pages returns the number of lines n, the number of pages that they take, and the inner
    area as drawn, h rows high. Page p, from 0, is drawn by notice_draw_notice with scroll p x h, which is
    below 16,384, each page on blank cells. If that area has a cell and the text is wrapped, notice_tally at
-   its width, with trim as the notice has it, returns the same n, and the pages are n / h, rounded up.
-   The pages show all lines, but not always all glyphs. If none may be lost, check the tally at that width:
-   every glyph that isn't dropped whitespace is shown if clipped, zero_width and over_wide are 0. Of an
-   unwrapped text the pages show only what fits the width. No page and a text that isn't empty: nothing can
-   be shown, since the inner area has no cell.
+   its width, with trim and ambiguous as the notice has them, returns the same n, and the pages are n / h,
+   rounded up. The pages show all lines, but not always all glyphs. If none may be lost, check the tally at
+   that width: every glyph that isn't dropped whitespace is shown if clipped, zero_width and over_wide are 0.
+   Of an unwrapped text the pages show only what fits the width. No page and a text that isn't empty: nothing
+   can be shown, since the inner area has no cell.
 
    Every call terminates, whatever numbers it is given. A call that can't be carried out is refused: its
    answer has 255 if that applies, else the lowest notice_refusal that does, of those listed for the call,
@@ -60,7 +61,7 @@
 #include <stdint.h>
 
 /* Raised when programs written for an earlier version of this header have to be changed. */
-#define NOTICE_API_VERSION 1
+#define NOTICE_API_VERSION 2
 
 #ifdef __cplusplus
 extern "C" {
@@ -133,6 +134,12 @@ enum notice_wrap {
     NOTICE_WRAP_TRIM = 2
 };
 
+/* How glyphs of the ambiguous width code are read: as one cell or as two. */
+enum notice_ambiguous {
+    NOTICE_AMBIGUOUS_NARROW = 1,
+    NOTICE_AMBIGUOUS_WIDE = 2
+};
+
 enum notice_shadow {
     NOTICE_SHADOW_NONE = 0,
     /* Its cells get the shadow's style. */
@@ -142,12 +149,14 @@ enum notice_shadow {
 };
 
 enum { NOTICE_BLANK_SYMBOL = 32 };
+/* Width of a glyph that is read as a notice_ambiguous says. */
+enum { NOTICE_WIDTH_AMBIGUOUS = 7 };
 /* Cells that are all zeros aren't blank. */
 #define NOTICE_BLANK_CELL (UINT64_C(32) << 43)
 
 /* Packing. Each number is cut to the size of its field. */
 
-/* Whitespace: 0 no, 1 yes. */
+/* Width is 0 to 6, or NOTICE_WIDTH_AMBIGUOUS. Whitespace: 0 no, 1 yes. */
 static inline uint32_t notice_glyph(uint32_t symbol, uint32_t width, uint32_t whitespace, uint32_t style) {
     return (symbol & 0x1FFFFF) << 10 | (width & 7) << 7 | (whitespace & 1) << 6 | (style & 63);
 }
@@ -237,8 +246,8 @@ typedef struct notice_block {
     uint8_t shadow_style;
 } notice_block;
 
-/* Settings of a notice other than its block. With all fields 0 it isn't wrapped: lines are cut off at the
-   width. */
+/* Settings of a notice other than its block. With all other fields 0 it isn't wrapped: lines are cut off at
+   the width. `ambiguous` has no case 0, so a notice whose fields are all 0 is answered with 255. */
 typedef struct notice_text {
     /* Index of the first line drawn, from 0. */
     uint16_t scroll;
@@ -251,6 +260,8 @@ typedef struct notice_text {
     uint8_t alignment;
     /* A notice_wrap. */
     uint8_t wrap;
+    /* A notice_ambiguous, for the glyphs of text and titles. */
+    uint8_t ambiguous;
 } notice_text;
 
 /* Number of lines written, and 0 or the refusal number. */
@@ -314,15 +325,19 @@ typedef struct notice_measure_answer {
 } notice_measure_answer;
 
 /* Writes the composed lines of a text, wrapped at the limit, to the list from entry 0; later entries are
-   kept. Alignment is the default alignment, a notice_alignment other than default. Trim: 0 no, 1 yes. Limit
-   0 gives no line.
-   Refused with 3, 4, 8, 9; 255 for alignment and trim. */
-notice_list_answer notice_list_lines(const uint32_t *text, size_t text_len, uint8_t alignment,
-                                     uint16_t limit, uint8_t trim, uint64_t *list, size_t list_len);
+   kept. Ambiguous is a notice_ambiguous; an entry doesn't say which, so read its glyphs by the same one.
+   Alignment is the default alignment, a notice_alignment other than default. Trim: 0 no, 1 yes. Limit 0
+   gives no line.
+   Refused with 3, 4, 8, 9; 255 for ambiguous, alignment and trim. */
+notice_list_answer notice_list_lines(const uint32_t *text, size_t text_len, uint8_t ambiguous,
+                                     uint8_t alignment, uint16_t limit, uint8_t trim, uint64_t *list,
+                                     size_t list_len);
 
-/* Counts the lines and glyphs of a text, wrapped at the limit. Trim: 0 no, 1 yes.
-   Refused with 3, 4, 8; 255 for trim. */
-notice_tally_answer notice_tally(const uint32_t *text, size_t text_len, uint16_t limit, uint8_t trim);
+/* Counts the lines and glyphs of a text, wrapped at the limit. Ambiguous is a notice_ambiguous. Trim: 0 no,
+   1 yes.
+   Refused with 3, 4, 8; 255 for ambiguous and trim. */
+notice_tally_answer notice_tally(const uint32_t *text, size_t text_len, uint8_t ambiguous, uint16_t limit,
+                                 uint8_t trim);
 
 /* Returns the inner area: an area less its borders, titles and padding, whatever the screen. For area
    (0, 0, 40, 20) and four borders that is 38 x 18, but drawing on 34 x 9 cells uses 32 x 7: paging by 18
@@ -332,12 +347,12 @@ notice_tally_answer notice_tally(const uint32_t *text, size_t text_len, uint16_t
 notice_area_answer notice_inner(notice_block block, const uint32_t *titles, size_t titles_len,
                                 notice_area area);
 
-/* Draws a block with its titles on the cells; titles that don't fit are cut off. Returns 0 or the refusal
-   number.
-   Refused with 1, 2, 5, 6, 7; 255 for the block. */
+/* Draws a block with its titles on the cells; titles that don't fit are cut off. Ambiguous is a
+   notice_ambiguous, for the titles' glyphs. Returns 0 or the refusal number.
+   Refused with 1, 2, 5, 6, 7; 255 for ambiguous and the block. */
 uint32_t notice_draw_block(uint32_t columns, uint32_t rows, uint64_t *cells, size_t cells_len,
                            const uint64_t *styles, size_t styles_len, const uint32_t *titles,
-                           size_t titles_len, notice_area area, notice_block block);
+                           size_t titles_len, uint8_t ambiguous, notice_area area, notice_block block);
 
 /* Draws a notice on the cells: its block and titles, and in the inner area its lines from the scroll
    row on. Inner cells without a glyph keep their symbols, so start on blank cells unless the old symbols
@@ -361,17 +376,18 @@ notice_pages_answer notice_pages(uint32_t columns, uint32_t rows, const uint64_t
 
 /* Returns the number of rows that a notice needs if its lines have this width, including the rows of
    borders, titles and padding; 0 at width 0. The width is the inner one: it isn't reduced by the frame.
-   Of the settings only `wrap` affects the result, but all settings with numbered cases are checked.
+   Of the settings only `wrap` and `ambiguous` affect the result, but all settings with numbered cases are
+   checked.
    Refused with 3, 4, 5, 7, 8; 255 for block and settings. */
 notice_measure_answer notice_line_count(const uint32_t *text, size_t text_len, const uint32_t *titles,
                                         size_t titles_len, notice_block block, notice_text settings,
                                         uint16_t width);
 
-/* Returns the width of the widest text line, including the columns of borders and padding. A line that is
-   wrapped at its own width may still be broken before glyphs of width 0.
-   Refused with 3, 4, 5, 7; 255 for the block. */
-notice_measure_answer notice_line_width(const uint32_t *text, size_t text_len, const uint32_t *titles,
-                                        size_t titles_len, notice_block block);
+/* Returns the width of the widest text line, including the columns of borders and padding. Ambiguous is a
+   notice_ambiguous. A line that is wrapped at its own width may still be broken before glyphs of width 0.
+   Refused with 3, 4, 5, 7; 255 for ambiguous and the block. */
+notice_measure_answer notice_line_width(const uint32_t *text, size_t text_len, uint8_t ambiguous,
+                                        const uint32_t *titles, size_t titles_len, notice_block block);
 
 #ifdef __cplusplus
 }
@@ -387,7 +403,7 @@ notice_measure_answer notice_line_width(const uint32_t *text, size_t text_len, c
 NOTICE_SIZE(size_t, 8);
 NOTICE_SIZE(notice_area, 8);
 NOTICE_SIZE(notice_block, 64);
-NOTICE_SIZE(notice_text, 8);
+NOTICE_SIZE(notice_text, 10);
 NOTICE_SIZE(notice_list_answer, 16);
 NOTICE_SIZE(notice_tally_answer, 28);
 NOTICE_SIZE(notice_area_answer, 12);

@@ -2,12 +2,12 @@
 
 use std::hint::black_box;
 
-use oracle::{Alignment, ComposedLine, Outcome};
+use oracle::{Alignment, AmbiguousWidth, ComposedLine, Outcome};
 use ratatui_core::glyph::Glyph;
 
 use crate::original::{over_lean, over_oracle};
-use crate::raw;
 use crate::sides::Sides;
+use crate::{inputs, raw, translated};
 
 /// Number of the left alignment.
 const LEFT: u8 = 0;
@@ -25,14 +25,29 @@ pub fn answered<T>(answer: Outcome<T>) -> T {
     }
 }
 
-fn proved_list(text: &[u32], limit: u16, trim: bool, list: &mut [u64]) -> usize {
-    let answer = raw::list_lines(text, LEFT, limit, trim.into(), list);
+fn proved_list(
+    text: &[u32],
+    ambiguous: AmbiguousWidth,
+    limit: u16,
+    trim: bool,
+    list: &mut [u64],
+) -> usize {
+    let ambiguous = translated::ambiguous_number(ambiguous);
+    let answer = raw::list_lines(text, ambiguous, LEFT, limit, trim.into(), list);
     assert_eq!(answer.number, 0, "refused");
     answer.lines
 }
 
-fn plain_list(text: &[u32], limit: u16, trim: bool, list: &mut [u64]) -> usize {
-    plain::list_lines(text, plain::Alignment::Left, limit, trim, list).expect("no refusal")
+fn plain_list(
+    text: &[u32],
+    ambiguous: AmbiguousWidth,
+    limit: u16,
+    trim: bool,
+    list: &mut [u64],
+) -> usize {
+    let ambiguous = translated::ambiguous(ambiguous);
+    plain::list_lines(text, ambiguous, plain::Alignment::Left, limit, trim, list)
+        .expect("no refusal")
 }
 
 /// Texts prepared for the crate's `WordWrapper`.
@@ -42,7 +57,12 @@ struct Originals<'a> {
 }
 
 /// Prepares texts for the crate's `WordWrapper` and passes them to `work`.
-fn with_originals<T>(texts: &[Vec<u32>], work: impl FnOnce(Originals) -> T) -> T {
+fn with_originals<T>(
+    texts: &[Vec<u32>],
+    ambiguous: AmbiguousWidth,
+    work: impl FnOnce(Originals) -> T,
+) -> T {
+    let texts: Vec<Vec<u32>> = texts.iter().map(|text| inputs::resolved(text, ambiguous)).collect();
     let oracle: Vec<String> = texts.iter().map(|text| symbols(text)).collect();
     let lean: Vec<String> = texts.iter().map(|text| lean::symbols(text)).collect();
     work(Originals {
@@ -52,15 +72,21 @@ fn with_originals<T>(texts: &[Vec<u32>], work: impl FnOnce(Originals) -> T) -> T
 }
 
 /// Compares the entries of every side, including those after the last line.
-fn compare_lists(texts: &[Vec<u32>], originals: &Originals, limit: u16, trim: bool) {
+fn compare_lists(
+    texts: &[Vec<u32>],
+    originals: &Originals,
+    ambiguous: AmbiguousWidth,
+    limit: u16,
+    trim: bool,
+) {
     for (number, text) in texts.iter().enumerate() {
-        let lines = answered(oracle::wrapped_lines(text, Alignment::Left, limit, trim));
+        let lines = answered(oracle::wrapped_lines(text, ambiguous, Alignment::Left, limit, trim));
         let mut entries: Vec<u64> = lines.iter().map(ComposedLine::packed).collect();
         assert_eq!(originals.over_oracle[number].entries(limit, trim), entries);
         assert_eq!(originals.over_lean[number].entries(limit, trim), entries);
         let (mut proved, mut plain) = (vec![0; 2 * text.len()], vec![0; 2 * text.len()]);
-        assert_eq!(proved_list(text, limit, trim, &mut proved), entries.len());
-        assert_eq!(plain_list(text, limit, trim, &mut plain), entries.len());
+        assert_eq!(proved_list(text, ambiguous, limit, trim, &mut proved), entries.len());
+        assert_eq!(plain_list(text, ambiguous, limit, trim, &mut plain), entries.len());
         entries.resize(proved.len(), 0);
         assert!(proved == entries && plain == entries);
     }
@@ -68,23 +94,24 @@ fn compare_lists(texts: &[Vec<u32>], originals: &Originals, limit: u16, trim: bo
 
 pub fn list<T>(
     texts: &[Vec<u32>],
+    ambiguous: AmbiguousWidth,
     limit: u16,
     trim: bool,
     work: impl FnOnce(&mut Sides) -> T,
 ) -> T {
-    with_originals(texts, |originals| {
-        compare_lists(texts, &originals, limit, trim);
+    with_originals(texts, ambiguous, |originals| {
+        compare_lists(texts, &originals, ambiguous, limit, trim);
         let mut list = vec![0; 2 * texts[0].len()];
         let mut plain = list.clone();
         work(&mut Sides::new([
             Box::new(|| {
                 for text in texts {
-                    black_box(proved_list(black_box(text), limit, trim, &mut list));
+                    black_box(proved_list(black_box(text), ambiguous, limit, trim, &mut list));
                 }
             }),
             Box::new(|| {
                 for text in texts {
-                    black_box(plain_list(black_box(text), limit, trim, &mut plain));
+                    black_box(plain_list(black_box(text), ambiguous, limit, trim, &mut plain));
                 }
             }),
             Box::new(|| originals.over_oracle.iter().for_each(|text| text.compose(limit, trim))),
@@ -93,27 +120,33 @@ pub fn list<T>(
     })
 }
 
-fn proved_tally(text: &[u32], limit: u16, trim: bool) -> [u32; 6] {
+fn proved_tally(text: &[u32], ambiguous: AmbiguousWidth, limit: u16, trim: bool) -> [u32; 6] {
     let raw::TallyAnswer { number, lines, placed, clipped, zero_width, over_wide, dropped } =
-        raw::tally(text, limit, trim.into());
+        raw::tally(text, translated::ambiguous_number(ambiguous), limit, trim.into());
     assert_eq!(number, 0, "refused");
     [lines, placed, clipped, zero_width, over_wide, dropped]
 }
 
-fn plain_tally(text: &[u32], limit: u16, trim: bool) -> [u32; 6] {
+fn plain_tally(text: &[u32], ambiguous: AmbiguousWidth, limit: u16, trim: bool) -> [u32; 6] {
     let plain::TallyCounts { lines, placed, clipped, zero_width, over_wide, dropped } =
-        plain::tally(text, limit, trim).expect("no refusal");
+        plain::tally(text, translated::ambiguous(ambiguous), limit, trim).expect("no refusal");
     [lines, placed, clipped, zero_width, over_wide, dropped]
 }
 
 /// Compares the counts of every side. The last two can't be computed from the crate's lines.
-fn compare_tallies(texts: &[Vec<u32>], originals: &Originals, limit: u16, trim: bool) {
+fn compare_tallies(
+    texts: &[Vec<u32>],
+    originals: &Originals,
+    ambiguous: AmbiguousWidth,
+    limit: u16,
+    trim: bool,
+) {
     for (number, text) in texts.iter().enumerate() {
         let oracle::Tally { lines, placed, clipped, zero_width, over_wide, dropped } =
-            answered(oracle::tally(text, limit, trim));
+            answered(oracle::tally(text, ambiguous, limit, trim));
         let counts = [lines, placed, clipped, zero_width, over_wide, dropped];
-        assert_eq!(proved_tally(text, limit, trim), counts);
-        assert_eq!(plain_tally(text, limit, trim), counts);
+        assert_eq!(proved_tally(text, ambiguous, limit, trim), counts);
+        assert_eq!(plain_tally(text, ambiguous, limit, trim), counts);
         assert_eq!(originals.over_oracle[number].counts(limit, trim), counts[..4]);
         assert_eq!(originals.over_lean[number].counts(limit, trim), counts[..4]);
     }
@@ -121,21 +154,22 @@ fn compare_tallies(texts: &[Vec<u32>], originals: &Originals, limit: u16, trim: 
 
 pub fn tally<T>(
     texts: &[Vec<u32>],
+    ambiguous: AmbiguousWidth,
     limit: u16,
     trim: bool,
     work: impl FnOnce(&mut Sides) -> T,
 ) -> T {
-    with_originals(texts, |originals| {
-        compare_tallies(texts, &originals, limit, trim);
+    with_originals(texts, ambiguous, |originals| {
+        compare_tallies(texts, &originals, ambiguous, limit, trim);
         work(&mut Sides::new([
             Box::new(|| {
                 for text in texts {
-                    black_box(proved_tally(black_box(text), limit, trim));
+                    black_box(proved_tally(black_box(text), ambiguous, limit, trim));
                 }
             }),
             Box::new(|| {
                 for text in texts {
-                    black_box(plain_tally(black_box(text), limit, trim));
+                    black_box(plain_tally(black_box(text), ambiguous, limit, trim));
                 }
             }),
             Box::new(|| {

@@ -2,7 +2,7 @@
 
 use std::hint::black_box;
 
-use oracle::{Drawn, Notice, Rect};
+use oracle::{AmbiguousWidth, Drawn, Notice, Rect};
 use ratatui_core::buffer::Buffer;
 use ratatui_core::widgets::Widget;
 use ratatui_widgets::paragraph::Paragraph;
@@ -86,26 +86,28 @@ fn framed_block() -> raw::Block {
 }
 
 /// Inputs of a drawing, without the text.
-struct Scene {
+pub struct Scene {
     size: [u32; 2],
     titles: Vec<u32>,
+    ambiguous: AmbiguousWidth,
     area: raw::Area,
     block: raw::Block,
 }
 
 impl Scene {
     /// Returns a framed notice with room for its shadow.
-    fn framed([columns, rows]: [u16; 2]) -> Self {
+    pub fn framed([columns, rows]: [u16; 2], titles: Vec<u32>, ambiguous: AmbiguousWidth) -> Self {
         let area = raw::Area { x: 1, y: 1, width: columns - 4, height: rows - 3 };
         let size = [columns, rows].map(u32::from);
-        Self { size, titles: inputs::titles(), area, block: framed_block() }
+        Self { size, titles, ambiguous, area, block: framed_block() }
     }
 
     /// Returns a block over the whole screen that has only a style.
     fn bare([columns, rows]: [u16; 2]) -> Self {
         let area = raw::Area { x: 0, y: 0, width: columns, height: rows };
         let size = [columns, rows].map(u32::from);
-        Self { size, titles: Vec::new(), area, block: bare_block(3) }
+        let ambiguous = AmbiguousWidth::Narrow;
+        Self { size, titles: Vec::new(), ambiguous, area, block: bare_block(3) }
     }
 
     fn cells(&self) -> Vec<u64> {
@@ -120,12 +122,20 @@ impl Scene {
     /// Returns the settings of a page of a text. The last page has as many rows as the first, or
     /// all lines.
     fn settings(&self, text: &[u32], method: Method, page: Page) -> raw::Text {
-        let wrap = if method == Method::Wrapped { 1 } else { 0 };
-        let still = raw::Text { scroll: 0, column: 0, style: 1, text_style: 2, alignment: 0, wrap };
         let Self { titles, area, block, .. } = self;
+        let ambiguous = translated::ambiguous_number(self.ambiguous);
+        let still = raw::Text {
+            scroll: 0,
+            column: 0,
+            style: 1,
+            text_style: 2,
+            alignment: 0,
+            wrap: u8::from(method == Method::Wrapped),
+            ambiguous,
+        };
         let inner = raw::inner(*block, titles, *area);
         let lines = raw::line_count(text, titles, *block, still, inner.width).value;
-        let columns = raw::line_width(text, titles, *block).value;
+        let columns = raw::line_width(text, ambiguous, titles, *block).value;
         let beyond = |needed: u32, room: u16| needed.saturating_sub(room.into()) as u16;
         raw::Text {
             scroll: if page == Page::Last { beyond(lines, area.height) } else { 0 },
@@ -135,7 +145,7 @@ impl Scene {
     }
 
     fn proved_notice(&self, cells: &mut [u64], text: &[u32], settings: raw::Text) -> [u32; 3] {
-        let Self { size, titles, area, block } = self;
+        let Self { size, titles, area, block, .. } = self;
         let raw::DrawAnswer { number, rows, placed, clipped } =
             raw::draw_notice(*size, cells, &STYLES, text, titles, *area, *block, settings);
         assert_eq!(number, 0, "refused");
@@ -165,14 +175,17 @@ impl Scene {
     }
 
     fn proved_block(&self, cells: &mut [u64]) {
-        let Self { size, titles, area, block } = self;
-        assert_eq!(raw::draw_block(*size, cells, &STYLES, titles, *area, *block), 0, "refused");
+        let Self { size, titles, ambiguous, area, block } = self;
+        let ambiguous = translated::ambiguous_number(*ambiguous);
+        let number = raw::draw_block(*size, cells, &STYLES, titles, ambiguous, *area, *block);
+        assert_eq!(number, 0, "refused");
     }
 
     fn plain_block(&self, cells: &mut [u64], block: &plain::block::Block) {
         let [columns, rows] = self.size;
         let area = translated::rect(flat::rect(self.area));
-        plain::draw_block(columns, rows, cells, &STYLES, &self.titles, area, block)
+        let ambiguous = translated::ambiguous(self.ambiguous);
+        plain::draw_block(columns, rows, cells, &STYLES, &self.titles, ambiguous, area, block)
             .expect("no refusal");
     }
 }
@@ -219,22 +232,22 @@ impl<'a> Shown<'a> {
 }
 
 pub fn notice<T>(
-    screen: [u16; 2],
+    scene: &Scene,
     texts: &[Vec<u32>],
     method: Method,
     page: Page,
     work: impl FnOnce(&mut Sides) -> T,
 ) -> T {
-    let scene = Scene::framed(screen);
     let texts: Vec<Vec<u32>> = texts.iter().map(|text| inputs::styled(text)).collect();
     let pages: Vec<Shown> =
-        texts.iter().map(|text| Shown::new(&scene, text, method, page)).collect();
-    let records: Vec<Records> = texts.iter().map(|text| Records::new(text)).collect();
-    let titles = Records::new(&scene.titles);
+        texts.iter().map(|text| Shown::new(scene, text, method, page)).collect();
+    let records: Vec<Records> =
+        texts.iter().map(|text| Records::new(text, scene.ambiguous)).collect();
+    let titles = Records::new(&scene.titles, scene.ambiguous);
     let paragraphs: Vec<Paragraph> =
         pages.iter().zip(&records).map(|(page, text)| page.paragraph(text, &titles)).collect();
     for (page, paragraph) in pages.iter().zip(&paragraphs) {
-        page.compare(&scene, paragraph);
+        page.compare(scene, paragraph);
     }
 
     let area = flat::rect(scene.area);
@@ -262,7 +275,7 @@ pub fn style<T>(screen: [u16; 2], work: impl FnOnce(&mut Sides) -> T) -> T {
     let scene = Scene::bare(screen);
     let original = flat::block(scene.block);
     let translated = translated::block(original);
-    let titles = Records::new(&scene.titles);
+    let titles = Records::new(&scene.titles, scene.ambiguous);
     let block = widgets::block(original, &titles, Some(&STYLES));
     let area = flat::rect(scene.area);
     let (mut proved, mut plain, mut buffer) = (scene.cells(), scene.cells(), scene.buffer());

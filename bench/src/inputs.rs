@@ -1,10 +1,14 @@
-//! Texts and titles: packed records as document 01 defines them, all glyphs of width 1.
+//! Texts and titles: packed records as document 01 defines them, all glyphs of width 1 or ambiguous.
+
+use oracle::AmbiguousWidth;
 
 /// A head: "1 | alignment 2 | position 2 | 27 zeros"; left, top.
 const HEAD: u32 = 1 << 31;
 /// Glyphs: "0 | symbol 21 | width 3 | whitespace 1 | style 6".
 const LETTER: u32 = 97 << 10 | 1 << 7;
 const BLANK: u32 = 32 << 10 | 1 << 7 | 1 << 6;
+const AMBIGUOUS_LETTER: u32 = 97 << 10 | 7 << 7;
+const WIDE_LETTER: u32 = 97 << 10 | 2 << 7;
 
 /// Number of styles passed to the drawing calls.
 pub const STYLES: u32 = 4;
@@ -40,6 +44,23 @@ pub fn styled(text: &[u32]) -> Vec<u32> {
         if record == HEAD { record } else { record | (number / 16 % STYLES) }
     };
     (0..).zip(text).map(|(number, &record)| style(number, record)).collect()
+}
+
+/// Returns the records with half of their letters ambiguous, those of even numbers.
+pub fn half_ambiguous(records: &[u32]) -> Vec<u32> {
+    let changed = |number: usize, record: u32| {
+        if record == LETTER && number.is_multiple_of(2) { AMBIGUOUS_LETTER } else { record }
+    };
+    records.iter().enumerate().map(|(number, &record)| changed(number, record)).collect()
+}
+
+/// Returns the text as the original takes it: each ambiguous letter has the width read for it.
+pub fn resolved(text: &[u32], ambiguous: AmbiguousWidth) -> Vec<u32> {
+    let letter = match ambiguous {
+        AmbiguousWidth::Narrow => LETTER,
+        AmbiguousWidth::Wide => WIDE_LETTER,
+    };
+    text.iter().map(|&record| if record == AMBIGUOUS_LETTER { letter } else { record }).collect()
 }
 
 /// Returns four titles of 12 glyphs: left, centre and right at the top, and right at the bottom.

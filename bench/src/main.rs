@@ -2,7 +2,9 @@
 //!
 //! Usage: `bench` for the tables; `bench ROW` for the times of one row (from 0, in the order of the
 //! table), a list of the sides for each size; `bench ROW SIDE TIMES` to run one side of a row TIMES
-//! times at the largest size, for a tool that counts instructions.
+//! times at the largest size, for a tool that counts instructions. For bench/compare: `bench rows`
+//! for the names of the rows, and `bench ROW once` for each size and two times of the proved side,
+//! in turns with the others and alone.
 #![deny(unsafe_code)]
 
 mod composing;
@@ -24,7 +26,9 @@ mod raw;
 mod records;
 /// Under the name that the oracle's modules included here use.
 mod settings {
-    pub use oracle::{Block, BorderSet, Borders, Effect, Notice, Shadow, TitlePosition, Wrap};
+    pub use oracle::{
+        AmbiguousWidth, Block, BorderSet, Borders, Effect, Notice, Shadow, TitlePosition, Wrap,
+    };
 }
 #[path = "../../oracle/oracle/src/widgets.rs"]
 mod widgets;
@@ -55,17 +59,28 @@ fn all_rounds(rows: &[Row]) -> Vec<Found> {
     (0..ROUNDS).map(round).reduce(least).expect("a round")
 }
 
-fn main() {
-    let words: Vec<String> = env::args().skip(1).collect();
-    let whole = |word: &str| word.parse::<usize>().expect("a number");
-    if let [row, side, times] = &words[..] {
-        return ROWS[whole(row)].with_sides(2, |sides| sides.only(side, whole(times)));
+fn print_names() {
+    for row in &ROWS {
+        println!("{}", row.name);
     }
-    if let [row] = &words[..] {
-        let row = &ROWS[whole(row)];
-        println!("{}: {:.2?}", row.name, all_rounds(std::slice::from_ref(row)));
-        return;
+}
+
+fn print_row(row: &Row) {
+    println!("{}: {:.2?}", row.name, all_rounds(std::slice::from_ref(row)));
+}
+
+/// Prints a line for each size: the size, and the times of the proved side in a round of all sides
+/// and in one alone. All sides come first: alone the processor learns the branches of the text.
+fn print_round(row: &Row) {
+    for size in [0, 1, 2] {
+        let units = row.units(size);
+        let (turns, alone) =
+            row.with_sides(size, |sides| (sides.least(units)[0], sides.least_alone(units)));
+        println!("{} {turns:.4} {alone:.4}", row.size(size));
     }
+}
+
+fn print_tables() {
     let found = all_rounds(&ROWS);
     println!("Nanoseconds a record, or a cell in the last row; the least of {ROUNDS} rounds.\n");
     report::print_times(&found);
@@ -73,4 +88,20 @@ fn main() {
     report::print_growth(&found);
     println!();
     report::print_goals(&found);
+}
+
+fn main() {
+    let words: Vec<String> = env::args().skip(1).collect();
+    let words: Vec<&str> = words.iter().map(String::as_str).collect();
+    let whole = |word: &str| word.parse::<usize>().expect("a number");
+    match words[..] {
+        [] => print_tables(),
+        ["rows"] => print_names(),
+        [row] => print_row(&ROWS[whole(row)]),
+        [row, "once"] => print_round(&ROWS[whole(row)]),
+        [row, side, times] => {
+            ROWS[whole(row)].with_sides(2, |sides| sides.only(side, whole(times)));
+        }
+        _ => panic!("arguments as the first comment of main.rs has them"),
+    }
 }

@@ -1,8 +1,10 @@
 //! The rows of the tables: a call and its input.
 
-use crate::inputs;
+use oracle::AmbiguousWidth;
+
+use crate::drawing::Scene;
 use crate::sides::Sides;
-use crate::{composing, drawing};
+use crate::{composing, drawing, inputs};
 
 /// The call that a row times.
 #[derive(Clone, Copy)]
@@ -36,6 +38,7 @@ pub struct Row {
     pub name: &'static str,
     text: Making,
     call: Call,
+    ambiguous: AmbiguousWidth,
 }
 
 /// Generates the text with a size in records and a number; some kinds have only one text of a size.
@@ -65,15 +68,26 @@ impl Row {
         }
     }
 
+    /// Returns records as the row has them: half of the letters are ambiguous if they are read wide.
+    fn given(&self, records: Vec<u32>) -> Vec<u32> {
+        match self.ambiguous {
+            AmbiguousWidth::Narrow => records,
+            AmbiguousWidth::Wide => inputs::half_ambiguous(&records),
+        }
+    }
+
     /// Prepares a size of the row for every side and passes the sides to `work`.
     pub fn with_sides<T>(&self, size: usize, work: impl FnOnce(&mut Sides) -> T) -> T {
         let numbers = 0..(RECORDS / SIZES[size]) as u32;
-        let texts: Vec<Vec<u32>> = numbers.map(|number| (self.text)(SIZES[size], number)).collect();
+        let text = |number| self.given((self.text)(SIZES[size], number));
+        let texts: Vec<Vec<u32>> = numbers.map(text).collect();
+        let ambiguous = self.ambiguous;
         match self.call {
-            Call::List { limit, trim } => composing::list(&texts, limit, trim, work),
-            Call::Tally { limit, trim } => composing::tally(&texts, limit, trim, work),
+            Call::List { limit, trim } => composing::list(&texts, ambiguous, limit, trim, work),
+            Call::Tally { limit, trim } => composing::tally(&texts, ambiguous, limit, trim, work),
             Call::Notice { screen, method, page } => {
-                drawing::notice(screen, &texts, method, page, work)
+                let scene = Scene::framed(screen, self.given(inputs::titles()), ambiguous);
+                drawing::notice(&scene, &texts, method, page, work)
             }
             Call::Style => drawing::style(SCREENS[size], work),
         }
@@ -81,7 +95,12 @@ impl Row {
 }
 
 const fn row(name: &'static str, text: Making, call: Call) -> Row {
-    Row { name, text, call }
+    Row { name, text, call, ambiguous: AmbiguousWidth::Narrow }
+}
+
+/// Returns a row with half of the letters ambiguous, read wide.
+const fn wide(name: &'static str, text: Making, call: Call) -> Row {
+    Row { name, text, call, ambiguous: AmbiguousWidth::Wide }
 }
 
 const fn list(limit: u16, trim: bool) -> Call {
@@ -99,7 +118,7 @@ const fn draw(screen: [u16; 2], method: Method, page: Page) -> Call {
 const SMALL: [u16; 2] = SCREENS[0];
 const LARGE: [u16; 2] = SCREENS[1];
 
-pub const ROWS: [Row; 28] = [
+pub const ROWS: [Row; 30] = [
     row("list, words, 20", inputs::words, list(20, false)),
     row("list, words, 20, trimmed", inputs::words, list(20, true)),
     row("list, words, 80", inputs::words, list(80, false)),
@@ -114,6 +133,7 @@ pub const ROWS: [Row; 28] = [
     row("list, letter and blanks, 4,096, trimmed", inputs::letter_and_blanks, list(4096, true)),
     row("list, one word, 20", inputs::one_word, list(20, false)),
     row("list, one word, 20, trimmed", inputs::one_word, list(20, true)),
+    wide("list, half ambiguous, 20", inputs::words, list(20, false)),
     row("tally, words, 20", inputs::words, tally(20, false)),
     row("tally, words, 80, trimmed", inputs::words, tally(80, true)),
     row("tally, short lines, 20, trimmed", inputs::short_lines, tally(20, true)),
@@ -162,6 +182,11 @@ pub const ROWS: [Row; 28] = [
         "notice, words, 200 × 60, last page",
         inputs::words,
         draw(LARGE, Method::Wrapped, Page::Last),
+    ),
+    wide(
+        "notice, half ambiguous, 80 × 24, last page",
+        inputs::words,
+        draw(SMALL, Method::Wrapped, Page::Last),
     ),
     row("whole-screen style", inputs::words, Call::Style),
 ];

@@ -1,6 +1,6 @@
 //! Converts the oracle's settings to those of the plain translation, which has its own types.
 
-use oracle::{Alignment, Block, Effect, Notice, Rect, Shadow, TitlePosition, Wrap};
+use oracle::{Alignment, AmbiguousWidth, Block, Effect, Notice, Rect, Shadow, TitlePosition, Wrap};
 use plain::block;
 
 pub fn rect(area: Rect) -> plain::Rect {
@@ -18,6 +18,7 @@ pub fn notice(settings: Notice) -> plain::Notice {
             Wrap::On { trim } => plain::Wrap::On { trim },
         },
         scroll: settings.scroll,
+        ambiguous: ambiguous(settings.ambiguous),
     }
 }
 
@@ -59,6 +60,18 @@ pub fn alignment(alignment: Alignment) -> plain::Alignment {
         Alignment::Center => plain::Alignment::Center,
         Alignment::Right => plain::Alignment::Right,
     }
+}
+
+pub fn ambiguous(ambiguous: AmbiguousWidth) -> plain::AmbiguousWidth {
+    match ambiguous {
+        AmbiguousWidth::Narrow => plain::AmbiguousWidth::Narrow,
+        AmbiguousWidth::Wide => plain::AmbiguousWidth::Wide,
+    }
+}
+
+/// Returns the header's number of the setting: the cells that an ambiguous glyph is read as.
+pub fn ambiguous_number(ambiguous: AmbiguousWidth) -> u8 {
+    self::ambiguous(ambiguous) as u8
 }
 
 fn shadow(shadow: Shadow) -> Option<block::Shadow> {

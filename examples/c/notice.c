@@ -1,6 +1,6 @@
 /* Draws a framed notice of two pages on blank cells, in an area within the screen and in one that overhangs
-   it, prints the screens and the tallies, and tries calls that are refused. Ends with `all as promised`, or
-   with the failed check and exit status 1. */
+   it, prints the screens and the tallies, measures a text with an ambiguous glyph, read narrow and wide, and
+   tries calls that are refused. Ends with `all as promised`, or with the failed check and exit status 1. */
 #include "notice.h"
 
 #include <stdbool.h>
@@ -125,6 +125,7 @@ static const notice_text SETTINGS = {
     .text_style = PLAIN,
     .alignment = NOTICE_ALIGN_LEFT,
     .wrap = NOTICE_WRAP_TRIM,
+    .ambiguous = NOTICE_AMBIGUOUS_NARROW,
 };
 
 static const char TEXT[] = "Barred since this morning: 1041, 1177, 2063 and 3310.\n"
@@ -191,7 +192,7 @@ static notice_pages_answer draw_pages(lent all, notice_area area) {
         print_screen(all.cells);
     }
     check(*next == '\0', "the whole text on the pages");
-    notice_tally_answer tally = notice_tally(all.text.at, all.text.count, pages.width, 1);
+    notice_tally_answer tally = notice_tally(all.text.at, all.text.count, SETTINGS.ambiguous, pages.width, 1);
     check(tally.number == NOTICE_ACCEPTED, "tally accepted");
     printf("tally: lines %u, placed %u, clipped %u, zero-width %u, over-wide %u, dropped %u\n",
            (unsigned)tally.lines, (unsigned)tally.placed, (unsigned)tally.clipped,
@@ -204,8 +205,9 @@ static notice_pages_answer draw_pages(lent all, notice_area area) {
 static void print_measures(lent all, uint16_t width) {
     notice_measure_answer rows = notice_line_count(all.text.at, all.text.count, all.titles.at,
                                                    all.titles.count, BLOCK, SETTINGS, width);
-    notice_measure_answer columns = notice_line_width(all.text.at, all.text.count, all.titles.at,
-                                                      all.titles.count, BLOCK);
+    notice_measure_answer columns =
+        notice_line_width(all.text.at, all.text.count, SETTINGS.ambiguous, all.titles.at,
+                          all.titles.count, BLOCK);
     check(rows.number == NOTICE_ACCEPTED && columns.number == NOTICE_ACCEPTED, "measures accepted");
     printf("on one page: %u rows; unwrapped: %u columns\n", (unsigned)rows.value,
            (unsigned)columns.value);
@@ -214,8 +216,8 @@ static void print_measures(lent all, uint16_t width) {
 /* Lists the lines, one entry each, and checks that a shorter list is refused and unchanged. */
 static void list_lines(records text, uint16_t limit, uint32_t lines) {
     uint64_t *list = allocated(lines * sizeof *list);
-    notice_list_answer answer =
-        notice_list_lines(text.at, text.count, NOTICE_ALIGN_LEFT, limit, 1, list, lines);
+    notice_list_answer answer = notice_list_lines(text.at, text.count, SETTINGS.ambiguous,
+                                                  NOTICE_ALIGN_LEFT, limit, 1, list, lines);
     check(answer.number == NOTICE_ACCEPTED && answer.lines == lines, "lines listed");
     printf("lines:");
     for (size_t i = 0; i < answer.lines; i++) {
@@ -223,26 +225,50 @@ static void list_lines(records text, uint16_t limit, uint32_t lines) {
     }
     printf("\n");
     uint64_t first = list[0];
-    answer =
-        notice_list_lines(text.at, text.count, NOTICE_ALIGN_LEFT, limit, 1, list, lines - 1);
+    answer = notice_list_lines(text.at, text.count, SETTINGS.ambiguous, NOTICE_ALIGN_LEFT, limit, 1,
+                               list, lines - 1);
     check(answer.number == NOTICE_REFUSED_LIST_LENGTH && answer.lines == 0,
           "a list too short is refused");
     check(list[0] == first, "and is as it was");
     free(list);
 }
 
+/* Prints the columns of the text 7, arrow, 3. The arrow is ambiguous (Unicode UAX 11): screens show it in
+   one cell, which is to read it narrow, or in two, wide. */
+static void print_readings(void) {
+    const uint32_t text[] = {
+        notice_text_head(NOTICE_ALIGN_DEFAULT),
+        glyph('7', PLAIN),
+        notice_glyph(0x2192, NOTICE_WIDTH_AMBIGUOUS, 0, PLAIN),
+        glyph('3', PLAIN),
+    };
+    const size_t count = sizeof text / sizeof *text;
+    const notice_block no_frame = {0};
+    notice_measure_answer narrow =
+        notice_line_width(text, count, NOTICE_AMBIGUOUS_NARROW, NULL, 0, no_frame);
+    notice_measure_answer wide =
+        notice_line_width(text, count, NOTICE_AMBIGUOUS_WIDE, NULL, 0, no_frame);
+    check(narrow.number == NOTICE_ACCEPTED && wide.number == NOTICE_ACCEPTED, "readings accepted");
+    printf("7\u2192" "3: %u columns read narrow, %u read wide\n", (unsigned)narrow.value,
+           (unsigned)wide.value);
+    check(narrow.value == 3 && wide.value == 4, "the arrow in one cell and in two");
+}
+
 /* Draws only the frame, without titles and in a corner; then tries a screen without cells. */
 static void draw_frames(lent all) {
     notice_area corner = {.x = 28, .y = 6, .width = 20, .height = 20};
     clear(all.cells);
-    uint32_t number = notice_draw_block(COLUMNS, ROWS, all.cells, CELLS, all.styles,
-                                        all.style_count, NULL, 0, corner, BLOCK);
+    uint32_t number =
+        notice_draw_block(COLUMNS, ROWS, all.cells, CELLS, all.styles, all.style_count, NULL, 0,
+                          SETTINGS.ambiguous, corner, BLOCK);
     check(number == NOTICE_ACCEPTED, "no titles, null");
     printf("a block over the edge of the screen, without titles:\n");
     print_screen(all.cells);
-    number = notice_draw_block(COLUMNS, ROWS, NULL, 0, NULL, 0, NULL, 0, corner, BLOCK);
+    number = notice_draw_block(COLUMNS, ROWS, NULL, 0, NULL, 0, NULL, 0, SETTINGS.ambiguous, corner,
+                               BLOCK);
     check(number == NOTICE_REFUSED_SCREEN, "no cells, null");
-    notice_list_answer none = notice_list_lines(NULL, 0, NOTICE_ALIGN_CENTRE, 20, 0, NULL, 0);
+    notice_list_answer none =
+        notice_list_lines(NULL, 0, SETTINGS.ambiguous, NOTICE_ALIGN_CENTRE, 20, 0, NULL, 0);
     check(none.number == NOTICE_ACCEPTED && none.lines == 0, "no text and no list, null");
 }
 
@@ -266,8 +292,13 @@ static void draw_refused(lent all) {
     check(wrap.number == NOTICE_UNKNOWN_SETTING, "a wrap that names no case");
     printf("a number that names no case: %u\n", (unsigned)kind.number);
     check(answer.rows + answer.placed + kind.rows + kind.placed == 0, "counts are 0");
-    notice_tally_answer trim = notice_tally(all.text.at, all.text.count, 20, 2);
+    notice_tally_answer trim =
+        notice_tally(all.text.at, all.text.count, SETTINGS.ambiguous, 20, 2);
     check(trim.number == NOTICE_UNKNOWN_SETTING, "trim 2");
+    settings = SETTINGS;
+    settings.ambiguous = 0;
+    notice_draw_answer unset = drawn(all, AREA, BLOCK, settings);
+    check(unset.number == NOTICE_UNKNOWN_SETTING, "ambiguous 0, as in settings that are all 0");
     check(memcmp(before, all.cells, CELLS * sizeof *before) == 0, "cells as they were");
     free(before);
 }
@@ -294,6 +325,7 @@ int main(void) {
     notice_pages_answer pages = draw_pages(all, AREA);
     print_measures(all, pages.width);
     list_lines(all.text, pages.width, pages.lines);
+    print_readings();
 
     notice_area_answer inner = notice_inner(BLOCK, all.titles.at, all.titles.count, OVERHANGING);
     check(inner.number == NOTICE_ACCEPTED, "inner area accepted");

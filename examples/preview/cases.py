@@ -61,6 +61,7 @@ def shown(evening):
         "10_scrolled_past": notice("a\nb", "--size", "6", "4", "--scroll", "65535"),
         "11_shadow_before": notice("abc", "--size", "9", "5", "--area", "3", "2", "6", "3", "--shadow", "symbol", "--shadow-offset", "-2", "-1"),
         "12_widest": notice("w" * 600, "--size", "512", "2", "--border", "none", "--padding", "0", "0", "0", "0"),
+        "13_ambiguous": notice("7→3 ±1 ok", "--size", "10", "5", "--ambiguous", "--top", "→", "--top", "b"),
     }
 
 
@@ -81,7 +82,7 @@ def bad(evening):
 
 def refused(evening):
     head = pack.head(3, 0)
-    glyph = pack.glyph("a", 0, "")
+    glyph = pack.glyph("a", 0, 1)
     plain = small()
     five = [0] * 5
     return {

@@ -2,11 +2,12 @@
 """Makes the packed form of a notice, which `preview` reads, from plain text.
 
 Outside the proved part: nothing proves this script. It is for trying things out, and what it gets wrong `preview` refuses or
-shows. Each character becomes one glyph of one cell (`--wide` names characters of two), a space a whitespace glyph; a line of the
-text becomes a line of the notice."""
+shows. Each character becomes one glyph of one cell (`--wide` names characters of two; with `--ambiguous` those that Unicode
+calls ambiguous get that width code), a space a whitespace glyph; a line of the text becomes a line of the notice."""
 import argparse
 import struct
 import sys
+import unicodedata
 
 EPILOGUE = """Outside the proved part: nothing proves this script. crates/preview_file says the packed form."""
 
@@ -23,6 +24,9 @@ ALIGNMENTS = {"left": 0, "centre": 1, "right": 2, "own": 3}
 WRAPS = {"off": 0, "on": 1, "trim": 2}
 SHADOWS = {"none": 0, "overlay": 1, "symbol": 2}
 MODIFIERS = ["bold", "dim", "italic", "underlined", "slow-blink", "rapid-blink", "reversed", "hidden", "crossed-out"]
+
+# Width code of a glyph that is read as one cell or as two.
+AMBIGUOUS = 7
 
 # Style numbers: indices into the style table.
 PLAIN, FRAME, TITLE, SHADE, DIGIT = range(5)
@@ -47,26 +51,34 @@ def head(alignment, position):
     return 1 << 31 | alignment << 29 | position << 27
 
 
-def glyph(character, number, wide):
-    width = 2 if character in wide else 1
+def glyph(character, number, width):
     return ord(character) << 10 | width << 7 | (character == " ") << 6 | number
 
 
-def text_records(text, digits, wide):
+def width_of(character, options):
+    """Returns the width code: cells, or ambiguous."""
+    if character in options.wide:
+        return 2
+    if options.ambiguous and unicodedata.east_asian_width(character) == "A":
+        return AMBIGUOUS
+    return 1
+
+
+def text_records(text, options):
     records = []
     for line in text.split("\n"):
         records.append(head(ALIGNMENTS["own"], 0))
         for character in line:
-            number = DIGIT if digits and character.isdigit() else PLAIN
-            records.append(glyph(character, number, wide))
+            number = DIGIT if options.digits and character.isdigit() else PLAIN
+            records.append(glyph(character, number, width_of(character, options)))
     return records
 
 
-def title_records(titles, position, alignment, wide):
+def title_records(titles, position, options):
     records = []
     for title in titles:
-        records.append(head(alignment, position))
-        records += [glyph(character, TITLE, wide) for character in title]
+        records.append(head(ALIGNMENTS[options.title_alignment], position))
+        records += [glyph(character, TITLE, width_of(character, options)) for character in title]
     return records
 
 
@@ -87,9 +99,8 @@ def packed(options, text):
     columns, rows = options.size
     area = options.area or [0, 0, columns, rows]
     styles = [0, style(options.frame_style), style(options.title_style), style(options.shadow_style), style(options.digit_style)]
-    alignment = ALIGNMENTS[options.title_alignment]
-    titles = title_records(options.top, 0, alignment, options.wide) + title_records(options.bottom, 1, alignment, options.wide)
-    records = text_records(text, options.digits, options.wide)
+    titles = title_records(options.top, 0, options) + title_records(options.bottom, 1, options)
+    records = text_records(text, options)
     return (
         b"NTC1"
         + struct.pack(">2H", columns, rows)
@@ -123,6 +134,7 @@ def arguments():
     parser.add_argument("--scroll", type=int, default=0, help="the first line shown")
     parser.add_argument("--column", type=int, default=0, help="with --wrap off: how far lines are scrolled to the right")
     parser.add_argument("--wide", default="", metavar="CHARACTERS", help="characters of two cells")
+    parser.add_argument("--ambiguous", action="store_true", help="characters of East Asian Width A (UAX 11) are ambiguous: `preview` reads them as one cell, `preview wide` as two")
     parser.add_argument("--digits", action="store_true", help="digits have a style of their own")
     parser.add_argument("--frame-style", default="4", metavar="WORDS", help="as `4`, `7 on 1 bold` (4)")
     parser.add_argument("--title-style", default="3 bold", metavar="WORDS")

@@ -1,10 +1,13 @@
 #!/usr/bin/env python3
 """Writes the 768 notices that crates/test_trials draws page by page and reads back: with every set of borders, with and without a
-shadow and titles, trimmed and untrimmed, of each alignment, on 40 × 20 cells. Every text glyph has width 1; whitespace glyphs
-have the blank symbol, and no other glyph has it. Nothing is proved about this script."""
+shadow and titles, trimmed and untrimmed, of each alignment, on 40 × 20 cells. Every text glyph is one cell wide: of width 1, or
+ambiguous, which is read narrow. Whitespace glyphs have the blank symbol, and no other glyph has it. Nothing is proved about this
+script."""
 import struct
 
 import packed
+
+AMBIGUOUS = 7  # the width code
 
 
 # Reproducible pseudo-random numbers modulo 2^32, the same as in crates/test_texts.
@@ -41,15 +44,16 @@ def head(x, position=0):
 
 
 def text_of(length, heads, blanks, x):
-    """Yields text records: one in `heads` is a head, and one glyph in `blanks` is whitespace."""
+    """Yields text records: one in `heads` is a head, one glyph in `blanks` is whitespace, and one in 5 is ambiguous."""
     for place in range(length):
         y, z = on(x), on(x, 2)
+        width = AMBIGUOUS if below(z, 5) == 0 else 1
         if place == 0 or below(x, heads) == 0:
             yield head(y)
         elif below(y, blanks) == 0:
-            yield 32 * 1024 + 128 + 64 + below(z, 4)
+            yield 32 * 1024 + width * 128 + 64 + below(z, 4)
         else:
-            yield (33 + z // 2048 % 2097119) * 1024 + 128 + below(on(z), 4)
+            yield (33 + z // 2048 % 2097119) * 1024 + width * 128 + below(on(z), 4)
         x = on(x, 3)
 
 
@@ -65,7 +69,7 @@ def title_length(x, most):
 def title_glyph(x):
     y, z = on(x), on(x, 3)
     kind = below(y, 16)
-    width = 0 if kind < 2 else 1 if kind < 10 else 2 if kind < 13 else 3 if kind < 15 else below(on(y), 8)
+    width = 0 if kind < 2 else 1 if kind < 8 else AMBIGUOUS if kind < 10 else 2 if kind < 13 else 3 if kind < 15 else below(on(y), 8)
     return symbol(x) * 1024 + width * 128 + below(z, 2) * 64 + below(z, 4)
 
 

@@ -36,4 +36,4 @@ pub use paragraph::{Notice, Wrap};
 pub use refuse::Refusal;
 pub use render_lines::DrawCounts;
 pub use tally::{TallyCounts, tally};
-pub use text::{Alignment, TitlePosition};
+pub use text::{Alignment, AmbiguousWidth, TitlePosition};

@@ -1,6 +1,6 @@
 //! The line of an unwrapped text line.
 
-use crate::text::{Alignment, glyph};
+use crate::text::Alignment;
 use crate::word_wrapper::{Rule, Run};
 
 /// Returns the glyphs shown when the text is scrolled right by `column`. Only left lines are
@@ -9,7 +9,7 @@ pub fn truncate_line(rule: Rule, column: u32, alignment: Alignment, records: &[u
     let mut offset = if alignment == Alignment::Left { column } else { 0 };
     let mut run = Run::default();
     for (at, &record) in records.iter().enumerate() {
-        let width = glyph::width(record);
+        let width = rule.width(record);
         if width > rule.limit {
             continue;
         }

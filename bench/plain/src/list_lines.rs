@@ -2,7 +2,7 @@
 
 use crate::line_composer::{LineComposer, Method, WrappedLine};
 use crate::refuse::{self, Refusal, unless};
-use crate::text::Alignment;
+use crate::text::{Alignment, AmbiguousWidth};
 use crate::word_wrapper::Rule;
 
 /// "first 15 | end 15 | width 16 | alignment 2 | 16 zeros".
@@ -24,13 +24,14 @@ pub fn check_text(limit: u16, text: &[u32]) -> Result<(), Refusal> {
 /// entry is written.
 pub fn list_lines(
     text: &[u32],
+    ambiguous: AmbiguousWidth,
     default_alignment: Alignment,
     limit: u16,
     trim: bool,
     list: &mut [u64],
 ) -> Result<usize, Refusal> {
     check_text(limit, text)?;
-    let rule = Rule { limit: limit.into(), trim };
+    let rule = Rule { limit: limit.into(), trim, ambiguous };
     let lines = || LineComposer::new(rule, Method::WordWrap, default_alignment, text);
     let count = lines().count();
     unless(refuse::list_too_short(list.len(), count), Refusal::ListLength)?;

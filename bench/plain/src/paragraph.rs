@@ -6,7 +6,7 @@ use crate::layout::Rect;
 use crate::line_composer::Method;
 use crate::render_block::render_frame;
 use crate::render_lines::{DrawCounts, TextOptions, render_lines};
-use crate::text::Alignment;
+use crate::text::{Alignment, AmbiguousWidth};
 use crate::word_wrapper::Rule;
 
 #[derive(Clone, Copy)]
@@ -16,7 +16,7 @@ pub enum Wrap {
 }
 
 /// A notice: its block, its style, its text style, its default alignment, how its lines are
-/// composed, and the first line drawn.
+/// composed, the first line drawn, and how ambiguous glyphs of its text and titles are read.
 #[derive(Clone, Copy)]
 pub struct Notice {
     pub block: Block,
@@ -25,6 +25,7 @@ pub struct Notice {
     pub alignment: Alignment,
     pub wrap: Wrap,
     pub scroll: u16,
+    pub ambiguous: AmbiguousWidth,
 }
 
 impl Notice {
@@ -35,7 +36,7 @@ impl Notice {
             Wrap::Off { column } => (false, Method::Truncate(column.into())),
         };
         TextOptions {
-            rule: Rule { limit: width.into(), trim },
+            rule: Rule { limit: width.into(), trim, ambiguous: self.ambiguous },
             method,
             default_alignment: self.alignment,
             style: self.text_style,
@@ -60,7 +61,7 @@ pub fn render(
     }
     let ink = Ink::Style(style_at(styles, notice.style));
     paint_area(screen, cells, met, ink);
-    render_frame(screen, cells, styles, titles, &notice.block, met);
+    render_frame(screen, cells, styles, titles, notice.ambiguous, &notice.block, met);
     let inner = notice.block.inner_area(titles, met);
     if inner.is_empty() {
         return DrawCounts::default();

@@ -39,7 +39,7 @@ pub fn render_line(
     let mut column = get_line_offset(line.alignment, row.len(), line.width as usize);
     let mut counts = GlyphCounts { placed: 0, clipped: 0 };
     for &word in &text[line.first..line.end] {
-        let width = glyph::width(word);
+        let width = rule.width(word);
         if width > rule.limit || width == 0 {
             continue;
         }

@@ -3,7 +3,7 @@
 use crate::block::Block;
 use crate::buffer::Screen;
 use crate::layout::Rect;
-use crate::text::{self, Alignment, TitlePosition, head};
+use crate::text::{self, Alignment, AmbiguousWidth, TitlePosition, head};
 use crate::title::{line_width_u16, render_title};
 
 /// A block's titles and the screen to draw them on.
@@ -12,6 +12,7 @@ struct Titles<'a> {
     cells: &'a mut [u64],
     styles: &'a [u64],
     records: &'a [u32],
+    ambiguous: AmbiguousWidth,
     block: &'a Block,
 }
 
@@ -29,9 +30,14 @@ impl<'a> Titles<'a> {
         })
     }
 
+    fn line_width(&self, glyphs: &[u32]) -> u16 {
+        line_width_u16(glyphs, self.ambiguous)
+    }
+
     fn draw(&mut self, area: Rect, alignment: Alignment, glyphs: &[u32]) {
-        let style = self.block.titles_style;
-        render_title(self.screen, self.cells, self.styles, style, area, alignment, glyphs);
+        let Self { screen, styles, ambiguous, block, .. } = *self;
+        let style = block.titles_style;
+        render_title(screen, self.cells, styles, style, area, alignment, glyphs, ambiguous);
     }
 
     /// Draws titles from left to right while there is room. If `truncated` is given, that many of
@@ -47,7 +53,7 @@ impl<'a> Titles<'a> {
             if area.is_empty() {
                 return;
             }
-            let width = area.width.min(line_width_u16(glyphs)).saturating_sub(offset);
+            let width = area.width.min(self.line_width(glyphs)).saturating_sub(offset);
             let alignment = match truncated {
                 Some(_) if offset > 0 => Alignment::Right,
                 Some(_) => Alignment::Left,
@@ -69,7 +75,7 @@ impl<'a> Titles<'a> {
     fn render_center_titles(&mut self, position: TitlePosition, area: Rect) {
         let titles = || self.filtered(position, Alignment::Center);
         let spaced =
-            |sum: u16, (_, glyphs)| sum.saturating_add(line_width_u16(glyphs).saturating_add(1));
+            |sum: u16, (_, glyphs)| sum.saturating_add(self.line_width(glyphs).saturating_add(1));
         let total = titles().fold(0, spaced).saturating_sub(1);
         let titles = titles();
         if total <= area.width {
@@ -93,7 +99,7 @@ impl<'a> Titles<'a> {
             {
                 continue;
             }
-            let width = line_width_u16(glyphs);
+            let width = self.line_width(glyphs);
             let x = area.right().saturating_sub(width).max(area.x);
             let part = Rect { x, width: width.min(area.width), ..area };
             self.draw(part, head::resolve(word, Alignment::Left), glyphs);
@@ -126,10 +132,11 @@ pub fn render_titles(
     cells: &mut [u64],
     styles: &[u64],
     records: &[u32],
+    ambiguous: AmbiguousWidth,
     block: &Block,
     met: Rect,
 ) {
-    let mut titles = Titles { screen, cells, styles, records, block };
+    let mut titles = Titles { screen, cells, styles, records, ambiguous, block };
     titles.render_title_position(TitlePosition::Top, met);
     titles.render_title_position(TitlePosition::Bottom, met);
 }

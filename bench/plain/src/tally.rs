@@ -3,7 +3,7 @@
 use crate::line_composer::{LineComposer, Method};
 use crate::list_lines::check_text;
 use crate::refuse::Refusal;
-use crate::text::{Alignment, glyph, head};
+use crate::text::{Alignment, AmbiguousWidth, head};
 use crate::word_wrapper::Rule;
 
 #[derive(Debug, Default, Clone, Copy, PartialEq, Eq)]
@@ -18,17 +18,17 @@ pub struct TallyCounts {
 
 impl TallyCounts {
     /// Counts the glyphs of a composed line.
-    fn add_line(&mut self, limit: u32, records: &[u32]) {
+    fn add_line(&mut self, rule: Rule, records: &[u32]) {
         self.lines += 1;
         let mut column = 0;
         for &record in records {
-            let width = glyph::width(record);
-            if width > limit {
+            let width = rule.width(record);
+            if width > rule.limit {
                 continue;
             }
             if width == 0 {
                 self.zero_width += 1;
-            } else if column < limit {
+            } else if column < rule.limit {
                 self.placed += 1;
             } else {
                 self.clipped += 1;
@@ -40,20 +40,25 @@ impl TallyCounts {
 
 /// Tallies a text at a limit: causes 3, 4, 8. Counts the composed lines first, then all glyphs; the
 /// difference is the number of glyphs dropped.
-pub fn tally(text: &[u32], limit: u16, trim: bool) -> Result<TallyCounts, Refusal> {
+pub fn tally(
+    text: &[u32],
+    ambiguous: AmbiguousWidth,
+    limit: u16,
+    trim: bool,
+) -> Result<TallyCounts, Refusal> {
     check_text(limit, text)?;
     if limit == 0 {
         return Ok(TallyCounts::default());
     }
-    let rule = Rule { limit: limit.into(), trim };
+    let rule = Rule { limit: limit.into(), trim, ambiguous };
     let mut counts = TallyCounts::default();
     for line in LineComposer::new(rule, Method::WordWrap, Alignment::Left, text) {
-        counts.add_line(rule.limit, &text[line.first..line.end]);
+        counts.add_line(rule, &text[line.first..line.end]);
     }
     let mut glyphs = 0;
     for &record in text.iter().filter(|&&record| !head::is_head(record)) {
         glyphs += 1;
-        if glyph::width(record) > rule.limit {
+        if rule.width(record) > rule.limit {
             counts.over_wide += 1;
         }
     }

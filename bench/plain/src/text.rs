@@ -13,14 +13,28 @@ pub enum TitlePosition {
     Bottom,
 }
 
+/// How many cells an ambiguous glyph is read as.
+#[derive(Debug, Clone, Copy, PartialEq, Eq)]
+pub enum AmbiguousWidth {
+    Narrow = 1,
+    Wide = 2,
+}
+
 /// "0 | symbol 21 | width 3 | whitespace 1 | style 6".
 pub mod glyph {
+    use super::AmbiguousWidth;
+
+    /// Width code of an ambiguous glyph.
+    const AMBIGUOUS: u32 = 7;
+
     pub fn symbol(glyph: u32) -> u32 {
         glyph >> 10 & 0x1f_ffff
     }
 
-    pub fn width(glyph: u32) -> u32 {
-        glyph >> 7 & 0b111
+    /// Returns the width of a glyph as read.
+    pub fn width(glyph: u32, ambiguous: AmbiguousWidth) -> u32 {
+        let code = glyph >> 7 & 0b111;
+        if code == AMBIGUOUS { ambiguous as u32 } else { code }
     }
 
     pub fn is_whitespace(glyph: u32) -> bool {

@@ -1,12 +1,20 @@
 //! The wrapped lines of one text line; pending glyphs are runs of records.
 
-use crate::text::glyph;
+use crate::text::{AmbiguousWidth, glyph};
 
 /// Settings of the wrapper.
 #[derive(Clone, Copy)]
 pub struct Rule {
     pub limit: u32,
     pub trim: bool,
+    pub ambiguous: AmbiguousWidth,
+}
+
+impl Rule {
+    /// Returns the width of a glyph as the rule reads it.
+    pub fn width(self, glyph: u32) -> u32 {
+        glyph::width(glyph, self.ambiguous)
+    }
 }
 
 /// Consecutive glyphs of a text line, without over-wide ones: the first record, one past the last,
@@ -52,7 +60,7 @@ impl Run {
     fn after_fitting(self, records: &[u32], rule: Rule, room: u32) -> Self {
         let mut left = room;
         for first in self.first..self.end {
-            let glyph_width = glyph::width(records[first]);
+            let glyph_width = rule.width(records[first]);
             if glyph_width > rule.limit {
                 continue;
             }
@@ -155,7 +163,7 @@ impl WordWrapper {
 
     /// Processes one glyph and returns the line that it emits, if any.
     fn step(&mut self, rule: Rule, records: &[u32], record: u32) -> Option<Run> {
-        let width = glyph::width(record);
+        let width = rule.width(record);
         let space = glyph::is_whitespace(record);
         if width > rule.limit {
             self.at += 1;

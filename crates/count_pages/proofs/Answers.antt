@@ -105,7 +105,7 @@ module _ (call : Call) where
               rw (k, f, p, l, i)
 
 -- demand 3 for the pages of the answer
-pub caller-reads-all : (call : Call) → WrappedNotice call → OneCell (glyphsFrom 0 (call .text)) → CallerReadsAll call
+pub caller-reads-all : (call : Call) → WrappedNotice call → OneCell (glyphsFrom (call .notice .ambiguous) 0 (call .text)) → CallerReadsAll call
 unfolding readBy pagesRead
 caller-reads-all call w cells =
     let same = pages-answered call (w .accepted) (w .some-cell) in

@@ -7,6 +7,7 @@ use native.Mathlib.Omega.{arith}
 use borrow.Author.Tests.{ne-eqb}
 use lib.ListN.{length, length-append, length-map}
 use Rattle.text.specs.declared.Alignment.{Alignment}
+use Rattle.text.specs.declared.AmbiguousWidth.{AmbiguousWidth}
 use Rattle.text.specs.Record.{alignmentOf}
 use Rattle.text.specs.Alignment.{resolved}
 use Rattle.text.specs.Line.{Glyph, TextLine, linesFrom, glyphsOf}
@@ -37,8 +38,8 @@ module _ (u : Rule) (column : ℕ) (some : 0 < u .limit) where
       omega (
         arith,
         length-append (lineLines u (Truncate column) default l) (allLines u (Truncate column) default ls),
-        length-map (truncate u column alignment (glyphsOf l)) (aligned alignment),
-        truncate-one alignment (glyphsOf l),
+        length-map (truncate u column alignment (glyphsOf (u .ambiguous) l)) (aligned alignment),
+        truncate-one alignment (glyphsOf (u .ambiguous) l),
         one-for-each default ls,
       )
 
@@ -49,21 +50,21 @@ module _ (u : Rule) (column : ℕ) (some : 0 < u .limit) where
 module _ (n : Notice) (width : ℕ) (text : List ℕ) (count : ℕ) where
   pub unwrapped-count : (column : ℕ) → n .wrap ≡ Off column → 0 < width → count ≡ length (linesFrom 0 text) → count ≡ length (noticeLines n text width)
   unfolding noticeLines
-  unwrapped-count column e some c = rw e (c ∙ sym (truncated-count (ruleAt (Off column) width) column some (n .alignment) text))
+  unwrapped-count column e some c = rw e (c ∙ sym (truncated-count (ruleAt (n .ambiguous) (Off column) width) column some (n .alignment) text))
 
-  pub wrapped-count : (trim : Bool) → n .wrap ≡ On trim → count ≡ length (lines (ruleOf width trim) WordWrap (n .alignment) text) → count ≡ length (noticeLines n text width)
+  pub wrapped-count : (trim : Bool) → n .wrap ≡ On trim → count ≡ length (lines (ruleOf (n .ambiguous) width trim) WordWrap (n .alignment) text) → count ≡ length (noticeLines n text width)
   unfolding noticeLines
   wrapped-count trim e c = rw e c
 
 pub ruleset counted = (unwrapped-count, wrapped-count)
 
 -- wrapped or not, a text has no more lines than records
-lines-at-most : (wrap : Wrap) (default : Alignment) (width : ℕ) (text : List ℕ) → 0 < width
-    → length (lines (ruleAt wrap width) (methodOf wrap) default text) ≤ length text
-lines-at-most (Off column) default width text some =
-    omega (arith, truncated-count (ruleAt (Off column) width) column some default text, text-lines-few 0 text)
-lines-at-most (On trim) default width text some = lines-short (ruleOf width trim) default text
+lines-at-most : (a : AmbiguousWidth) (wrap : Wrap) (default : Alignment) (width : ℕ) (text : List ℕ) → 0 < width
+    → length (lines (ruleAt a wrap width) (methodOf wrap) default text) ≤ length text
+lines-at-most a (Off column) default width text some =
+    omega (arith, truncated-count (ruleAt a (Off column) width) column some default text, text-lines-few 0 text)
+lines-at-most a (On trim) default width text some = lines-short (ruleOf a width trim) default text
 
 pub notice-lines-few : (n : Notice) (width : ℕ) (text : List ℕ) → 0 < width → length (noticeLines n text width) ≤ length text
 unfolding noticeLines
-notice-lines-few n width text some = lines-at-most (n .wrap) (n .alignment) width text some
+notice-lines-few n width text some = lines-at-most (n .ambiguous) (n .wrap) (n .alignment) width text some

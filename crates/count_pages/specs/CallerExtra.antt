@@ -31,5 +31,5 @@ readBy call counts =
 -- Each scroll row fits in 16 bits, and the caller reads each non-whitespace glyph of the text once, in text order, in its place.
 pub record CallerReadsAll (call : Call) : Type 0 where
   pub scrolls : (page : ℕ) → page < answered call .pages → scrollBy (answered call) page < 65536
-  pub symbols : map (λ (s : Seen). s .symbol) (readBy call (answered call)) ≡ map (λ (g : Glyph). g .symbol) (solids (glyphsFrom 0 (call .text)))
+  pub symbols : map (λ (s : Seen). s .symbol) (readBy call (answered call)) ≡ map (λ (g : Glyph). g .symbol) (solids (glyphsFrom (call .notice .ambiguous) 0 (call .text)))
   pub places : readBy call (answered call) ≡ map seen (placements call)

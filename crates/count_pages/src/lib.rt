@@ -47,12 +47,14 @@ fn count_at(notice: Notice, width: u16, text: &[u32]) -> usize
 {
     let alignment = notice.alignment;
     let wrap = notice.wrap;
+    let ambiguous = notice.ambiguous;
     let Wrap::On { trim } = wrap else {
         return line::count_text_lines(text);
     };
     let rule = Rule {
         limit: width as usize,
         trim,
+        ambiguous,
     };
     count_lines::count_lines(rule, alignment, text)
 }

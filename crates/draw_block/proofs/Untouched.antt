@@ -18,6 +18,7 @@ use Rattle.refuse.specs.declared.Verdict.{Verdict}
 use Rattle.refuse.specs.declared.Verdict.the-variants.{Accepted, Refused as RefusedFor}
 use Rattle.refuse.specs.Refusal.{unlessRefused}
 use Rattle.shadow.proofs.Keeping.{inShadow}
+use Rattle.titles.specs.Titles.{titlesFrom}
 use Rattle.render_block.proofs.KeepsBits.{keeps-bits as block-keeps-bits}
 use Rattle.render_block.proofs.Elsewhere.{elsewhere as block-elsewhere}
 use Rattle.draw_block.specs.Call.{Call, callOf, causesOf, verdictOf, answerOf, drawingOf, cellsAfter}
@@ -58,7 +59,7 @@ module _ (call : Call) where
             ≡ cellFrom (getD (call .cells) i 0) .untouched
         go Accepted =
             ap (λ (cell : ℕ). cellFrom cell .untouched) (drawn-cell (call .columns) (drawingOf call) (call .cells) i h)
-            ∙ block-keeps-bits (call .styles) screenIn (call .titles) (call .block) (i % call .columns) (i / call .columns) (call .area) (getD (call .cells) i 0)
+            ∙ block-keeps-bits (call .styles) screenIn (titlesFrom (call .ambiguous) (call .titles)) (call .block) (i % call .columns) (i / call .columns) (call .area) (getD (call .cells) i 0)
         go (RefusedFor why) = refl
 
     pub elsewhere : contains metIn (i % call .columns) (i / call .columns) ≡ false
@@ -70,13 +71,13 @@ module _ (call : Call) where
         go : (v : Verdict) → v ≡ verdictOf call → getD (unlessRefused v drawnCells (call .cells)) i 0 ≡ getD (call .cells) i 0
         go Accepted e =
             drawn-cell (call .columns) (drawingOf call) (call .cells) i h
-            ∙ block-elsewhere (call .styles) screenIn (drawable call Accepted e refl .1 .few-columns) (call .titles) (call .block) (call .area)
+            ∙ block-elsewhere (call .styles) screenIn (drawable call Accepted e refl .1 .few-columns) (call .ambiguous) (call .titles) (call .block) (call .area)
             (i % call .columns) (i / call .columns) (getD (call .cells) i 0) outside unshadowed
         go (RefusedFor why) e = refl
 
   -- the same call on other cells
   abbrev pub onCells : List ℕ → Call
-  onCells cells = callOf (call .columns) (call .rows) cells (call .styles) (call .titles) (call .area) (call .block)
+  onCells cells = callOf (call .columns) (call .rows) cells (call .styles) (call .titles) (call .ambiguous) (call .area) (call .block)
 
   pub answer-blind : (cells : List ℕ) → length cells ≡ length (call .cells) → answerOf (onCells cells) ≡ answerOf call
   unfolding answerOf verdictOf causesOf

@@ -1,7 +1,9 @@
--- Document 01, 'Why a call is refused': the causes, the answer and the drawing of the call `draw_block`.
+-- Document 01, 'Why a call is refused': the causes, the answer and the drawing of the call `draw_block`. Document 02, C-11: its titles are
+-- read as set.
 use Prim.Native.Nat.{ℕ}
 use mathlib.Core.List.{List, [], _∷_, _++_}
 use lib.ListN.{length}
+use Rattle.text.specs.declared.AmbiguousWidth.{AmbiguousWidth}
 use Rattle.layout.specs.declared.Rect.{Rect}
 use Rattle.buffer.specs.Drawing.{Drawing, drawn}
 use Rattle.buffer.specs.Screen.{screenOf}
@@ -14,6 +16,7 @@ use Rattle.refuse.specs.Causes.{mostAccepted, screenCauses, titlesWrong, styleN
 use Rattle.block.specs.declared.Block.{Block}
 use Rattle.block.specs.Causes.{blockSymbols}
 use Rattle.check_block.specs.Styles.{frameStyles}
+use Rattle.titles.specs.Titles.{titlesFrom}
 use Rattle.render_block.specs.Frame.{blockOf}
 use Rattle.draw_block.specs.declared.BlockAnswer.{BlockAnswer}
 use Rattle.draw_block.specs.declared.BlockAnswer.the-variants.{Done, Refused}
@@ -25,12 +28,22 @@ pub record Call : Type 0 where
   pub cells : List ℕ
   pub styles : List ℕ
   pub titles : List ℕ
+  pub ambiguous : AmbiguousWidth
   pub area : Rect
   pub block : Block
 
-abbrev pub callOf : ℕ → ℕ → List ℕ → List ℕ → List ℕ → Rect → Block → Call
-callOf columns rows cells styles titles area block =
-    record { columns = columns; rows = rows; cells = cells; styles = styles; titles = titles; area = area; block = block }
+abbrev pub callOf : ℕ → ℕ → List ℕ → List ℕ → List ℕ → AmbiguousWidth → Rect → Block → Call
+callOf columns rows cells styles titles ambiguous area block =
+    record {
+      columns = columns;
+      rows = rows;
+      cells = cells;
+      styles = styles;
+      titles = titles;
+      ambiguous = ambiguous;
+      area = area;
+      block = block;
+    }
 
 -- causes: 1, 2, 5, 6, 7
 unfoldable pub causesOf : Ceilings → Call → List Cause
@@ -59,7 +72,8 @@ blockAnswerNumber (Refused why) = refusalNumber why
 
 -- cells after the call: the block drawn on them; if the call is refused, "all cells" left
 unfoldable pub drawingOf : Call → Drawing
-drawingOf call = blockOf (call .styles) (screenOf (call .columns) (call .rows)) (call .titles) (call .block) (call .area)
+drawingOf call =
+    blockOf (call .styles) (screenOf (call .columns) (call .rows)) (titlesFrom (call .ambiguous) (call .titles)) (call .block) (call .area)
 
 unfoldable pub cellsAfter : Call → List ℕ
 cellsAfter call = unlessRefused (verdictOf call) (drawn (call .columns) (drawingOf call) (call .cells)) (call .cells)

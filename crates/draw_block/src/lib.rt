@@ -6,6 +6,7 @@ use layout::Rect;
 use refuse::ACCEPTED;
 use refuse::Refusal;
 use refuse::Verdict;
+use text::AmbiguousWidth;
 ghost use mathlib.Core.Path.{_≡_};
 ghost use Rattle.draw_block.specs.Call.{callOf, verdictOf, answerOf, cellsAfter};
 
@@ -22,11 +23,12 @@ fn draw_block_verdict(
     cells: &[u64],
     styles: &[u64],
     titles: &[u32],
+    ambiguous: AmbiguousWidth,
     area: Rect,
     block: Block,
 ) -> Verdict
     ensures { λ r.
-        let call = callOf columns rows (now (cells .entry)) (now (styles .entry)) (now (titles .entry)) area block in
+        let call = callOf columns rows (now (cells .entry)) (now (styles .entry)) (now (titles .entry)) ambiguous area block in
         ⌜ r ≡ verdictOf call ⌝ }
 {
     let lent = cells.len();
@@ -53,11 +55,12 @@ pub fn draw_block(
     cells: &mut [u64],
     styles: &[u64],
     titles: &[u32],
+    ambiguous: AmbiguousWidth,
     area: Rect,
     block: Block,
 ) -> BlockAnswer
     ensures { λ r.
-        let call = callOf columns rows (now (cells .entry)) (now (styles .entry)) (now (titles .entry)) area block in
+        let call = callOf columns rows (now (cells .entry)) (now (styles .entry)) (now (titles .entry)) ambiguous area block in
         ⌜ (r ≡ answerOf call) × (now (cells .exit) ≡ cellsAfter call) ⌝ }
 {
     if let Verdict::Refused(why) = draw_block_verdict(
@@ -66,6 +69,7 @@ pub fn draw_block(
         cells,
         styles,
         titles,
+        ambiguous,
         area,
         block,
     ) {
@@ -75,6 +79,6 @@ pub fn draw_block(
         columns: columns as u16,
         rows: rows as u16,
     };
-    render_block::render(screen, cells, styles, titles, block, area);
+    render_block::render(screen, cells, styles, titles, ambiguous, block, area);
     BlockAnswer::Done
 }

@@ -8,7 +8,8 @@ use mathlib.Core.List.{[], _∷_}
 use lib.ListN.{replicate}
 use Rattle.text.specs.declared.Alignment.the-variants.{Left, Right}
 use Rattle.text.specs.declared.TitlePosition.the-variants.{Top}
-use Rattle.text.specs.Record.{headRecord}
+use Rattle.text.specs.declared.AmbiguousWidth.the-variants.{Narrow}
+use Rattle.text.specs.Record.{readWidth, headRecord}
 use Rattle.text.specs.Line.{glyphsFrom}
 use Rattle.refuse.specs.Causes.{screenWrong, stylesWrong, textHeadsWrong, titlesWrong, screenCauses, textCauses}
 use Rattle.padding.specs.Padding.{paddingOf}
@@ -72,14 +73,15 @@ worked =
       text = headRecord 3 0 ∷ packedGlyphs "ab_c_de";
       titles = [];
       area = rect 0 0 4 4;
-      notice = record { block = framed; style = 0; «text_style» = 0; alignment = Right; wrap = On true; scroll = 0 };
+      notice = record { block = framed; style = 0; «text_style» = 0; alignment = Right; wrap = On true; scroll = 0; ambiguous = Narrow };
     }
 
 pub accepted : WrappedNotice worked
 unfolding screenWrong stylesWrong textHeadsWrong titlesWrong blockStyles borderSymbols blockSymbols hasTitleAt innerOf innerAreaOf frameStyles noticeStyles screenCauses textCauses causesOf verdictOf innerArea
 accepted = record { accepted = refl; trim = true; wrapped = refl; some-cell = refl }
 
-pub one-cell : OneCell (glyphsFrom 0 (worked .text))
+pub one-cell : OneCell (glyphsFrom Narrow 0 (worked .text))
+unfolding readWidth
 one-cell = ((refl, refl), ((refl, refl), ((refl, refl), ((refl, refl), ((refl, refl), ((refl, refl), ((refl, refl), tt)))))))
 
 abbrev pub on : ℕ → ℕ → ℕ → Char → Seen
@@ -87,5 +89,5 @@ on page row column symbol = record { page = page; row = row; column = column; sy
 
 -- each letter's page, row and column
 pub worked-pages : pagesRead worked ≡ on 0 1 1 "a" ∷ on 0 1 2 "b" ∷ on 0 2 2 "c" ∷ on 1 1 1 "d" ∷ on 1 1 2 "e" ∷ []
-unfolding overWide mustJoin takesSpaces gathered joined unjoined full emptied drops appended _then_ joinStep emitStep appendStep step lastLines wrap linesOf lineLines lines isPlaced lineOffset drawnStarts hasTitleAt innerOf noticeLines innerAreaOf innerArea composedLines placementOf placements
+unfolding readWidth overWide mustJoin takesSpaces gathered joined unjoined full emptied drops appended _then_ joinStep emitStep appendStep step lastLines wrap linesOf lineLines lines isPlaced lineOffset drawnStarts hasTitleAt innerOf noticeLines innerAreaOf innerArea composedLines placementOf placements
 worked-pages = pages worked accepted one-cell .places ∙ refl

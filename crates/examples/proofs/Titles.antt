@@ -6,14 +6,15 @@ use mathlib.Core.List.{List, [], _∷_, map}
 use lib.ListN.{replicate}
 use Rattle.text.specs.declared.Alignment.the-variants.{Left}
 use Rattle.text.specs.declared.TitlePosition.the-variants.{Top}
-use Rattle.text.specs.Record.{glyphRecord, headRecord}
+use Rattle.text.specs.declared.AmbiguousWidth.{AmbiguousWidth}
+use Rattle.text.specs.Record.{readWidth, glyphRecord, headRecord}
 use Rattle.cell.specs.Cell.{cellFrom, blankCell, withSymbol, styled}
 use Rattle.buffer.specs.Drawing.{drawn, over, inside}
 use Rattle.block.specs.declared.Block.{Block}
 use Rattle.block.specs.declared.Shadow.the-variants.{Absent}
 use Rattle.title_glyphs.specs.TitleGlyphs.{isDrawn, titleGlyphOn}
 use Rattle.title.specs.Title.{titleLineWidth, titleLine, titleIn}
-use Rattle.titles.specs.Titles.{isChosen, centerTitles, groupsIn, titlesOn}
+use Rattle.titles.specs.Titles.{titlesFrom, isChosen, centerTitles, groupsIn, titlesOn}
 
 -- a letter of one cell in style 0, and the head of a centred title at the top
 abbrev pub letter : ℕ → ℕ
@@ -48,16 +49,16 @@ bare =
     }
 
 -- the symbols of a row of blank cells, given its width, after the titles are drawn on it
-abbrev pub shown : ℕ → List ℕ → List ℕ
-shown width records =
+abbrev pub shown : AmbiguousWidth → ℕ → List ℕ → List ℕ
+shown ambiguous width records =
     map (λ (cell : ℕ). cellFrom cell .symbol)
-    (drawn width (titlesOn (0 ∷ []) bare (record { x = 0; y = 0; width = width; height = 1 }) records) (replicate width blankCell))
+    (drawn width (titlesOn (0 ∷ []) bare (record { x = 0; y = 0; width = width; height = 1 }) (titlesFrom ambiguous records)) (replicate width blankCell))
 
 -- a is 97, and the blank symbol is 32
-pub centred-titles :
-    (shown 5 (centred ∷ letter 97 ∷ letter 98 ∷ letter 99 ∷ letter 100 ∷ centred ∷ letter 101 ∷ letter 102 ∷ letter 103 ∷ [])
+pub centred-titles : (a : AmbiguousWidth) →
+    (shown a 5 (centred ∷ letter 97 ∷ letter 98 ∷ letter 99 ∷ letter 100 ∷ centred ∷ letter 101 ∷ letter 102 ∷ letter 103 ∷ [])
     ≡ 98 ∷ 99 ∷ 100 ∷ 32 ∷ 101 ∷ [])
-    × (shown 4 (centred ∷ letter 97 ∷ centred ∷ letter 98 ∷ letter 99 ∷ letter 100 ∷ letter 101 ∷ letter 102 ∷ letter 103 ∷ [])
+    × (shown a 4 (centred ∷ letter 97 ∷ centred ∷ letter 98 ∷ letter 99 ∷ letter 100 ∷ letter 101 ∷ letter 102 ∷ letter 103 ∷ [])
     ≡ 32 ∷ 102 ∷ 103 ∷ 32 ∷ [])
-unfolding titleLineWidth isDrawn titleGlyphOn titleLine titleIn isChosen centerTitles groupsIn titlesOn drawn over inside styled withSymbol
-centred-titles = (refl, refl)
+unfolding readWidth titleLineWidth isDrawn titleGlyphOn titleLine titleIn isChosen centerTitles groupsIn titlesOn drawn over inside styled withSymbol
+centred-titles a = (refl, refl)

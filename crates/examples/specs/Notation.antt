@@ -1,4 +1,5 @@
--- Document 01, 'Small notices by hand': "`_` space, W width 2, Z zero-width solid, z zero-width space, other letters one cell".
+-- Document 01, 'Small notices by hand': "`_` space, W width 2, Z zero-width solid, z zero-width space, other letters one cell";
+-- and A ambiguous, for document 02's C-11.
 use Prim.Native.Nat.{ℕ}
 use Prim.Native.Char.{Char, code}
 use Prim.Native.String.{String, [], _∷_}
@@ -6,6 +7,7 @@ use mathlib.Core.Bool.{Bool, cond, _||_}
 use mathlib.Core.List.{List, [], _∷_, map}
 use lib.Dec.{eqb}
 use Rattle.text.specs.declared.Alignment.the-variants.{Left}
+use Rattle.text.specs.declared.AmbiguousWidth.{AmbiguousWidth}
 use Rattle.text.specs.Record.{glyphRecord, headRecord}
 use Rattle.text.specs.Line.{Glyph, numbered, startsFrom}
 use Rattle.cell.specs.Cell.{blankSymbol}
@@ -22,7 +24,7 @@ abbrev pub packedGlyph : Char → ℕ
 packedGlyph c =
     glyphRecord
     (cond (is c "_" || is c "z") blankSymbol (code c))
-    (cond (is c "W") 2 (cond (is c "Z" || is c "z") 0 1))
+    (cond (is c "A") 7 (cond (is c "W") 2 (cond (is c "Z" || is c "z") 0 1)))
     (is c "_" || is c "z")
     0
 
@@ -35,16 +37,16 @@ abbrev pub textOf : String → List ℕ
 textOf letters = headRecord 0 0 ∷ packedGlyphs letters
 
 -- letters as glyphs of a text, the first with the record number given
-abbrev pub glyphs : ℕ → String → List Glyph
-glyphs number letters = numbered number (packedGlyphs letters)
+abbrev pub glyphs : AmbiguousWidth → ℕ → String → List Glyph
+glyphs ambiguous number letters = numbered ambiguous number (packedGlyphs letters)
 
 -- the glyphs of each composed line
-abbrev pub wrapped : ℕ → Bool → String → List (List Glyph)
-wrapped limit trim letters = map (λ (line : Line). line .glyphs) (lines (ruleOf limit trim) WordWrap Left (textOf letters))
+abbrev pub wrapped : AmbiguousWidth → ℕ → Bool → String → List (List Glyph)
+wrapped ambiguous limit trim letters = map (λ (line : Line). line .glyphs) (lines (ruleOf ambiguous limit trim) WordWrap Left (textOf letters))
 
 -- the widths of the composed lines
-abbrev pub widths : ℕ → Bool → String → List ℕ
-widths limit trim letters = map (λ (line : Line). wrappedLineOf line .width) (lines (ruleOf limit trim) WordWrap Left (textOf letters))
+abbrev pub widths : AmbiguousWidth → ℕ → Bool → String → List ℕ
+widths ambiguous limit trim letters = map (λ (line : Line). wrappedLineOf line .width) (lines (ruleOf ambiguous limit trim) WordWrap Left (textOf letters))
 
 -- which glyphs of a line are clipped
 abbrev pub clippedOf : ℕ → List Glyph → List Bool

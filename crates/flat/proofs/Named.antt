@@ -4,10 +4,12 @@ use mathlib.Core.Path.{_≡_}
 use mathlib.Core.Bool.{Bool, true, false, _&&_, or-true}
 use mathlib.Core.List.{[], _∷_}
 use borrow.Author.Tests.{eq-eqb, ne-eqb}
-use lib.Dec.{eqb}
+use lib.Dec.{eqb, leb}
 use lib.IntN.{ℤ}
 use Rattle.text.specs.declared.Alignment.{Alignment}
 use Rattle.text.specs.declared.Alignment.the-variants.{Left, Center, Right}
+use Rattle.text.specs.declared.AmbiguousWidth.{AmbiguousWidth}
+use Rattle.text.specs.declared.AmbiguousWidth.the-variants.{Narrow, Wide}
 use Rattle.text.specs.declared.TitlePosition.{TitlePosition}
 use Rattle.text.specs.declared.TitlePosition.the-variants.{Top, Bottom}
 use Rattle.block.specs.declared.Borders.{Borders}
@@ -19,7 +21,7 @@ use Rattle.line_composer.specs.declared.Wrap.the-variants.{On, Off}
 use Rattle.block.specs.declared.Block.{Block}
 use Rattle.flat.specs.declared.FlatBlock.{FlatBlock}
 use Rattle.flat.specs.declared.FlatText.{FlatText}
-use Rattle.flat.specs.FlatExtra.{unnamed, alignmentNamed, positionNamed, shadowNamed, wrapNamed, blockKnown, blockFrom, textKnown, noticeFrom}
+use Rattle.flat.specs.FlatExtra.{unnamed, alignmentNamed, ambiguousKnown, ambiguousNamed, positionNamed, shadowNamed, wrapNamed, blockKnown, blockFrom, textKnown, noticeFrom}
 
 module _ (n : ℕ) where
   pub named-left : n ≡ 0 → Left ≡ alignmentNamed n
@@ -37,7 +39,19 @@ module _ (n : ℕ) where
   pub named-bottom : (n ≡ 0 → ⊥) → Bottom ≡ positionNamed n
   named-bottom a = rw (ne-eqb n 0 a)
 
-pub ruleset named = (named-left, named-center, named-right, named-top, named-bottom)
+  pub zero-unknown : n ≡ 0 → false ≡ ambiguousKnown n
+  zero-unknown e = rw (eq-eqb n 0 e)
+
+  pub two-known : (n ≡ 0 → ⊥) → leb n 2 ≡ ambiguousKnown n
+  two-known a = rw (ne-eqb n 0 a)
+
+  pub named-narrow : n ≡ 1 → Narrow ≡ ambiguousNamed n
+  named-narrow e = rw (eq-eqb n 1 e)
+
+  pub named-wide : (n ≡ 1 → ⊥) → Wide ≡ ambiguousNamed n
+  named-wide a = rw (ne-eqb n 1 a)
+
+pub ruleset named = (named-left, named-center, named-right, named-top, named-bottom, zero-unknown, two-known, named-narrow, named-wide)
 
 module _ (kind symbol style : ℕ) (x y : ℤ) where
   pub shadow-absent : kind ≡ 0 → Absent ≡ shadowNamed kind symbol style x y
@@ -98,28 +112,29 @@ module _ (t : FlatText) where
   unfolding wrapNamed
   wrap-on a = rw (ne-eqb (t .wrap) 0 a)
 
-  pub text-unknown : (found : Bool) → found ≡ unnamed 3 (t .alignment ∷ t .wrap ∷ []) → found ≡ true → false ≡ textKnown t
-  unfolding textKnown
-  text-unknown found f e = rw (← f, e)
+  module _ (found : Bool) (f : found ≡ unnamed 3 (t .alignment ∷ t .wrap ∷ [])) where
+    pub text-unknown : found ≡ true → false ≡ textKnown t
+    unfolding textKnown
+    text-unknown e = rw (← f, e)
 
-  pub text-known : (found : Bool) → found ≡ unnamed 3 (t .alignment ∷ t .wrap ∷ []) → found ≡ false → true ≡ textKnown t
-  unfolding textKnown
-  text-known found f e = rw (← f, e)
+    pub text-known : found ≡ false → (r : Bool) → r ≡ ambiguousKnown (t .ambiguous) → r ≡ textKnown t
+    unfolding textKnown
+    text-known e r p = rw (← f, e) p
 
-  pub notice-from : (b : FlatBlock) (block : Block) (alignment : Alignment) (wrap : Wrap)
-      → block ≡ blockFrom b → alignment ≡ alignmentNamed (t .alignment) → wrap ≡ wrapNamed t
-      → record { block = block; style = t .style; «text_style» = t .«text_style»; alignment = alignment; wrap = wrap; scroll = t .scroll } ≡ noticeFrom b t
+  pub notice-from : (b : FlatBlock) (block : Block) (alignment : Alignment) (wrap : Wrap) (ambiguous : AmbiguousWidth)
+      → block ≡ blockFrom b → alignment ≡ alignmentNamed (t .alignment) → wrap ≡ wrapNamed t → ambiguous ≡ ambiguousNamed (t .ambiguous)
+      → record { block = block; style = t .style; «text_style» = t .«text_style»; alignment = alignment; wrap = wrap; scroll = t .scroll; ambiguous = ambiguous } ≡ noticeFrom b t
   unfolding noticeFrom
-  notice-from b block alignment wrap p q r = rw (p, q, r)
+  notice-from b block alignment wrap ambiguous p q r s = rw (p, q, r, s)
 
 pub ruleset texts = (wrap-off, wrap-on, text-unknown, text-known)
 
--- the settings of block and text together
-module _ (b : FlatBlock) (t : FlatText) (found : Bool) (e : found ≡ blockKnown b) where
-  pub block-unknown : found ≡ false → false ≡ (blockKnown b && textKnown t)
-  block-unknown f = rw (← e, f)
+-- two tests of which the code makes the second only if the first holds
+module _ (one other found : Bool) (e : found ≡ one) where
+  pub first-unknown : found ≡ false → false ≡ (one && other)
+  first-unknown f = rw (← e, f)
 
-  pub both-known : (r : Bool) → found ≡ true → r ≡ textKnown t → r ≡ (blockKnown b && textKnown t)
+  pub both-known : (r : Bool) → found ≡ true → r ≡ other → r ≡ (one && other)
   both-known r f p = rw (← e, f) p
 
-pub ruleset boths = (block-unknown, both-known)
+pub ruleset boths = (first-unknown, both-known)

@@ -1,11 +1,13 @@
 -- Not in the papers: settings as flat structs of numbers, for callers without enums, and the case that each number names.
 use Prim.Native.Nat.{ℕ}
-use mathlib.Core.Bool.{Bool, cond, not, _||_}
+use mathlib.Core.Bool.{Bool, cond, not, _&&_, _||_}
 use mathlib.Core.List.{List, [], _∷_}
 use lib.Dec.{eqb, leb}
 use lib.IntN.{ℤ}
 use Rattle.text.specs.declared.Alignment.{Alignment}
 use Rattle.text.specs.declared.Alignment.the-variants.{Left, Center, Right}
+use Rattle.text.specs.declared.AmbiguousWidth.{AmbiguousWidth}
+use Rattle.text.specs.declared.AmbiguousWidth.the-variants.{Narrow, Wide}
 use Rattle.text.specs.declared.TitlePosition.{TitlePosition}
 use Rattle.text.specs.declared.TitlePosition.the-variants.{Top, Bottom}
 use Rattle.layout.specs.declared.Rect.{Rect}
@@ -32,6 +34,20 @@ flagNamed n = eqb n 1
 -- 0 left, 1 centre, 2 right
 abbrev pub alignmentNamed : ℕ → Alignment
 alignmentNamed n = cond (eqb n 0) Left (cond (eqb n 1) Center Right)
+
+-- 1 narrow, 2 wide: the cells that an ambiguous glyph is read as (document 02, C-11)
+abbrev pub ambiguousKnown : ℕ → Bool
+ambiguousKnown n = not (eqb n 0) && leb n 2
+
+abbrev pub ambiguousNamed : ℕ → AmbiguousWidth
+ambiguousNamed n = cond (eqb n 1) Narrow Wide
+
+-- the settings of a tally and of a list call: trim is 0 or 1, alignment 0 to 2
+abbrev pub tallyKnown : ℕ → ℕ → Bool
+tallyKnown ambiguous trim = ambiguousKnown ambiguous && leb trim 1
+
+abbrev pub listKnown : ℕ → ℕ → ℕ → Bool
+listKnown ambiguous alignment trim = tallyKnown ambiguous trim && leb alignment 2
 
 -- 0 top, 1 bottom
 abbrev pub positionNamed : ℕ → TitlePosition
@@ -94,7 +110,7 @@ blockFrom b =
 
 -- every number of a text's settings names a case
 unfoldable pub textKnown : FlatText → Bool
-textKnown t = not (unnamed 3 (t .alignment ∷ t .wrap ∷ []))
+textKnown t = not (unnamed 3 (t .alignment ∷ t .wrap ∷ [])) && ambiguousKnown (t .ambiguous)
 
 -- the notice that the settings of block and text name
 unfoldable pub noticeFrom : FlatBlock → FlatText → Notice
@@ -106,4 +122,5 @@ noticeFrom b t =
       alignment = alignmentNamed (t .alignment);
       wrap = wrapNamed t;
       scroll = t .scroll;
+      ambiguous = ambiguousNamed (t .ambiguous);
     }

@@ -11,10 +11,11 @@ use line_composer::Wrap;
 use padding::Padding;
 use paragraph::Notice;
 use text::Alignment;
+use text::AmbiguousWidth;
 use text::TitlePosition;
 ghost use mathlib.Core.Path.{_≡_};
 ghost use mathlib.Core.Bool.{_&&_};
-ghost use Rattle.flat.specs.FlatExtra.{unnamed, alignmentNamed, positionNamed, shadowNamed, wrapNamed};
+ghost use Rattle.flat.specs.FlatExtra.{unnamed, alignmentNamed, ambiguousKnown, ambiguousNamed, tallyKnown, listKnown, positionNamed, shadowNamed, wrapNamed};
 ghost use Rattle.flat.specs.FlatExtra.{areaFrom, blockKnown, blockFrom, textKnown, noticeFrom};
 
 // A rectangle.
@@ -59,7 +60,7 @@ pub struct FlatBlock {
 }
 
 // Settings of a notice other than its block. Alignment: 0 left, 1 centre, 2 right. Wrap: 0 unwrapped, scrolled right by `column`;
-// 1 wrapped; 2 wrapped and trimmed.
+// 1 wrapped; 2 wrapped and trimmed. Ambiguous: 1 narrow, 2 wide.
 #[repr(C)]
 pub struct FlatText {
     pub scroll: u16,
@@ -68,6 +69,7 @@ pub struct FlatText {
     pub text_style: u8,
     pub alignment: u8,
     pub wrap: u8,
+    pub ambiguous: u8,
 }
 
 // Whether any number isn't below the count of cases. It is the same test as that of style numbers against the count of styles.
@@ -88,6 +90,46 @@ pub fn alignment_named(number: u8) -> Alignment
         return Alignment::Center;
     }
     Alignment::Right
+}
+
+// Whether a number names a reading of ambiguous glyphs.
+pub fn ambiguous_known(number: u8) -> bool
+    ensures { λ r. ⌜ r ≡ ambiguousKnown number ⌝ }
+{
+    if number == 0 {
+        return false;
+    }
+    number <= 2
+}
+
+// Returns the reading of ambiguous glyphs that a number names; numbers other than 1 give wide.
+pub fn ambiguous_named(number: u8) -> AmbiguousWidth
+    ensures { λ r. ⌜ r ≡ ambiguousNamed number ⌝ }
+{
+    if number == 1 {
+        return AmbiguousWidth::Narrow;
+    }
+    AmbiguousWidth::Wide
+}
+
+// Whether the settings of a tally name cases.
+pub fn tally_known(ambiguous: u8, trim: u8) -> bool
+    ensures { λ r. ⌜ r ≡ tallyKnown ambiguous trim ⌝ }
+{
+    if ambiguous_known(ambiguous) {
+        return trim <= 1;
+    }
+    false
+}
+
+// Whether the settings of a list call name cases.
+pub fn list_known(ambiguous: u8, alignment: u8, trim: u8) -> bool
+    ensures { λ r. ⌜ r ≡ listKnown ambiguous alignment trim ⌝ }
+{
+    if tally_known(ambiguous, trim) {
+        return alignment <= 2;
+    }
+    false
 }
 
 // Returns the title position that a number names; numbers above 1 give the last.
@@ -223,7 +265,7 @@ impl FlatText {
         if any_unnamed(3, &[self.alignment, self.wrap]) {
             return false;
         }
-        true
+        ambiguous_known(self.ambiguous)
     }
 
     // Returns how lines are composed.
@@ -246,6 +288,7 @@ impl FlatText {
     {
         let alignment = alignment_named(self.alignment);
         let wrap = self.named_wrap();
+        let ambiguous = ambiguous_named(self.ambiguous);
         let block = block.block();
         Notice {
             block,
@@ -254,6 +297,7 @@ impl FlatText {
             alignment,
             wrap,
             scroll: self.scroll,
+            ambiguous,
         }
     }
 }
@@ -264,6 +308,16 @@ pub fn all_known(block: FlatBlock, text: FlatText) -> bool
 {
     if block.is_known() {
         return text.is_known();
+    }
+    false
+}
+
+// Whether every number of a block's settings names a case, and the reading of its titles does.
+pub fn titled_known(block: FlatBlock, ambiguous: u8) -> bool
+    ensures { λ r. ⌜ r ≡ (blockKnown block && ambiguousKnown ambiguous) ⌝ }
+{
+    if block.is_known() {
+        return ambiguous_known(ambiguous);
     }
     false
 }

@@ -30,13 +30,6 @@ use Rattle.flat_answers.specs.declared.FlatPagesAnswer.{FlatPagesAnswer}
 abbrev pub unknownNumber : ℕ
 unknownNumber = 255
 
--- alignment is 0 to 2, and trim is 0 or 1
-abbrev pub listKnown : ℕ → ℕ → Bool
-listKnown alignment trim = leb alignment 2 && leb trim 1
-
-abbrev pub tallyKnown : ℕ → Bool
-tallyKnown trim = leb trim 1
-
 -- each answer as a flat struct
 unfoldable pub listFlat : ListAnswer → FlatListAnswer
 listFlat answer = record { lines = listAnswerCount answer; number = listAnswerNumber answer }

@@ -6,6 +6,7 @@ use mathlib.Core.List.{List, [], _∷_, _++_, map}
 use native.Mathlib.Omega.{arith}
 use lib.ListN.{length, length-append, length-map}
 use Rattle.text.specs.declared.Alignment.{Alignment}
+use Rattle.text.specs.declared.AmbiguousWidth.{AmbiguousWidth}
 use Rattle.text.specs.Record.{isHead, alignmentOf}
 use Rattle.text.specs.Alignment.{resolved}
 use Rattle.text.specs.Line.{Glyph, TextLine, numbered, untilHead, linesFrom, glyphsOf, total}
@@ -30,30 +31,30 @@ narrow-aligned : {most : ℕ} {ls : List (List Glyph)} (a : Alignment) → NoWid
 narrow-aligned a none = tt
 narrow-aligned a (one h rest) = (h, narrow-aligned a rest)
 
-narrow-all : (u : Rule) (default : Alignment) (ls : List TextLine) → Narrow (u .limit + 13) (allLines u WordWrap default ls)
+narrow-all : (u : Rule) (default : Alignment) (ls : List TextLine) → Narrow (u .limit + 11) (allLines u WordWrap default ls)
 unfolding lineLines linesOf
 narrow-all u default [] = tt
 narrow-all u default (l ∷ ls) =
-    narrow-append (u .limit + 13) (lineLines u WordWrap default l) (allLines u WordWrap default ls)
-    (narrow-aligned (resolved (alignmentOf (l .head)) default) (any-cells u (glyphsOf l) (numbered-widths (l .first) (l .records))))
+    narrow-append (u .limit + 11) (lineLines u WordWrap default l) (allLines u WordWrap default ls)
+    (narrow-aligned (resolved (alignmentOf (l .head)) default) (any-cells u (glyphsOf (u .ambiguous) l) (numbered-widths (u .ambiguous) (l .first) (l .records))))
     (narrow-all u default ls)
 
-pub narrow-lines : (u : Rule) (default : Alignment) (text : List ℕ) → Narrow (u .limit + 13) (lines u WordWrap default text)
+pub narrow-lines : (u : Rule) (default : Alignment) (text : List ℕ) → Narrow (u .limit + 11) (lines u WordWrap default text)
 unfolding lines
 narrow-lines u default text = narrow-all u default (linesFrom 0 text)
 
-numbered-length : (number : ℕ) (rs : List ℕ) → length (numbered number rs) ≡ length rs
-numbered-length number [] = refl
-numbered-length number (r ∷ rs) = omega (arith, numbered-length (suc number) rs)
+numbered-length : (a : AmbiguousWidth) (number : ℕ) (rs : List ℕ) → length (numbered a number rs) ≡ length rs
+numbered-length a number [] = refl
+numbered-length a number (r ∷ rs) = omega (arith, numbered-length a (suc number) rs)
 
 line-short : (u : Rule) (default : Alignment) (l : TextLine) → length (lineLines u WordWrap default l) ≤ suc (length (l .records))
 unfolding lineLines linesOf
 line-short u default l =
     omega (
       arith,
-      length-map (wrap u (glyphsOf l) .lines) (aligned (resolved (alignmentOf (l .head)) default)),
-      lines-few u (glyphsOf l),
-      numbered-length (l .first) (l .records),
+      length-map (wrap u (glyphsOf (u .ambiguous) l) .lines) (aligned (resolved (alignmentOf (l .head)) default)),
+      lines-few u (glyphsOf (u .ambiguous) l),
+      numbered-length (u .ambiguous) (l .first) (l .records),
     )
 
 -- at most one line for each head and each glyph

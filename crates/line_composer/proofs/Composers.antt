@@ -36,7 +36,7 @@ module _ (u : Rule) (a : Alignment) (records : List ℕ) (w : WordWrapper) where
 
     -- truncating
     module _ (column : ℕ) (e : method ≡ Truncate column) where
-      pub truncating-line : w .live ≡ true → (run : Run) → run ≡ runOf (shownFrom u (offsetOf column a) 0 (numbered 0 records))
+      pub truncating-line : w .live ≡ true → (run : Run) → run ≡ runOf (shownFrom u (offsetOf column a) 0 (numbered (u .ambiguous) 0 records))
           → (n : WordWrapper) → n ≡ closeRun w → PulledMethodRun u method a records w (OneRun run n)
       unfolding lineRuns closeRun
       truncating-line l run f n g =

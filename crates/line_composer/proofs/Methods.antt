@@ -28,16 +28,16 @@ starts-sound u (Truncate column) records = tt
 
 module _ (u : Rule) (alignment : Alignment) where
   pub starts-runs : (method : Method) (records : List ℕ) →
-      lineRuns u method alignment records (newWrapper u) ≡ map runOf (linesOf u method alignment (numbered 0 records))
+      lineRuns u method alignment records (newWrapper u) ≡ map runOf (linesOf u method alignment (numbered (u .ambiguous) 0 records))
   unfolding lineRuns linesOf truncate
   starts-runs WordWrap records = start-runs u records
-  starts-runs (Truncate column) records = go (eqb (u .limit) 0) (shownFrom u (offsetOf column alignment) 0 (numbered 0 records))
+  starts-runs (Truncate column) records = go (eqb (u .limit) 0) (shownFrom u (offsetOf column alignment) 0 (numbered (u .ambiguous) 0 records))
     where
       go : (b : Bool) (gs : List Glyph) → cond (not b) (runOf gs ∷ []) [] ≡ map runOf (cond b [] (gs ∷ []))
       go true gs = refl
       go false gs = refl
 
-  pub lines-read : (method : Method) (records : List ℕ) → ReadAll u records (linesOf u method alignment (numbered 0 records))
+  pub lines-read : (method : Method) (records : List ℕ) → ReadAll u records (linesOf u method alignment (numbered (u .ambiguous) 0 records))
   unfolding linesOf
   lines-read WordWrap records = wrap-read u records
   lines-read (Truncate column) records = truncated-read u column alignment records

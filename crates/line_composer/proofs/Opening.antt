@@ -40,18 +40,18 @@ module _ (u : Rule) (text : List ℕ) (from to : ℕ) (a : Alignment) where
       cc
 
   module _ (method : Method) where
-    pub numbered-lines : map (map (renumber from)) (linesOf u method a (numbered 0 records)) ≡ linesOf u method a (numbered from records)
+    pub numbered-lines : map (map (renumber from)) (linesOf u method a (numbered (u .ambiguous) 0 records)) ≡ linesOf u method a (numbered (u .ambiguous) from records)
     numbered-lines =
         let z : from + 0 ≡ from = omega arith in
-        sym (linesOf-renumbered u a method from (numbered 0 records))
-        ∙ ap (linesOf u method a) (sym (numbered-from from 0 records))
+        sym (linesOf-renumbered u a method from (numbered (u .ambiguous) 0 records))
+        ∙ ap (linesOf u method a) (sym (numbered-from (u .ambiguous) from 0 records))
         ∙ rw z
 
     -- from the start of a text line
-    started-lines : map (λ (run : Run). lineAt u text (lineOfRun from a run)) (lineRuns u method a records (newWrapper u)) ≡ map (aligned a) (linesOf u method a (numbered from records))
+    started-lines : map (λ (run : Run). lineAt u text (lineOfRun from a run)) (lineRuns u method a records (newWrapper u)) ≡ map (aligned a) (linesOf u method a (numbered (u .ambiguous) from records))
     started-lines =
         ap (map (λ (run : Run). lineAt u text (lineOfRun from a run))) (starts-runs u a method records)
-        ∙ converted-lines (linesOf u method a (numbered 0 records)) (lines-read u a method records)
+        ∙ converted-lines (linesOf u method a (numbered (u .ambiguous) 0 records)) (lines-read u a method records)
         ∙ ap (map (aligned a)) numbered-lines
 
 -- The state c is at the start of the text line whose head is at `at`, and the head is in the text.
@@ -90,7 +90,7 @@ module _ (u : Rule) (method : Method) (default : Alignment) (text : List ℕ) (a
       let f : c .from ≡ suc at = q .opened .from ∙ add-one at in
       rw (q .opened .composes, q .opened .wrapper)
       (started-lines u text (c .from) (c .to) (c .alignment) method
-      ∙ ap (λ (rs : List ℕ). map (aligned (c .alignment)) (linesOf u method (c .alignment) (numbered (c .from) rs))) opened-part
+      ∙ ap (λ (rs : List ℕ). map (aligned (c .alignment)) (linesOf u method (c .alignment) (numbered (u .ambiguous) (c .from) rs))) opened-part
       ∙ rw (f, q .opened .alignment))
 
   pub opened-left : linesLeft u default text c ≡ allLines u method default (linesFrom at (drop at text))

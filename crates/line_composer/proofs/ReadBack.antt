@@ -43,8 +43,8 @@ module _ (u : Rule) (text : List ℕ) (from to : ℕ) (a : Alignment) where
     part-back ls (r .1),
   )
 
-  lines-back : (method : Method) → ReadBack u text (map (aligned a) (linesOf u method a (numbered from records)))
-  lines-back method = rw (numbered-lines u text from to a method) at (part-back (linesOf u method a (numbered 0 records)) (lines-read u a method records))
+  lines-back : (method : Method) → ReadBack u text (map (aligned a) (linesOf u method a (numbered (u .ambiguous) from records)))
+  lines-back method = rw (numbered-lines u text from to a method) at (part-back (linesOf u method a (numbered (u .ambiguous) 0 records)) (lines-read u a method records))
 
 module _ (u : Rule) (method : Method) (default : Alignment) (text : List ℕ) where
   -- the text line of the head r, after the records `before`

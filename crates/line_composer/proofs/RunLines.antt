@@ -69,14 +69,14 @@ module _ (u : Rule) (text : List ℕ) (from to : ℕ) (alignment : Alignment) (r
   unfolding lineAt glyphsIn lineOfRun
   converted-glyphs = go (eqb (run .end) 0) (eqb-true (run .end) 0)
     where
-      shifted : notOverWide u (numbered (from + run .first) (slice (from + run .first) (from + run .end) text)) ≡ map (renumber from) (glyphsIn u records run)
+      shifted : notOverWide u (numbered (u .ambiguous) (from + run .first) (slice (from + run .first) (from + run .end) text)) ≡ map (renumber from) (glyphsIn u records run)
       shifted =
-          ap (λ (l : List ℕ). notOverWide u (numbered (from + run .first) l)) (slice-part from to (run .first) (run .end) text (omega (arith, s .within, length-take (to - from) (drop from text))))
-          ∙ ap (notOverWide u) (numbered-from from (run .first) (slice (run .first) (run .end) records))
-          ∙ fits-shift u from (numbered (run .first) (slice (run .first) (run .end) records))
+          ap (λ (l : List ℕ). notOverWide u (numbered (u .ambiguous) (from + run .first) l)) (slice-part from to (run .first) (run .end) text (omega (arith, s .within, length-take (to - from) (drop from text))))
+          ∙ ap (notOverWide u) (numbered-from (u .ambiguous) from (run .first) (slice (run .first) (run .end) records))
+          ∙ fits-shift u from (numbered (u .ambiguous) (run .first) (slice (run .first) (run .end) records))
 
       nothing : run .end ≡ 0 → glyphsIn u records run ≡ []
-      nothing e = rw e (ap (λ (l : List ℕ). notOverWide u (numbered (run .first) l)) (drop-nil (run .first)))
+      nothing e = rw e (ap (λ (l : List ℕ). notOverWide u (numbered (u .ambiguous) (run .first) l)) (drop-nil (run .first)))
 
       go : (b : Bool) → (b ≡ true → run .end ≡ 0)
           → lineAt u text

@@ -20,7 +20,7 @@ use Rattle.line_composer.specs.declared.Method.the-variants.{WordWrap, T
 unfoldable pub lineRuns : Rule → Method → Alignment → List ℕ → WordWrapper → List Run
 lineRuns u WordWrap alignment records w = runs u records w
 lineRuns u (Truncate column) alignment records w =
-    cond (w .live) (runOf (shownFrom u (offsetOf column alignment) 0 (numbered 0 records)) ∷ []) []
+    cond (w .live) (runOf (shownFrom u (offsetOf column alignment) 0 (numbered (u .ambiguous) 0 records)) ∷ []) []
 
 -- invariant of the state within a text line
 abbrev pub MethodInvariant : Rule → Method → List ℕ → WordWrapper → Type 0

@@ -31,7 +31,7 @@ linesOf u (Truncate column) alignment gs = truncate u column alignment gs
 unfoldable pub lineLines : Rule → Method → Alignment → TextLine → List Line
 lineLines u method default line =
     let alignment = resolved (alignmentOf (line .head)) default in
-    map (aligned alignment) (linesOf u method alignment (glyphsOf line))
+    map (aligned alignment) (linesOf u method alignment (glyphsOf (u .ambiguous) line))
 
 -- the composed lines of a list of text lines
 abbrev pub allLines : Rule → Method → Alignment → List TextLine → List Line
@@ -45,7 +45,7 @@ lines u method default text = allLines u method default (linesFrom 0 text)
 -- the glyphs that step 1 skips, if the text is wrapped
 abbrev pub allSkipped : Rule → List TextLine → List Glyph
 allSkipped u [] = []
-allSkipped u (line ∷ rest) = overWides u (glyphsOf line) ++ allSkipped u rest
+allSkipped u (line ∷ rest) = overWides u (glyphsOf (u .ambiguous) line) ++ allSkipped u rest
 
 unfoldable pub skipped : Rule → List ℕ → List Glyph
 skipped u text = allSkipped u (linesFrom 0 text)
@@ -53,7 +53,7 @@ skipped u text = allSkipped u (linesFrom 0 text)
 -- the glyphs that wrapping drops
 abbrev pub allDropped : Rule → List TextLine → List Glyph
 allDropped u [] = []
-allDropped u (line ∷ rest) = wrap u (glyphsOf line) .dropped ++ allDropped u rest
+allDropped u (line ∷ rest) = wrap u (glyphsOf (u .ambiguous) line) .dropped ++ allDropped u rest
 
 unfoldable pub dropped : Rule → List ℕ → List Glyph
 dropped u text = allDropped u (linesFrom 0 text)
@@ -84,5 +84,5 @@ unfoldable pub lineAt : Rule → List ℕ → WrappedLine → Line
 lineAt u text c =
     record {
       alignment = c .alignment;
-      glyphs = notOverWide u (numbered (c .first) (slice (c .first) (c .end) text));
+      glyphs = notOverWide u (numbered (u .ambiguous) (c .first) (slice (c .first) (c .end) text));
     }

@@ -1,6 +1,8 @@
 -- Document 01, 'Wrapping' and 'After the pages': how the lines of a text are composed, wrapped or truncated.
+-- Document 02, C-11: how its ambiguous glyphs are read.
 use Prim.Native.Nat.{ℕ}
 use mathlib.Core.Bool.{false}
+use Rattle.text.specs.declared.AmbiguousWidth.{AmbiguousWidth}
 use Rattle.wrapping.specs.declared.Rule.{Rule}
 use Rattle.wrapping.specs.Rule.{ruleOf}
 use Rattle.line_composer.specs.declared.Method.{Method}
@@ -13,6 +15,6 @@ methodOf (On trim) = WordWrap
 methodOf (Off column) = Truncate column
 
 -- truncation never trims
-abbrev pub ruleAt : Wrap → ℕ → Rule
-ruleAt (On trim) limit = ruleOf limit trim
-ruleAt (Off column) limit = ruleOf limit false
+abbrev pub ruleAt : AmbiguousWidth → Wrap → ℕ → Rule
+ruleAt ambiguous (On trim) limit = ruleOf ambiguous limit trim
+ruleAt ambiguous (Off column) limit = ruleOf ambiguous limit false

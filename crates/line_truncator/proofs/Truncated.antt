@@ -102,13 +102,13 @@ truncated-narrow u offset gs = omega (arith, shown-narrow u offset 0 gs (omega a
 -- ---- the line of a text line
 
 -- The glyphs shown equal those of their run.
-pub shown-read : (u : Rule) (offset : ℕ) (records : List ℕ) → Read u records (shownFrom u offset 0 (numbered 0 records))
+pub shown-read : (u : Rule) (offset : ℕ) (records : List ℕ) → Read u records (shownFrom u offset 0 (numbered (u .ambiguous) 0 records))
 shown-read u offset records =
-    let c = contiguous u offset 0 (numbered 0 records) in
+    let c = contiguous u offset 0 (numbered (u .ambiguous) 0 records) in
     glyphs-run u (length records) records (c .swallowed) _ (c .rest) (omega arith) (rw (take-length records) (c .split))
 
 module _ (u : Rule) (column : ℕ) (alignment : Alignment) where
-  pub truncated-read : (records : List ℕ) → ReadAll u records (truncate u column alignment (numbered 0 records))
+  pub truncated-read : (records : List ℕ) → ReadAll u records (truncate u column alignment (numbered (u .ambiguous) 0 records))
   unfolding truncate
   truncated-read records =
       cond-cases (ReadAll u records) (eqb (u .limit) 0) _ _ (λ _. tt) (λ _. (shown-read u (offsetOf column alignment) records, tt))

@@ -11,6 +11,7 @@ use lib.ListN.{length, getD, drop, drop-of-length-le}
 use lib.Seq.{drop-cons}
 use Rattle.text.specs.Record.{widthOf}
 use Rattle.text.specs.Line.{Glyph, glyphFrom, numbered}
+use Rattle.text.proofs.Reading.{width-most}
 use Rattle.wrapping.specs.declared.Run.{Run}
 use Rattle.wrapping.specs.declared.Rule.{Rule}
 use Rattle.wrapping.specs.Wrapping.{overWide}
@@ -23,7 +24,7 @@ use Rattle.wrapping.proofs.ListRuns.{run-push}
 pub record Showing (u : Rule) (records : List ℕ) (offset₀ offset : ℕ) (run : Run) (i : ℕ) : Type 0 where
   pub glyphs : List Glyph
   pub is-run : run ≡ runOf glyphs
-  pub same : shownFrom u offset₀ 0 (numbered 0 records) ≡ glyphs ++ shownFrom u offset (run .width) (numbered i (drop i records))
+  pub same : shownFrom u offset₀ 0 (numbered (u .ambiguous) 0 records) ≡ glyphs ++ shownFrom u offset (run .width) (numbered (u .ambiguous) i (drop i records))
   pub within : i ≤ length records
   pub narrow : run .width ≤ 7 * i
 
@@ -34,22 +35,22 @@ module _ (u : Rule) (records : List ℕ) (offset₀ : ℕ) where
 
   module _ (offset : ℕ) (run : Run) (i : ℕ) (s : Showing u records offset₀ offset run i) where
     -- if no glyph remains to be shown, the run is that of the whole line
-    all-shown : shownFrom u offset (run .width) (numbered i (drop i records)) ≡ [] → run ≡ runOf (shownFrom u offset₀ 0 (numbered 0 records))
+    all-shown : shownFrom u offset (run .width) (numbered (u .ambiguous) i (drop i records)) ≡ [] → run ≡ runOf (shownFrom u offset₀ 0 (numbered (u .ambiguous) 0 records))
     all-shown e = rw (s .same, e, append-nil) (s .is-run)
 
     -- all records are read
-    pub showing-ends : length records ≤ i → run ≡ runOf (shownFrom u offset₀ 0 (numbered 0 records))
+    pub showing-ends : length records ≤ i → run ≡ runOf (shownFrom u offset₀ 0 (numbered (u .ambiguous) 0 records))
     showing-ends h = all-shown (rw (drop-of-length-le records h))
 
-    module _ (w : ℕ) (h : i < length records) (e : w ≡ widthOf (getD records i 0)) where
+    module _ (w : ℕ) (h : i < length records) (e : w ≡ widthOf (u .ambiguous) (getD records i 0)) where
       abbrev glyph : Glyph
-      glyph = glyphFrom i (getD records i 0)
+      glyph = glyphFrom (u .ambiguous) i (getD records i 0)
 
       abbrev later : List Glyph
-      later = numbered (i + 1) (drop (i + 1) records)
+      later = numbered (u .ambiguous) (i + 1) (drop (i + 1) records)
 
       -- record i is the next glyph
-      next-glyph : shownFrom u offset (run .width) (numbered i (drop i records)) ≡ shownFrom u offset (run .width) (glyph ∷ later)
+      next-glyph : shownFrom u offset (run .width) (numbered (u .ambiguous) i (drop i records)) ≡ shownFrom u offset (run .width) (glyph ∷ later)
       next-glyph = rw (drop-cons records i 0 h, add-one i)
 
       -- the glyph isn't shown
@@ -70,7 +71,7 @@ module _ (u : Rule) (records : List ℕ) (offset₀ : ℕ) where
 
       module _ (o : w ≤ u .limit) where
         -- the glyph passes the limit
-        pub showing-stops : u .limit < run .width + w → run ≡ runOf (shownFrom u offset₀ 0 (numbered 0 records))
+        pub showing-stops : u .limit < run .width + w → run ≡ runOf (shownFrom u offset₀ 0 (numbered (u .ambiguous) 0 records))
         unfolding overWide ends
         showing-stops f = all-shown (next-glyph ∙ rw (← e, le-ltb (u .limit) w o, lt-ltb (u .limit) (run .width + w) f))
 
@@ -94,7 +95,7 @@ module _ (u : Rule) (records : List ℕ) (offset₀ : ℕ) where
                   is-run = rw (run-push (s .glyphs) glyph) (cc);
                   same = s .same ∙ ap (λ (l : List Glyph). s .glyphs ++ l) (next-glyph ∙ n) ∙ rw (append-assoc, v);
                   within = omega arith;
-                  narrow = omega (arith, s .narrow);
+                  narrow = omega (arith, s .narrow, width-most (u .ambiguous) (getD records i 0));
                 }
 
             -- no offset remains

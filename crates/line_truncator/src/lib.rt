@@ -24,14 +24,14 @@ fn horizontal_offset(column: u32, alignment: Alignment) -> u32
 // Returns the run of the glyphs shown, after those that the offset swallows (reflow.rs: the loop of `LineTruncator::next_line`).
 fn shown_run(rule: Rule, offset: usize, records: &[u32]) -> Run
     requires { ⌜ FewRecords (now records) ⌝ }
-    ensures { λ r. ⌜ r ≡ runOf (shownFrom rule offset 0 (numbered 0 (now (records .entry)))) ⌝ }
+    ensures { λ r. ⌜ r ≡ runOf (shownFrom rule offset 0 (numbered (rule .ambiguous) 0 (now (records .entry)))) ⌝ }
 {
     let mut offset = offset;
     let mut run = Run::empty();
     let mut i = 0;
     while i < records.len() {
         let at = i;
-        let w = glyph::width(records[at]) as usize;
+        let w = rule.width(records[at]) as usize;
         i += 1;
         if rule.limit < w {
             continue;
@@ -52,7 +52,7 @@ fn shown_run(rule: Rule, offset: usize, records: &[u32]) -> Run
 // Returns the line of the text line with these records, scrolled right by `column` (reflow.rs: `LineTruncator::next_line`).
 pub fn truncate_line(rule: Rule, column: u32, alignment: Alignment, records: &[u32]) -> Run
     requires { ⌜ FewRecords (now records) ⌝ }
-    ensures { λ r. ⌜ r ≡ runOf (shownFrom rule (offsetOf column alignment) 0 (numbered 0 (now (records .entry)))) ⌝ }
+    ensures { λ r. ⌜ r ≡ runOf (shownFrom rule (offsetOf column alignment) 0 (numbered (rule .ambiguous) 0 (now (records .entry)))) ⌝ }
 {
     let taken = horizontal_offset(column, alignment) as usize;
     shown_run(rule, taken, records)

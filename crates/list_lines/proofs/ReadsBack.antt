@@ -42,18 +42,18 @@ entry-at (line ∷ ls) rest zero none h = refl
 entry-at (line ∷ ls) rest (suc i) none h = entry-at ls rest i none (omega arith)
 
 -- glyphs of the records from number k end at most after the last of them
-end-within : (u : Rule) (k : ℕ) (rs : List ℕ) → endOf (notOverWide u (numbered k rs)) ≤ k + length rs
+end-within : (u : Rule) (k : ℕ) (rs : List ℕ) → endOf (notOverWide u (numbered (u .ambiguous) k rs)) ≤ k + length rs
 end-within u k [] = omega arith
 end-within u k (r ∷ rs) =
-    cond-cases (λ (gs : List Glyph). endOf gs ≤ k + suc (length rs)) (overWide u (glyphFrom k r)) _ _
+    cond-cases (λ (gs : List Glyph). endOf gs ≤ k + suc (length rs)) (overWide u (glyphFrom (u .ambiguous) k r)) _ _
     (λ _. omega (arith, end-within u (suc k) rs))
-    (λ _. after (notOverWide u (numbered (suc k) rs)) (end-within u (suc k) rs))
+    (λ _. after (notOverWide u (numbered (u .ambiguous) (suc k) rs)) (end-within u (suc k) rs))
   where
-    after : (gs : List Glyph) → endOf gs ≤ suc k + length rs → endOf (glyphFrom k r ∷ gs) ≤ k + suc (length rs)
+    after : (gs : List Glyph) → endOf gs ≤ suc k + length rs → endOf (glyphFrom (u .ambiguous) k r ∷ gs) ≤ k + suc (length rs)
     after [] h = omega arith
     after (g ∷ gs) h = omega arith
 
-end-none : (u : Rule) (k : ℕ) (rs : List ℕ) → length rs ≡ 0 → endOf (notOverWide u (numbered k rs)) ≡ 0
+end-none : (u : Rule) (k : ℕ) (rs : List ℕ) → length rs ≡ 0 → endOf (notOverWide u (numbered (u .ambiguous) k rs)) ≡ 0
 end-none u k [] h = refl
 end-none u k (r ∷ rs) h = absurd (omega arith)
 
@@ -64,9 +64,9 @@ end-in-text u text line e =
     let first : ℕ = wrappedLineOf line .first in
     let end : ℕ = wrappedLineOf line .end in
     let rs : List ℕ = slice first end text in
-    let glyphs : notOverWide u (numbered first rs) ≡ line .glyphs = ap (λ (l : Line). l .glyphs) e in
-    let bound : endOf (notOverWide u (numbered first rs)) ≤ length text =
-    within first end (length text) (length rs) (endOf (notOverWide u (numbered first rs)))
+    let glyphs : notOverWide u (numbered (u .ambiguous) first rs) ≡ line .glyphs = ap (λ (l : Line). l .glyphs) e in
+    let bound : endOf (notOverWide u (numbered (u .ambiguous) first rs)) ≤ length text =
+    within first end (length text) (length rs) (endOf (notOverWide u (numbered (u .ambiguous) first rs)))
     (length-drop first (take end text) ∙ rw (length-take end text))
     (end-within u first rs) (end-none u first rs) in
     rw glyphs at bound
@@ -92,15 +92,15 @@ module _ (call : Call) (a : verdictOf call ≡ Accepted) where
     end-fits : endOf (line .glyphs) < 2 ^ 15
     unfolding linesOf
     end-fits =
-        let u = ruleOf (call .limit) (call .trim) in
+        let u = ruleOf (call .ambiguous) (call .limit) (call .trim) in
         let text = call .text in
         omega (arith, short, end-in-text u text line (back-at u text (linesOf call) i none h (read-back u WordWrap (call .defaultAlignment) text)))
 
     width-fits : total (line .glyphs) < 2 ^ 16
     unfolding linesOf
     width-fits =
-        let u = ruleOf (call .limit) (call .trim) in
-        omega (arith, low, narrow-at (call .limit + 13) (linesOf call) i none h (narrow-lines u (call .defaultAlignment) (call .text)))
+        let u = ruleOf (call .ambiguous) (call .limit) (call .trim) in
+        omega (arith, low, narrow-at (call .limit + 11) (linesOf call) i none h (narrow-lines u (call .defaultAlignment) (call .text)))
 
     entry-is : getD (listAfter call) i 0 ≡ listed line
     unfolding listAfter

@@ -37,7 +37,7 @@ pub record Writing (input : WriteInput) (list : List ℕ) (c : LineComposer) (n 
   pub after : drop n list ≡ drop n (input .old)
   pub same : length list ≡ length (input .old)
   pub room : length (lines (input .rule) WordWrap (input .default) (input .text)) ≤ length (input .old)
-  pub narrow : Narrow (input .rule .limit + 13) (linesLeft (input .rule) (input .default) (input .text) c)
+  pub narrow : Narrow (input .rule .limit + 11) (linesLeft (input .rule) (input .default) (input .text) c)
 
 pub writing-starts : (input : WriteInput) (c : LineComposer) → Started (input .rule) WordWrap (input .text) c → length (lines (input .rule) WordWrap (input .default) (input .text)) ≤ length (input .old) → Writing input (input .old) c 0
 writing-starts input c s r =
@@ -71,7 +71,7 @@ module _ (input : WriteInput) (list : List ℕ) (c : LineComposer) (n : ℕ) (w 
     reads-back : ReadsBack (input .rule) (input .text) line
     reads-back = pulled-reads-back (input .rule) (input .default) (input .text) c o p line d e
 
-    both-narrow : Narrow (input .rule .limit + 13) (lineAt (input .rule) (input .text) line ∷ linesLeft (input .rule) (input .default) (input .text) d)
+    both-narrow : Narrow (input .rule .limit + 11) (lineAt (input .rule) (input .text) line ∷ linesLeft (input .rule) (input .default) (input .text) d)
     both-narrow = rw left-line-then-rest at (w .narrow)
 
     pub first-fits : length (input .text) < 2 ^ 15 → line .first < 2 ^ 15
@@ -80,7 +80,7 @@ module _ (input : WriteInput) (list : List ℕ) (c : LineComposer) (n : ℕ) (w 
     pub end-fits : length (input .text) < 2 ^ 15 → line .end < 2 ^ 15
     end-fits h = omega (arith, reads-back .within)
 
-    pub width-fits : input .rule .limit + 13 < 2 ^ 16 → line .width < 2 ^ 16
+    pub width-fits : input .rule .limit + 11 < 2 ^ 16 → line .width < 2 ^ 16
     unfolding wrappedLineOf
     width-fits h = omega (arith, both-narrow .0, ap (λ (x : WrappedLine). x .width) (reads-back .is))
 

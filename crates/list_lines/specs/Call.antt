@@ -1,9 +1,11 @@
--- Document 01, 'Why a call is refused': the causes, the answer and the entries of the call `list_lines`.
+-- Document 01, 'Why a call is refused': the causes, the answer and the entries of the call `list_lines`. Document 02, C-11: its text is
+-- read as set.
 use Prim.Native.Nat.{ℕ}
 use mathlib.Core.Bool.{Bool}
 use mathlib.Core.List.{List, [], _∷_, _++_, map}
 use lib.ListN.{length, drop}
 use Rattle.text.specs.declared.Alignment.{Alignment}
+use Rattle.text.specs.declared.AmbiguousWidth.{AmbiguousWidth}
 use Rattle.refuse.specs.declared.Ceilings.{Ceilings}
 use Rattle.refuse.specs.declared.Refusal.the-variants.{ListLength}
 use Rattle.refuse.specs.declared.Verdict.{Verdict}
@@ -19,17 +21,19 @@ use Rattle.list_lines.specs.declared.ListAnswer.the-variants.{Written, R
 -- inputs of the call, with the list before it
 pub record Call : Type 0 where
   pub text : List ℕ
+  pub ambiguous : AmbiguousWidth
   pub defaultAlignment : Alignment
   pub limit : ℕ
   pub trim : Bool
   pub list : List ℕ
 
-abbrev pub callOf : List ℕ → Alignment → ℕ → Bool → List ℕ → Call
-callOf text default limit trim list = record { text = text; defaultAlignment = default; limit = limit; trim = trim; list = list }
+abbrev pub callOf : List ℕ → AmbiguousWidth → Alignment → ℕ → Bool → List ℕ → Call
+callOf text ambiguous default limit trim list =
+    record { text = text; ambiguous = ambiguous; defaultAlignment = default; limit = limit; trim = trim; list = list }
 
 -- the lines to write
 unfoldable pub linesOf : Call → List Line
-linesOf call = lines (ruleOf (call .limit) (call .trim)) WordWrap (call .defaultAlignment) (call .text)
+linesOf call = lines (ruleOf (call .ambiguous) (call .limit) (call .trim)) WordWrap (call .defaultAlignment) (call .text)
 
 -- causes 3, 4, 8, 9
 unfoldable pub causesOf : Ceilings → Call → List Cause

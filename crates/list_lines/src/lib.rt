@@ -7,6 +7,7 @@ use refuse::ACCEPTED;
 use refuse::Refusal;
 use refuse::Verdict;
 use text::Alignment;
+use text::AmbiguousWidth;
 use wrapping::Rule;
 ghost use mathlib.Core.Path.{_≡_};
 ghost use mathlib.Core.List.{_++_, map};
@@ -26,7 +27,7 @@ pub enum ListAnswer {
 
 // Writes the composed lines of a text to a list that is long enough.
 fn write_lines(rule: Rule, default_alignment: Alignment, text: &[u32], list: &mut [u64])
-    requires { ⌜ (length (now text) < 2 ^ 15) × Opens (now text) × (rule .limit + 13 < 2 ^ 16) ⌝ }
+    requires { ⌜ (length (now text) < 2 ^ 15) × Opens (now text) × (rule .limit + 11 < 2 ^ 16) ⌝ }
     requires { ⌜ length (lines rule WordWrap «default_alignment» (now text)) ≤ length (now list) ⌝ }
     ensures { λ _.
         let all = lines rule WordWrap «default_alignment» (now (text .entry)) in
@@ -48,13 +49,14 @@ fn write_lines(rule: Rule, default_alignment: Alignment, text: &[u32], list: &mu
 // call changes no entry.
 pub fn list_lines(
     text: &[u32],
+    ambiguous: AmbiguousWidth,
     default_alignment: Alignment,
     limit: u16,
     trim: bool,
     list: &mut [u64],
 ) -> ListAnswer
     ensures { λ r.
-        let call = callOf (now (text .entry)) «default_alignment» limit trim (now (list .entry)) in
+        let call = callOf (now (text .entry)) ambiguous «default_alignment» limit trim (now (list .entry)) in
         ⌜ (r ≡ answerOf call) × (now (list .exit) ≡ listAfter call) ⌝ }
 {
     if let Verdict::Refused(why) = check_records::line_verdict(ACCEPTED, text, limit) {
@@ -63,6 +65,7 @@ pub fn list_lines(
     let rule = Rule {
         limit: limit as usize,
         trim,
+        ambiguous,
     };
     let count = count_lines::count_lines(rule, default_alignment, text);
     if limits::list_too_short(list.len(), count) {

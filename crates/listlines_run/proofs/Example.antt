@@ -2,6 +2,7 @@
 use Prim.Native.Nat.{ℕ}
 use mathlib.Core.Path.{_≡_, refl}
 use mathlib.Core.List.{List, [], _∷_, _++_}
+use Rattle.text.specs.Record.{readWidth}
 use Rattle.refuse.specs.Causes.{textHeadsWrong, textCauses, lineCauses}
 use Rattle.wrapping.specs.Wrapping.{overWide, mustJoin, takesSpaces, gathered, joined, unjoined, full, emptied, drops, appended, _then_, joinStep, emitStep, appendStep, step, lastLines, wrap}
 use Rattle.line_composer.specs.Lines.{linesOf as textLineLines, lineLines, lines}
@@ -26,5 +27,5 @@ output =
     ++ (108 ∷ 105 ∷ 110 ∷ 101 ∷ 115 ∷ 32 ∷ 50 ∷ 10 ∷ []))
 
 pub example-printed : printedOf input ≡ output
-unfolding overWide mustJoin takesSpaces gathered joined unjoined full emptied drops appended _then_ joinStep emitStep appendStep step lastLines wrap textLineLines lineLines lines linesOf textHeadsWrong textCauses lineCauses recordsOf incomplete parsedOf decimal numberText fieldsText countText lineText printedOf
+unfolding readWidth overWide mustJoin takesSpaces gathered joined unjoined full emptied drops appended _then_ joinStep emitStep appendStep step lastLines wrap textLineLines lineLines lines linesOf textHeadsWrong textCauses lineCauses recordsOf incomplete parsedOf decimal numberText fieldsText countText lineText printedOf
 example-printed = refl

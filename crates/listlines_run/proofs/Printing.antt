@@ -7,6 +7,7 @@ use native.Mathlib.Omega.{arith}
 use lib.ListN.{length, getD, take, drop, length-append, length-map, length-take}
 use lib.Seq.{length-take-le}
 use Rattle.text.specs.declared.Alignment.the-variants.{Left}
+use Rattle.text.specs.declared.AmbiguousWidth.the-variants.{Narrow}
 use Rattle.refuse.specs.declared.Refusal.{Refusal}
 use Rattle.refuse.specs.declared.Refusal.the-variants.{Screen, Styles, TextLength, TextHeads, Titles, StyleNumber, Symbol, Limit, ListLength}
 use Rattle.refuse.specs.declared.Verdict.{Verdict}
@@ -111,12 +112,12 @@ module _ (limit : ℕ) (trim : Bool) (text list : List ℕ) where
   verdict-same : length list ≡ mostRecords → length text ≤ mostRecords → verdictOf call ≡ firstCause (lineCauses mostAccepted text limit)
   unfolding verdictOf causesOf linesOf
   verdict-same h k =
-      let clear : listTooShort (length list) (length (linesOf call)) ≡ false = rw h (long-enough (ruleOf limit trim) text k) in
+      let clear : listTooShort (length list) (length (linesOf call)) ≡ false = rw h (long-enough (ruleOf Narrow limit trim) text k) in
       cause-clear (lineCauses mostAccepted text limit) ListLength (listTooShort (length list) (length (linesOf call))) clear
 
   lines-few : length text ≤ mostRecords → length (linesOf call) ≤ mostRecords
   unfolding linesOf
-  lines-few k = omega (arith, lines-short (ruleOf limit trim) Left text)
+  lines-few k = omega (arith, lines-short (ruleOf Narrow limit trim) Left text)
 
   lines-by : (v : Verdict) → verdictOf call ≡ v → length text ≤ mostRecords → (count : ℕ)
       → answerFor (answering listed-variant.Written listed-variant.Refused v (length (linesOf call))) ≡ answer.Lines count

@@ -4,6 +4,7 @@ use mathlib.Core.Bool.{Bool}
 use mathlib.Core.List.{List}
 use Rattle.refuse.specs.Refusal.{refusalNumber}
 use Rattle.text.specs.declared.Alignment.the-variants.{Left}
+use Rattle.text.specs.declared.AmbiguousWidth.the-variants.{Narrow}
 use Rattle.list_lines.specs.Call.{Call, callOf, answerOf as listAnswer, listAfter}
 use Rattle.list_lines.specs.declared.ListAnswer.{ListAnswer}
 use Rattle.list_lines.specs.declared.ListAnswer.the-variants as listed-variant
@@ -18,10 +19,10 @@ abbrev pub answerFor : ListAnswer → Answer
 answerFor (listed-variant.Written count) = answer.Lines count
 answerFor (listed-variant.Refused why) = answer.Refused (refusalNumber why)
 
--- "the notice aligned left": the list call for a text and a list, which has an entry for each record accepted and is never too
+-- "the notice aligned left", and document 02, C-11: "`listlines` reads narrow.": the list call for a text and a list, which has an entry for each record accepted and is never too
 -- short (theorem `long-enough`)
 abbrev pub callFor : ℕ → Bool → List ℕ → List ℕ → Call
-callFor limit trim text list = callOf text Left limit trim list
+callFor limit trim text list = callOf text Narrow Left limit trim list
 
 abbrev pub answered : Parsed → List ℕ → List ℕ → Answer
 answered (Refused number) text list = answer.Refused number

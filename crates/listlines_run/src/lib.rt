@@ -3,6 +3,7 @@ use libc::STDOUT_FILENO;
 use list_lines::ListAnswer;
 use listlines_input::Parsed;
 use text::Alignment;
+use text::AmbiguousWidth;
 ghost use mathlib.Core.Path.{_≡_};
 ghost use Prim.Native.Nat.{_+_, _*_, _≤_};
 ghost use lib.ListN.{length, take};
@@ -45,6 +46,7 @@ fn answer_to(input: &[u8], text: &mut [u32], list: &mut [u64]) -> Answer
         } => {
             let listed = list_lines::list_lines(
                 &text[..records],
+                AmbiguousWidth::Narrow,
                 Alignment::Left,
                 limit,
                 trim,

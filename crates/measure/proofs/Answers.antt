@@ -30,22 +30,22 @@ count-lowest-first most call = in-order (count.causesOf most call) refl
 module _ (call : width.Call) where
   pub width-number : measureAnswerNumber (width.answerOf call) ≡ verdictNumber (width.verdictOf call)
   unfolding width.answerOf
-  width-number = answered-number Value Refused measureAnswerNumber (λ value. refl) (λ why. refl) (width.verdictOf call) (lineWidth (call .block) (call .text))
+  width-number = answered-number Value Refused measureAnswerNumber (λ value. refl) (λ why. refl) (width.verdictOf call) (lineWidth (call .ambiguous) (call .block) (call .text))
 
   pub width-value : measureAnswerValue (width.answerOf call) ≡ width.valueOf call
   unfolding width.answerOf width.valueOf
-  width-value = answered-value Value Refused measureAnswerValue (λ value. value) 0 (λ value. refl) (λ why. refl) (width.verdictOf call) (lineWidth (call .block) (call .text))
+  width-value = answered-value Value Refused measureAnswerValue (λ value. value) 0 (λ value. refl) (λ why. refl) (width.verdictOf call) (lineWidth (call .ambiguous) (call .block) (call .text))
 
   -- v is the verdict of the checks
   module _ (v : Verdict) (e : v ≡ width.verdictOf call) where
     pub width-refused : (why : Refusal) → v ≡ RefusedFor why → Refused why ≡ width.answerOf call
     unfolding width.answerOf
-    width-refused why r = answer-refused Value Refused (width.verdictOf call) (lineWidth (call .block) (call .text)) why (sym e ∙ r)
+    width-refused why r = answer-refused Value Refused (width.verdictOf call) (lineWidth (call .ambiguous) (call .block) (call .text)) why (sym e ∙ r)
 
     module _ (a : v ≡ Accepted) where
-      pub width-answered : (value : ℕ) → value ≡ lineWidth (call .block) (call .text) → Value value ≡ width.answerOf call
+      pub width-answered : (value : ℕ) → value ≡ lineWidth (call .ambiguous) (call .block) (call .text) → Value value ≡ width.answerOf call
       unfolding width.answerOf
-      width-answered value p = answer-accepted Value Refused (width.verdictOf call) (lineWidth (call .block) (call .text)) (sym e ∙ a) value p
+      width-answered value p = answer-accepted Value Refused (width.verdictOf call) (lineWidth (call .ambiguous) (call .block) (call .text)) (sym e ∙ a) value p
 
       pub width-sound : TextAccepted (call .text)
       unfolding width.verdictOf width.causesOf textCauses frameCauses

@@ -8,6 +8,7 @@ use mir.Val.{Fits}
 use mir.Syntax.{w32}
 use lib.ListN.{length}
 use Rattle.text.specs.declared.Alignment.the-variants.{Left}
+use Rattle.text.specs.declared.AmbiguousWidth.{AmbiguousWidth}
 use Rattle.text.specs.Record.{isHead}
 use Rattle.text.specs.Line.{untilHead, linesFrom}
 use Rattle.refuse.proofs.Accepted.{TextAccepted}
@@ -32,10 +33,10 @@ text-lines-few i (r ∷ rs) = go (isHead r) (text-lines-few (suc i) rs)
     go false h = omega arith
 
 -- wrapped or not, a text has no more lines than records
-lines-few : (wrap : Wrap) (width : ℕ) (text : List ℕ) → linesAt wrap width text ≤ length text
+lines-few : (a : AmbiguousWidth) (wrap : Wrap) (width : ℕ) (text : List ℕ) → linesAt a wrap width text ≤ length text
 unfolding linesAt
-lines-few (Off column) width text = text-lines-few 0 text
-lines-few (On trim) width text = lines-short (ruleOf width trim) Left text
+lines-few a (Off column) width text = text-lines-few 0 text
+lines-few a (On trim) width text = lines-short (ruleOf a width trim) Left text
 
 -- each number of a space is at most 65,535
 vertical-small : (b : Block) (titles : List ℕ) → both (verticalSpace b titles) ≤ 2 * 65535
@@ -47,18 +48,18 @@ unfolding horizontalSpace
 horizontal-small b = omega arith
 
 -- `line_count`
-module _ (b : Block) (titles : List ℕ) (wrap : Wrap) (width : ℕ) (text : List ℕ) (count : ℕ) (c : count ≡ linesAt wrap width text) where
+module _ (a : AmbiguousWidth) (b : Block) (titles : List ℕ) (wrap : Wrap) (width : ℕ) (text : List ℕ) (count : ℕ) (c : count ≡ linesAt a wrap width text) where
   pub count-fits : TextAccepted text → Fits w32 count
-  count-fits sound = record { fits = omega (arith, sound .short, lines-few wrap width text) }
+  count-fits sound = record { fits = omega (arith, sound .short, lines-few a wrap width text) }
 
   pub count-sum-fits : (taken : Space) (sum : ℕ) → taken ≡ verticalSpace b titles → sum ≡ both taken → TextAccepted text → Fits w32 (count + sum)
   count-sum-fits taken sum t s sound =
       let few : sum ≤ 2 * 65535 = rw (s, t) (vertical-small b titles) in
-      record { fits = omega (arith, sound .short, lines-few wrap width text) }
+      record { fits = omega (arith, sound .short, lines-few a wrap width text) }
 
 -- `line_width`
-pub width-sum-fits : (b : Block) (text : List ℕ) (line : ℕ) (taken : Space) (sum : ℕ) → line ≡ widest (linesFrom 0 text) → taken ≡ horizontalSpace b → sum ≡ both taken
+pub width-sum-fits : (a : AmbiguousWidth) (b : Block) (text : List ℕ) (line : ℕ) (taken : Space) (sum : ℕ) → line ≡ widest a (linesFrom 0 text) → taken ≡ horizontalSpace b → sum ≡ both taken
     → TextAccepted text → Fits w32 (line + sum)
-width-sum-fits b text line taken sum l t s sound =
+width-sum-fits a b text line taken sum l t s sound =
     let few : sum ≤ 2 * 65535 = rw (s, t) (horizontal-small b) in
-    record { fits = omega (arith, sound .short, widest-narrow text) }
+    record { fits = omega (arith, sound .short, widest-narrow a text) }

@@ -5,6 +5,7 @@ use line_composer::Wrap;
 use refuse::ACCEPTED;
 use refuse::Refusal;
 use refuse::Verdict;
+use text::AmbiguousWidth;
 ghost use mathlib.Core.Path.{_≡_};
 ghost use Rattle.measure.specs.LineWidth.{callOf as widthCall, verdictOf as widthVerdict, answerOf as widthAnswer};
 ghost use Rattle.measure.specs.LineCount.{callOf as countCall, verdictOf as countVerdict, answerOf as countAnswer};
@@ -16,8 +17,13 @@ pub enum MeasureAnswer {
 }
 
 // Returns the verdict of `line_width`'s checks, lowest cause first.
-fn line_width_verdict(text: &[u32], titles: &[u32], block: Block) -> Verdict
-    ensures { λ r. ⌜ r ≡ widthVerdict (widthCall (now (text .entry)) (now (titles .entry)) block) ⌝ }
+fn line_width_verdict(
+    text: &[u32],
+    ambiguous: AmbiguousWidth,
+    titles: &[u32],
+    block: Block,
+) -> Verdict
+    ensures { λ r. ⌜ r ≡ widthVerdict (widthCall (now (text .entry)) ambiguous (now (titles .entry)) block) ⌝ }
 {
     if let Verdict::Refused(why) = check_records::text_verdict(ACCEPTED, text) {
         return Verdict::Refused(why);
@@ -26,10 +32,17 @@ fn line_width_verdict(text: &[u32], titles: &[u32], block: Block) -> Verdict
 }
 
 // Returns the verdict of `line_count`'s checks, lowest cause first.
-fn line_count_verdict(text: &[u32], titles: &[u32], block: Block, wrap: Wrap, width: u16) -> Verdict
-    ensures { λ r. ⌜ r ≡ countVerdict (countCall (now (text .entry)) (now (titles .entry)) block wrap width) ⌝ }
+fn line_count_verdict(
+    text: &[u32],
+    ambiguous: AmbiguousWidth,
+    titles: &[u32],
+    block: Block,
+    wrap: Wrap,
+    width: u16,
+) -> Verdict
+    ensures { λ r. ⌜ r ≡ countVerdict (countCall (now (text .entry)) ambiguous (now (titles .entry)) block wrap width) ⌝ }
 {
-    if let Verdict::Refused(why) = line_width_verdict(text, titles, block) {
+    if let Verdict::Refused(why) = line_width_verdict(text, ambiguous, titles, block) {
         return Verdict::Refused(why);
     }
     if limits::limit_wrong(ACCEPTED, width) {
@@ -42,32 +55,38 @@ fn line_count_verdict(text: &[u32], titles: &[u32], block: Block, wrap: Wrap, wi
 // (paragraph.rs: `Paragraph::line_count`)
 pub fn line_count(
     text: &[u32],
+    ambiguous: AmbiguousWidth,
     titles: &[u32],
     block: Block,
     wrap: Wrap,
     width: u16,
 ) -> MeasureAnswer
-    ensures { λ r. ⌜ r ≡ countAnswer (countCall (now (text .entry)) (now (titles .entry)) block wrap width) ⌝ }
+    ensures { λ r. ⌜ r ≡ countAnswer (countCall (now (text .entry)) ambiguous (now (titles .entry)) block wrap width) ⌝ }
 {
-    if let Verdict::Refused(why) = line_count_verdict(text, titles, block, wrap, width) {
+    if let Verdict::Refused(why) = line_count_verdict(text, ambiguous, titles, block, wrap, width) {
         return MeasureAnswer::Refused(why);
     }
     if width == 0 {
         return MeasureAnswer::Value(0);
     }
-    let count = measure_text::lines_at(wrap, width, text);
+    let count = measure_text::lines_at(wrap, width, text, ambiguous);
     MeasureAnswer::Value(count as u32 + measure_text::both(block.vertical_space(titles)))
 }
 
 // Returns the width of a text's widest line plus the block's horizontal space. Refused for causes 3, 4, 5 and 7.
 // (paragraph.rs: `Paragraph::line_width`)
-pub fn line_width(text: &[u32], titles: &[u32], block: Block) -> MeasureAnswer
-    ensures { λ r. ⌜ r ≡ widthAnswer (widthCall (now (text .entry)) (now (titles .entry)) block) ⌝ }
+pub fn line_width(
+    text: &[u32],
+    ambiguous: AmbiguousWidth,
+    titles: &[u32],
+    block: Block,
+) -> MeasureAnswer
+    ensures { λ r. ⌜ r ≡ widthAnswer (widthCall (now (text .entry)) ambiguous (now (titles .entry)) block) ⌝ }
 {
-    if let Verdict::Refused(why) = line_width_verdict(text, titles, block) {
+    if let Verdict::Refused(why) = line_width_verdict(text, ambiguous, titles, block) {
         return MeasureAnswer::Refused(why);
     }
-    MeasureAnswer::Value(
-        measure_text::widest_line(text) + measure_text::both(block.horizontal_space()),
-    )
+    let columns = measure_text::widest_line(text, ambiguous);
+    let sum = columns + measure_text::both(block.horizontal_space());
+    MeasureAnswer::Value(sum)
 }

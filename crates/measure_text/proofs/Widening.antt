@@ -7,21 +7,23 @@ use native.Mathlib.Numerals.{add-one}
 use native.Mathlib.Omega.{arith}
 use lib.ListN.{length, getD, drop, drop-of-length-le}
 use lib.Seq.{drop-cons}
+use Rattle.text.specs.declared.AmbiguousWidth.{AmbiguousWidth}
 use Rattle.text.specs.Record.{isHead, widthOf}
 use Rattle.text.specs.Line.{numbered, total, untilHead, linesFrom, Opens}
+use Rattle.text.proofs.Reading.{width-most}
 use Rattle.text.proofs.TextLines.{opens-none}
 use Rattle.measure_text.specs.Measures.{widest}
 
 -- the widest of the lines that the records open and of the line that they continue, of which `width` columns were read
-abbrev widestAfter : ℕ → ℕ → List ℕ → ℕ
-widestAfter width i rs = max (width + total (numbered i (untilHead rs))) (widest (linesFrom i rs))
+abbrev widestAfter : AmbiguousWidth → ℕ → ℕ → List ℕ → ℕ
+widestAfter a width i rs = max (width + total (numbered a i (untilHead rs))) (widest a (linesFrom i rs))
 
 -- Invariant of `widest_line`: i records were read; `most` is the widest line so far and `width` the part read of the current one.
-pub record Widening (text : List ℕ) (most width i : ℕ) : Type 0 where
+pub record Widening (a : AmbiguousWidth) (text : List ℕ) (most width i : ℕ) : Type 0 where
   pub within : i ≤ length text
-  pub narrow : width ≤ 7 * i
+  pub narrow : width ≤ 6 * i
   pub known : width ≤ most
-  pub same : max most (widestAfter width i (drop i text)) ≡ widest (linesFrom 0 text)
+  pub same : max most (widestAfter a width i (drop i text)) ≡ widest a (linesFrom 0 text)
 
 -- a head: the line before it is already in `most`, and its own line has width 0 so far
 head-step : (most width ahead others : ℕ) → width ≤ most → max most (max (width + 0) (max ahead others)) ≡ max (max most 0) (max (0 + ahead) others)
@@ -31,29 +33,29 @@ head-step most width ahead others h = omega arith
 glyph-step : (most width w ahead others : ℕ) → max most (max (width + (w + ahead)) others) ≡ max (max most (width + w)) (max (width + w + ahead) others)
 glyph-step most width w ahead others = omega arith
 
-module _ (text : List ℕ) where
-  pub widening-starts : Opens text → Widening text 0 0 0
+module _ (a : AmbiguousWidth) (text : List ℕ) where
+  pub widening-starts : Opens text → Widening a text 0 0 0
   widening-starts o =
       let z : untilHead text ≡ [] = opens-none text o in
-      let s : max 0 (max (0 + total (numbered 0 (untilHead text))) (widest (linesFrom 0 text))) ≡ widest (linesFrom 0 text) = rw z (omega arith) in
+      let s : max 0 (max (0 + total (numbered a 0 (untilHead text))) (widest a (linesFrom 0 text))) ≡ widest a (linesFrom 0 text) = rw z (omega arith) in
       record { within = omega arith; narrow = omega arith; known = omega arith; same = s }
 
-  module _ (most width i : ℕ) (m : Widening text most width i) where
+  module _ (most width i : ℕ) (m : Widening a text most width i) where
     module _ (b : Bool) (h : i < length text) (p : b ≡ isHead (getD text i 0)) where
       part : drop i text ≡ getD text i 0 ∷ drop (i + 1) text
       part = rw (add-one, drop-cons text i 0)
 
       abbrev ahead : ℕ
-      ahead = total (numbered (i + 1) (untilHead (drop (i + 1) text)))
+      ahead = total (numbered a (i + 1) (untilHead (drop (i + 1) text)))
 
       abbrev others : ℕ
-      others = widest (linesFrom (i + 1) (drop (i + 1) text))
+      others = widest a (linesFrom (i + 1) (drop (i + 1) text))
 
       -- after a record the widest is the larger of `most` and the current line's width, which is 0 after a head
-      pub widening-head : (next larger : ℕ) → b ≡ true → next ≡ 0 → larger ≡ max most next → Widening text larger next (i + 1)
+      pub widening-head : (next larger : ℕ) → b ≡ true → next ≡ 0 → larger ≡ max most next → Widening a text larger next (i + 1)
       widening-head next larger t n l =
           let head : isHead (getD text i 0) ≡ true = sym p ∙ t in
-          let s : max most (max (width + 0) (max ahead others)) ≡ widest (linesFrom 0 text) = rw (part, head, ← add-one i) at (m .same) in
+          let s : max most (max (width + 0) (max ahead others)) ≡ widest a (linesFrom 0 text) = rw (part, head, ← add-one i) at (m .same) in
           record {
             within = omega arith;
             narrow = omega arith;
@@ -61,35 +63,35 @@ module _ (text : List ℕ) where
             same = rw (l, n) (sym (head-step most width ahead others (m .known)) ∙ s);
           }
 
-      pub widening-glyph : (w next larger : ℕ) → b ≡ false → w ≡ widthOf (getD text i 0) → next ≡ width + w → larger ≡ max most next → Widening text larger next (i + 1)
+      pub widening-glyph : (w next larger : ℕ) → b ≡ false → w ≡ widthOf a (getD text i 0) → next ≡ width + w → larger ≡ max most next → Widening a text larger next (i + 1)
       widening-glyph w next larger f e n l =
           let glyph : isHead (getD text i 0) ≡ false = sym p ∙ f in
-          let s : max most (max (width + (widthOf (getD text i 0) + ahead)) others) ≡ widest (linesFrom 0 text) = rw (part, glyph, ← add-one i) at (m .same) in
+          let s : max most (max (width + (widthOf a (getD text i 0) + ahead)) others) ≡ widest a (linesFrom 0 text) = rw (part, glyph, ← add-one i) at (m .same) in
           record {
             within = omega arith;
-            narrow = omega (arith, m .narrow);
+            narrow = omega (arith, m .narrow, width-most a (getD text i 0));
             known = omega arith;
-            same = rw (l, n, e) (sym (glyph-step most width (widthOf (getD text i 0)) ahead others) ∙ s);
+            same = rw (l, n, e) (sym (glyph-step most width (widthOf a (getD text i 0)) ahead others) ∙ s);
           }
 
-    pub widening-ends : length text ≤ i → most ≡ widest (linesFrom 0 text)
+    pub widening-ends : length text ≤ i → most ≡ widest a (linesFrom 0 text)
     widening-ends h =
         let n : drop i text ≡ [] = drop-of-length-le text h in
         omega (arith, rw n at (m .same), m .known)
 
 pub ruleset widening = (widening-starts, widening-head, widening-glyph, widening-ends)
 
--- a line is at most 7 columns wide per record
-narrow-after : (i : ℕ) (rs : List ℕ) → widestAfter 0 i rs ≤ 7 * length rs
-narrow-after i [] = omega arith
-narrow-after i (r ∷ rs) = go (isHead r) (narrow-after (suc i) rs)
+-- a line is at most 6 columns wide per record
+narrow-after : (a : AmbiguousWidth) (i : ℕ) (rs : List ℕ) → widestAfter a 0 i rs ≤ 6 * length rs
+narrow-after a i [] = omega arith
+narrow-after a i (r ∷ rs) = go (isHead r) (narrow-after a (suc i) rs)
   where
-    go : (b : Bool) → widestAfter 0 (suc i) rs ≤ 7 * length rs
-        → max (0 + total (numbered i (cond b [] (r ∷ untilHead rs))))
-        (widest (cond b (record { head = r; first = suc i; records = untilHead rs } ∷ linesFrom (suc i) rs) (linesFrom (suc i) rs)))
-        ≤ 7 * suc (length rs)
+    go : (b : Bool) → widestAfter a 0 (suc i) rs ≤ 6 * length rs
+        → max (0 + total (numbered a i (cond b [] (r ∷ untilHead rs))))
+        (widest a (cond b (record { head = r; first = suc i; records = untilHead rs } ∷ linesFrom (suc i) rs) (linesFrom (suc i) rs)))
+        ≤ 6 * suc (length rs)
     go true ih = omega arith
-    go false ih = omega arith
+    go false ih = omega (arith, width-most a r)
 
-pub widest-narrow : (text : List ℕ) → widest (linesFrom 0 text) ≤ 7 * length text
-widest-narrow text = omega (arith, narrow-after 0 text)
+pub widest-narrow : (a : AmbiguousWidth) (text : List ℕ) → widest a (linesFrom 0 text) ≤ 6 * length text
+widest-narrow a text = omega (arith, narrow-after a 0 text)

@@ -3,6 +3,7 @@
 use block::Space;
 use line_composer::Wrap;
 use text::Alignment;
+use text::AmbiguousWidth;
 use text::glyph;
 use text::head;
 use text::line;
@@ -19,9 +20,9 @@ pub fn both(space: Space) -> u32
 }
 
 // Counts the lines of a text at a width: composed lines, or text lines if unwrapped.
-pub fn lines_at(wrap: Wrap, width: u16, text: &[u32]) -> usize
+pub fn lines_at(wrap: Wrap, width: u16, text: &[u32], ambiguous: AmbiguousWidth) -> usize
     requires { ⌜ FewRecords (now text) × Opens (now text) ⌝ }
-    ensures { λ r. ⌜ r ≡ linesAt wrap width (now (text .entry)) ⌝ }
+    ensures { λ r. ⌜ r ≡ linesAt ambiguous wrap width (now (text .entry)) ⌝ }
 {
     let Wrap::On { trim } = wrap else {
         return line::count_text_lines(text);
@@ -29,14 +30,15 @@ pub fn lines_at(wrap: Wrap, width: u16, text: &[u32]) -> usize
     let rule = Rule {
         limit: width as usize,
         trim,
+        ambiguous,
     };
     count_lines::count_lines(rule, Alignment::Left, text)
 }
 
 // Returns the width of the widest text line, 0 for an empty text.
-pub fn widest_line(text: &[u32]) -> u32
+pub fn widest_line(text: &[u32], ambiguous: AmbiguousWidth) -> u32
     requires { ⌜ FewRecords (now text) × Opens (now text) ⌝ }
-    ensures { λ r. ⌜ r ≡ widest (linesFrom 0 (now (text .entry))) ⌝ }
+    ensures { λ r. ⌜ r ≡ widest ambiguous (linesFrom 0 (now (text .entry))) ⌝ }
 {
     let mut widest = 0;
     let mut width = 0;
@@ -45,7 +47,7 @@ pub fn widest_line(text: &[u32]) -> u32
         if head::is_head(text[i]) {
             width = 0;
         } else {
-            width += glyph::width(text[i]);
+            width += glyph::width(text[i], ambiguous);
         }
         if widest < width {
             widest = width;

@@ -9,6 +9,7 @@ use native.Mathlib.Omega.{arith}
 use borrow.Author.Tests.{eqb-true, eqb-false, ne-eqb}
 use lib.Dec.{eqb}
 use lib.ListN.{length}
+use Rattle.text.specs.declared.AmbiguousWidth.{AmbiguousWidth}
 use Rattle.text.specs.Line.{Glyph, numbered, total}
 use Rattle.wrapping.specs.declared.Rule.{Rule}
 use Rattle.wrapping.specs.Wrapping.{Pending, Step, emptyPending, overWide, takesSpaces, gathered, joined, unjoined, emptied, appended, step, wrapFrom, wrap, overWides}
@@ -84,17 +85,17 @@ module _ (test : Glyph → Bool) where
 abbrev pub numberIs : ℕ → Glyph → Bool
 numberIs n g = eqb (g .number) n
 
-numbered-none : (n k : ℕ) (rs : List ℕ) → n < k → countOf (numberIs n) (numbered k rs) ≡ 0
-numbered-none n k [] h = refl
-numbered-none n k (r ∷ rs) h =
-    rw (ne-eqb k n (λ (e : k ≡ n). omega arith)) (omega (arith, numbered-none n (suc k) rs (omega arith)))
+numbered-none : (a : AmbiguousWidth) (n k : ℕ) (rs : List ℕ) → n < k → countOf (numberIs n) (numbered a k rs) ≡ 0
+numbered-none a n k [] h = refl
+numbered-none a n k (r ∷ rs) h =
+    rw (ne-eqb k n (λ (e : k ≡ n). omega arith)) (omega (arith, numbered-none a n (suc k) rs (omega arith)))
 
-numbered-once : (n k : ℕ) (rs : List ℕ) → k ≤ n → n < k + length rs → countOf (numberIs n) (numbered k rs) ≡ 1
-numbered-once n k [] h l = omega arith
-numbered-once n k (r ∷ rs) h l =
-    cases (λ (b : Bool). cond b 1 0 + countOf (numberIs n) (numbered (suc k) rs) ≡ 1) (eqb k n)
-    (λ e. let same = eqb-true k n e in omega (arith, numbered-none n (suc k) rs (omega arith)))
-    (λ e. let other = eqb-false k n e in omega (arith, numbered-once n (suc k) rs (omega arith) (omega arith)))
+numbered-once : (a : AmbiguousWidth) (n k : ℕ) (rs : List ℕ) → k ≤ n → n < k + length rs → countOf (numberIs n) (numbered a k rs) ≡ 1
+numbered-once a n k [] h l = omega arith
+numbered-once a n k (r ∷ rs) h l =
+    cases (λ (b : Bool). cond b 1 0 + countOf (numberIs n) (numbered a (suc k) rs) ≡ 1) (eqb k n)
+    (λ e. let same = eqb-true k n e in omega (arith, numbered-none a n (suc k) rs (omega arith)))
+    (λ e. let other = eqb-false k n e in omega (arith, numbered-once a n (suc k) rs (omega arith) (omega arith)))
 
 all-counted : (gs : List Glyph) → countOf (λ _. true) gs ≡ length gs
 all-counted [] = refl
@@ -118,7 +119,7 @@ wrapped-few u gs =
     (λ e. let n = eqb-false (u .limit) 0 e in omega (arith, accounted-lengths u gs (omega arith)))
 
 pub exactly-once : (u : Rule) (k : ℕ) (rs : List ℕ) → 0 < u .limit → (n : ℕ) → k ≤ n → n < k + length rs →
-    countOf (numberIs n) (glyphsOfAll (wrap u (numbered k rs) .lines)) + countOf (numberIs n) (wrap u (numbered k rs) .dropped)
-    + countOf (numberIs n) (overWides u (numbered k rs))
+    countOf (numberIs n) (glyphsOfAll (wrap u (numbered (u .ambiguous) k rs) .lines)) + countOf (numberIs n) (wrap u (numbered (u .ambiguous) k rs) .dropped)
+    + countOf (numberIs n) (overWides u (numbered (u .ambiguous) k rs))
     ≡ 1
-exactly-once u k rs h n from below = accounted u (numbered k rs) h (numberIs n) ∙ numbered-once n k rs from below
+exactly-once u k rs h n from below = accounted u (numbered (u .ambiguous) k rs) h (numberIs n) ∙ numbered-once (u .ambiguous) n k rs from below

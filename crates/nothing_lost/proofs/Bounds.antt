@@ -1,6 +1,6 @@
 -- one-cell: if every glyph has width 1, no line is wider than the limit.
--- any-cells: if no glyph is wider than 7, no line is wider than the limit plus 13.
--- numbered-widths: no glyph of a record is wider than 7, whatever the record's bits.
+-- any-cells: if no glyph is wider than 6, no line is wider than the limit plus 11.
+-- numbered-widths: no glyph of a record is read as wider than 6, whatever the record's bits.
 use Prim.Native.Nat.{ℕ, suc, _+_, _-_, _≤_, _<_}
 use mathlib.Core.Path.{_≡_, refl, sym, ap, _∙_}
 use mathlib.Core.Bool.{Bool, true, false, cond, not, _&&_, _||_, true≢false, false≢true}
@@ -8,7 +8,9 @@ use mathlib.Core.List.{List, [], _∷_, _++_}
 use native.Mathlib.Omega.{arith}
 use borrow.Author.Tests.{ltb-true, ltb-false, leb-false, lt-ltb}
 use lib.Dec.{eqb, leb, ltb}
+use Rattle.text.specs.declared.AmbiguousWidth.{AmbiguousWidth}
 use Rattle.text.specs.Line.{Glyph, glyphFrom, numbered, total}
+use Rattle.text.proofs.Reading.{width-most}
 use Rattle.text.proofs.Bools.{neither, cond-cases, cases}
 use Rattle.wrapping.specs.declared.Rule.{Rule}
 use Rattle.wrapping.specs.Wrapping.{Pending, Step, Wrapped, empty, emptyPending, overWide, mustJoin, takesSpaces, gathered, joined, full, fitting, afterFitting, emptied, appended, step, lastLines, atLeastOne, wrapFrom, wrap}
@@ -207,11 +209,11 @@ pub one-cell : (u : Rule) (gs : List Glyph) → Widths 1 1 gs → NoWider (u .li
 one-cell u =
     lines-narrow u (record { least = 1; most = 1; tight = u .limit; wide = u .limit }) refl refl (omega arith) (omega arith)
 
-pub any-cells : (u : Rule) (gs : List Glyph) → Widths 0 7 gs → NoWider (u .limit + 13) (wrap u gs .lines)
+pub any-cells : (u : Rule) (gs : List Glyph) → Widths 0 6 gs → NoWider (u .limit + 11) (wrap u gs .lines)
 any-cells u =
-    lines-narrow u (record { least = 0; most = 7; tight = u .limit + 6; wide = u .limit + 13 })
+    lines-narrow u (record { least = 0; most = 6; tight = u .limit + 5; wide = u .limit + 11 })
     (omega arith) (omega arith) (omega arith) (omega arith)
 
-pub numbered-widths : (k : ℕ) (rs : List ℕ) → Widths 0 7 (numbered k rs)
-numbered-widths k [] = none
-numbered-widths k (r ∷ rs) = one {g = glyphFrom k r} (omega arith) (omega arith) (numbered-widths (suc k) rs)
+pub numbered-widths : (a : AmbiguousWidth) (k : ℕ) (rs : List ℕ) → Widths 0 6 (numbered a k rs)
+numbered-widths a k [] = none
+numbered-widths a k (r ∷ rs) = one {g = glyphFrom a k r} (omega arith) (width-most a r) (numbered-widths a (suc k) rs)

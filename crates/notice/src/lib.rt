@@ -12,6 +12,7 @@ pub use line_composer::Wrap;
 pub use padding::Padding;
 pub use paragraph::Notice;
 pub use text::Alignment;
+pub use text::AmbiguousWidth;
 pub use text::TitlePosition;
 
 // Answers.

@@ -19,8 +19,8 @@ ghost use Rattle.measure.specs.LineWidth.{callOf as widthCall, answerOf as widt
 ghost use Rattle.draw_block.specs.Call.{callOf as blockCall, answerOf as blockAnswer, cellsAfter as blockCells, blockAnswerNumber};
 ghost use Rattle.draw_notice.specs.Call.{callOf as noticeCall, answerOf as noticeAnswer, cellsAfter as noticeCells};
 ghost use Rattle.count_pages.specs.Call.{answerOf as pagesAnswer};
-ghost use Rattle.flat.specs.FlatExtra.{flagNamed, alignmentNamed, wrapNamed, areaFrom, blockKnown, blockFrom, textKnown, noticeFrom};
-ghost use Rattle.flat_answers.specs.AnswerExtra.{unknownNumber, listKnown, tallyKnown};
+ghost use Rattle.flat.specs.FlatExtra.{flagNamed, alignmentNamed, ambiguousKnown, ambiguousNamed, tallyKnown, listKnown, wrapNamed, areaFrom, blockKnown, blockFrom, textKnown, noticeFrom};
+ghost use Rattle.flat_answers.specs.AnswerExtra.{unknownNumber};
 ghost use Rattle.flat_answers.specs.AnswerExtra.{listFlat, tallyFlat, areaFlat, drawFlat, measureFlat, pagesFlat};
 ghost use Rattle.flat_answers.specs.AnswerExtra.{listUnknown, tallyUnknown, areaUnknown, drawUnknown, measureUnknown, pagesUnknown};
 
@@ -28,41 +28,38 @@ ghost use Rattle.flat_answers.specs.AnswerExtra.{listUnknown, tallyUnknown, are
 #[no_mangle]
 pub extern "C" fn notice_list_lines(
     text: &[u32],
+    ambiguous: u8,
     alignment: u8,
     limit: u16,
     trim: u8,
     list: &mut [u64],
 ) -> FlatListAnswer
     ensures { λ r.
-        let known = listKnown alignment trim in
-        let call = listCall (now (text .entry)) (alignmentNamed alignment) limit (flagNamed trim) (now (list .entry)) in
+        let known = listKnown ambiguous alignment trim in
+        let call = listCall (now (text .entry)) (ambiguousNamed ambiguous) (alignmentNamed alignment) limit (flagNamed trim) (now (list .entry)) in
         ⌜ (r ≡ cond known (listFlat (listAnswer call)) listUnknown)
         × (now (list .exit) ≡ cond known (listAfter call) (now (list .entry))) ⌝ }
 {
-    if 2 < alignment {
+    if !flat::list_known(ambiguous, alignment, trim) {
         return FlatListAnswer {
             lines: 0,
             number: 255,
         };
     }
-    if 1 < trim {
-        return FlatListAnswer {
-            lines: 0,
-            number: 255,
-        };
-    }
+    let reading = flat::ambiguous_named(ambiguous);
     let default_alignment = flat::alignment_named(alignment);
-    flat_answers::list_answer(notice::list_lines(text, default_alignment, limit, trim == 1, list))
+    let listed = notice::list_lines(text, reading, default_alignment, limit, trim == 1, list);
+    flat_answers::list_answer(listed)
 }
 
 // Tallies a text at a limit.
 #[no_mangle]
-pub extern "C" fn notice_tally(text: &[u32], limit: u16, trim: u8) -> FlatTallyAnswer
+pub extern "C" fn notice_tally(text: &[u32], ambiguous: u8, limit: u16, trim: u8) -> FlatTallyAnswer
     ensures { λ r.
-        let call = tallyCall (now (text .entry)) limit (flagNamed trim) in
-        ⌜ r ≡ cond (tallyKnown trim) (tallyFlat (tallyAnswer call)) tallyUnknown ⌝ }
+        let call = tallyCall (now (text .entry)) (ambiguousNamed ambiguous) limit (flagNamed trim) in
+        ⌜ r ≡ cond (tallyKnown ambiguous trim) (tallyFlat (tallyAnswer call)) tallyUnknown ⌝ }
 {
-    if 1 < trim {
+    if !flat::tally_known(ambiguous, trim) {
         return FlatTallyAnswer {
             number: 255,
             lines: 0,
@@ -73,7 +70,8 @@ pub extern "C" fn notice_tally(text: &[u32], limit: u16, trim: u8) -> FlatTallyA
             dropped: 0,
         };
     }
-    flat_answers::tally_answer(notice::tally(text, limit, trim == 1))
+    let reading = flat::ambiguous_named(ambiguous);
+    flat_answers::tally_answer(notice::tally(text, reading, limit, trim == 1))
 }
 
 // Returns the inner area of a block.
@@ -103,20 +101,33 @@ pub extern "C" fn notice_draw_block(
     cells: &mut [u64],
     styles: &[u64],
     titles: &[u32],
+    ambiguous: u8,
     area: FlatArea,
     block: FlatBlock,
 ) -> u32
     ensures { λ r.
+        let known = blockKnown block && ambiguousKnown ambiguous in
         let lent = now (cells .entry) in
-        let call = blockCall columns rows lent (now (styles .entry)) (now (titles .entry)) (areaFrom area) (blockFrom block) in
-        ⌜ (r ≡ cond (blockKnown block) (blockAnswerNumber (blockAnswer call)) unknownNumber)
-        × (now (cells .exit) ≡ cond (blockKnown block) (blockCells call) lent) ⌝ }
+        let reading = ambiguousNamed ambiguous in
+        let call = blockCall columns rows lent (now (styles .entry)) (now (titles .entry)) reading (areaFrom area) (blockFrom block) in
+        ⌜ (r ≡ cond known (blockAnswerNumber (blockAnswer call)) unknownNumber)
+        × (now (cells .exit) ≡ cond known (blockCells call) lent) ⌝ }
 {
-    if !block.is_known() {
+    if !flat::titled_known(block, ambiguous) {
         return 255;
     }
+    let reading = flat::ambiguous_named(ambiguous);
     let drawn = block.block();
-    let framed = notice::draw_block(columns, rows, cells, styles, titles, area.area(), drawn);
+    let framed = notice::draw_block(
+        columns,
+        rows,
+        cells,
+        styles,
+        titles,
+        reading,
+        area.area(),
+        drawn,
+    );
     flat_answers::framed_number(framed)
 }
 
@@ -208,7 +219,7 @@ pub extern "C" fn notice_pages(
     flat_answers::pages_answer(counted)
 }
 
-// Returns the number of lines of a notice at a width, the frame's included. Only `wrap` of the text's settings is used, but
+// Returns the number of lines of a notice at a width, the frame's included. Only `wrap` and `ambiguous` of the text's settings are used, but
 // all numbers that should name a case are checked.
 #[no_mangle]
 pub extern "C" fn notice_line_count(
@@ -219,7 +230,7 @@ pub extern "C" fn notice_line_count(
     width: u16,
 ) -> FlatMeasureAnswer
     ensures { λ r.
-        let call = countCall (now (text .entry)) (now (titles .entry)) (blockFrom block) (wrapNamed settings) width in
+        let call = countCall (now (text .entry)) (ambiguousNamed (settings .ambiguous)) (now (titles .entry)) (blockFrom block) (wrapNamed settings) width in
         ⌜ r ≡ cond (blockKnown block && textKnown settings) (measureFlat (countAnswer call)) measureUnknown ⌝ }
 {
     if !flat::all_known(block, settings) {
@@ -229,25 +240,29 @@ pub extern "C" fn notice_line_count(
         };
     }
     let wrap = settings.named_wrap();
-    flat_answers::measure_answer(notice::line_count(text, titles, block.block(), wrap, width))
+    let reading = flat::ambiguous_named(settings.ambiguous);
+    let counted = notice::line_count(text, reading, titles, block.block(), wrap, width);
+    flat_answers::measure_answer(counted)
 }
 
 // Returns the number of columns that a notice needs.
 #[no_mangle]
 pub extern "C" fn notice_line_width(
     text: &[u32],
+    ambiguous: u8,
     titles: &[u32],
     block: FlatBlock,
 ) -> FlatMeasureAnswer
     ensures { λ r.
-        let call = widthCall (now (text .entry)) (now (titles .entry)) (blockFrom block) in
-        ⌜ r ≡ cond (blockKnown block) (measureFlat (widthAnswer call)) measureUnknown ⌝ }
+        let call = widthCall (now (text .entry)) (ambiguousNamed ambiguous) (now (titles .entry)) (blockFrom block) in
+        ⌜ r ≡ cond (blockKnown block && ambiguousKnown ambiguous) (measureFlat (widthAnswer call)) measureUnknown ⌝ }
 {
-    if !block.is_known() {
+    if !flat::titled_known(block, ambiguous) {
         return FlatMeasureAnswer {
             number: 255,
             value: 0,
         };
     }
-    flat_answers::measure_answer(notice::line_width(text, titles, block.block()))
+    let reading = flat::ambiguous_named(ambiguous);
+    flat_answers::measure_answer(notice::line_width(text, reading, titles, block.block()))
 }

@@ -12,6 +12,7 @@ use Rattle.buffer.specs.Drawing.{Drawing, drawn, over, inOrder, styleAt}
 use Rattle.buffer.proofs.Drawn.{drawn-at}
 use Rattle.buffer.proofs.Over.{inside-there}
 use Rattle.buffer.proofs.Within.{cell-inside}
+use Rattle.titles.specs.Titles.{titlesFrom}
 use Rattle.render_block.specs.Frame.{frame, blockOf}
 use Rattle.render_block.proofs.KeepsSymbols.{KeepsSymbol, order-keeps, style-keeps}
 use Rattle.render_block.proofs.Keeps.{block-keeps}
@@ -29,7 +30,7 @@ use Rattle.pages.proofs.Screen.{met, accepted-at, met-some, inner-there
 abbrev beforeLines : Call → List Drawing
 beforeLines i =
     over (met i) (styled (styleAt (i .styles) (i .notice .style)))
-    ∷ frame (i .styles) (screenIn i) (i .titles) (i .notice .block) (met i)
+    ∷ frame (i .styles) (screenIn i) (titlesFrom (i .notice .ambiguous) (i .titles)) (i .notice .block) (met i)
     ∷ over (innerArea i) (styled (styleAt (i .styles) (i .notice .style)))
     ∷ []
 
@@ -47,10 +48,10 @@ module _ (i : Call) (w : WrappedNotice i) where
 
   -- the frame keeps the symbols of the inner area
   frame-keeps : (column row : ℕ) → contains (innerArea i) column row ≡ true
-      → KeepsSymbol (frame (i .styles) (screenIn i) (i .titles) (i .notice .block) (met i)) column row
+      → KeepsSymbol (frame (i .styles) (screenIn i) (titlesFrom (i .notice .ambiguous) (i .titles)) (i .notice .block) (met i)) column row
   unfolding innerArea innerAreaOf blockOf
   frame-keeps column row h cell =
-      rw (met-some i w) at (block-keeps (i .styles) (screenIn i) (i .notice .block) (i .titles) (i .area) column row h cell)
+      rw (met-some i w) at (block-keeps (i .styles) (screenIn i) (i .notice .ambiguous) (i .notice .block) (i .titles) (i .area) column row h cell)
 
   -- the cells of an accepted page
   page-cells : (scroll : ℕ) → cellsAfter (callAt i scroll)

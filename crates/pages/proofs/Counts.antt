@@ -145,7 +145,7 @@ module _ (i : Call) (w : WrappedNotice i) (accepted : (scroll : ℕ) → verdict
       → ((page : ℕ) → part (countsOf (pageCall i page)) ≡ sumOf count (take (innerArea i .height) (drop (scrollOf i page) (composedLines i))))
       → ((line : Line) → count line ≡ countOf test (startsFrom 0 (line .glyphs)))
       → summed 0 (pagesOf i) (λ page. part (countsOf (pageCall i page)))
-      ≡ countOf test (starts (lines (ruleOf (innerArea i .width) (w .trim)) WordWrap (i .notice .alignment) (i .text)))
+      ≡ countOf test (starts (lines (ruleOf (i .notice .ambiguous) (innerArea i .width) (w .trim)) WordWrap (i .notice .alignment) (i .text)))
   unfolding pagesOf
   pages-count part count test on-page of-line =
       summed-same 0 (pagesOf i) _ _ on-page
@@ -157,7 +157,7 @@ module _ (i : Call) (w : WrappedNotice i) (accepted : (scroll : ℕ) → verdict
   unfolding pagesOf lineCounts tally.countsOf
   same-counts reached answered =
       let width : ℕ = innerArea i .width in
-      let tally = tally-own (ruleOf width (w .trim)) (i .notice .alignment) (i .text) (inner-some i w .0) in
+      let tally = tally-own (ruleOf (i .notice .ambiguous) width (w .trim)) (i .notice .alignment) (i .text) (inner-some i w .0) in
       record {
         reached = reached;
         answered = answered;

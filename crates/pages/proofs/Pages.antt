@@ -22,16 +22,16 @@ use Rattle.pages.proofs.Counts.{same-counts}
 pages-reached : (i : Call) → WrappedNotice i → Reached i
 pages-reached i w page there = (reached-16 i w page there, accepted-at i w (scrollOf i page))
 
-pub pages : (i : Call) → WrappedNotice i → OneCell (glyphsFrom 0 (i .text)) → NothingLost i
+pub pages : (i : Call) → WrappedNotice i → OneCell (glyphsFrom (i .notice .ambiguous) 0 (i .text)) → NothingLost i
 unfolding placements
 pages i w cells =
     let inner = innerArea i in
     let default = i .notice .alignment in
-    let rule = ruleOf (inner .width) (w .trim) in
+    let rule = ruleOf (i .notice .ambiguous) (inner .width) (w .trim) in
     let opens = text-sound i (w .accepted) .opens in
     let fit : Fit (inner .width) (composedLines i) = rw (wrapped-lines i w) (fit-text rule default (i .text) (inner-some i w .0) opens cells) in
     let places = pages-read i w fit in
-    let glyphs : map (λ (p : Placement). p .glyph) (placements i) ≡ solids (glyphsFrom 0 (i .text)) = rw (wrapped-lines i w) (placed-glyphs inner rule default (i .text) refl (inner-some i w .0) opens cells) in
+    let glyphs : map (λ (p : Placement). p .glyph) (placements i) ≡ solids (glyphsFrom (i .notice .ambiguous) 0 (i .text)) = rw (wrapped-lines i w) (placed-glyphs inner rule default (i .text) refl (inner-some i w .0) opens cells) in
     record {
       reached = pages-reached i w;
       symbols =

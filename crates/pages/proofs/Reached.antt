@@ -63,19 +63,19 @@ module _ (i : Call) (w : WrappedNotice i) where
       rw (no-cause causes TextLength (w .accepted), no-cause causes TextHeads (w .accepted), le-ltb 4096 (innerArea i .width) (omega (arith, few-columns)))
 
   -- the notice's lines are wrapped, and no more than the text's records
-  pub wrapped-lines : composedLines i ≡ lines (ruleOf (innerArea i .width) (w .trim)) WordWrap (i .notice .alignment) (i .text)
+  pub wrapped-lines : composedLines i ≡ lines (ruleOf (i .notice .ambiguous) (innerArea i .width) (w .trim)) WordWrap (i .notice .alignment) (i .text)
   unfolding composedLines noticeLines
   wrapped-lines = rw (w .wrapped)
 
   -- as many as with default alignment left
-  pub left-lines : length (composedLines i) ≡ length (lines (ruleOf (innerArea i .width) (w .trim)) WordWrap Left (i .text))
+  pub left-lines : length (composedLines i) ≡ length (lines (ruleOf (i .notice .ambiguous) (innerArea i .width) (w .trim)) WordWrap Left (i .text))
   unfolding lineCounts
   left-lines =
       ap length wrapped-lines
-      ∙ ap (λ (c : LineCounts). c .lines) (default-alignment-irrelevant (ruleOf (innerArea i .width) (w .trim)) (i .text) (i .notice .alignment) Left)
+      ∙ ap (λ (c : LineCounts). c .lines) (default-alignment-irrelevant (ruleOf (i .notice .ambiguous) (innerArea i .width) (w .trim)) (i .text) (i .notice .alignment) Left)
 
   pub few-lines : length (composedLines i) ≤ 16384
-  few-lines = rw wrapped-lines (omega (arith, text-short, lines-short (ruleOf (innerArea i .width) (w .trim)) (i .notice .alignment) (i .text)))
+  few-lines = rw wrapped-lines (omega (arith, text-short, lines-short (ruleOf (i .notice .ambiguous) (innerArea i .width) (w .trim)) (i .notice .alignment) (i .text)))
 
   pub reached-16 : (page : ℕ) → page < pagesOf i → scrollOf i page < 65536
   unfolding pagesOf

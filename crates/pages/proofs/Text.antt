@@ -65,16 +65,16 @@ one-wide (g ∷ gs) h = one {g = g} (omega (arith, h .0 .0)) (omega (arith, h .0
 
 module _ (u : Rule) (some : 0 < u .limit) where
   -- wrapping adds no glyph
-  wrapped-fit : (ls : List TextLine) → countOf unfit (glyphsOfAll (wrapped u ls)) ≤ countOf unfit (lineGlyphs ls)
+  wrapped-fit : (ls : List TextLine) → countOf unfit (glyphsOfAll (wrapped u ls)) ≤ countOf unfit (lineGlyphs (u .ambiguous) ls)
   wrapped-fit [] = omega arith
-  wrapped-fit (line ∷ rest) = simp (glyphs-append, count-append) (omega (arith, accounted u (glyphsOf line) some unfit, wrapped-fit rest))
+  wrapped-fit (line ∷ rest) = simp (glyphs-append, count-append) (omega (arith, accounted u (glyphsOf (u .ambiguous) line) some unfit, wrapped-fit rest))
 
-  wrapped-narrow : (ls : List TextLine) → countOf unfit (lineGlyphs ls) ≡ 0 → NoWider (u .limit) (wrapped u ls)
+  wrapped-narrow : (ls : List TextLine) → countOf unfit (lineGlyphs (u .ambiguous) ls) ≡ 0 → NoWider (u .limit) (wrapped u ls)
   wrapped-narrow [] e = none
   wrapped-narrow (line ∷ rest) e =
-      let parts = count-append unfit (glyphsOf line) (lineGlyphs rest) in
+      let parts = count-append unfit (glyphsOf (u .ambiguous) line) (lineGlyphs (u .ambiguous) rest) in
       no-wider-append
-      (one-cell u (glyphsOf line) (one-wide (glyphsOf line) (all-fit (glyphsOf line) (omega arith))))
+      (one-cell u (glyphsOf (u .ambiguous) line) (one-wide (glyphsOf (u .ambiguous) line) (all-fit (glyphsOf (u .ambiguous) line) (omega arith))))
       (wrapped-narrow rest (omega arith))
 
   -- step 1 skips no glyph of one cell
@@ -83,12 +83,12 @@ module _ (u : Rule) (some : 0 < u .limit) where
   none-skipped [] h = refl
   none-skipped (g ∷ gs) h = rw (le-ltb (u .limit) (g .width) (omega (arith, h .0 .0)), none-skipped gs (h .1))
 
-  wrapped-solids : (ls : List TextLine) → countOf unfit (lineGlyphs ls) ≡ 0 → solids (glyphsOfAll (wrapped u ls)) ≡ solids (lineGlyphs ls)
+  wrapped-solids : (ls : List TextLine) → countOf unfit (lineGlyphs (u .ambiguous) ls) ≡ 0 → solids (glyphsOfAll (wrapped u ls)) ≡ solids (lineGlyphs (u .ambiguous) ls)
   wrapped-solids [] e = refl
   wrapped-solids (line ∷ rest) e =
-      let parts = count-append unfit (glyphsOf line) (lineGlyphs rest) in
-      let kept = none-skipped (glyphsOf line) (all-fit (glyphsOf line) (omega arith)) in
-      simp (glyphs-append, solids-append, no-solid-lost u (glyphsOf line) some, kept, wrapped-solids rest (omega arith))
+      let parts = count-append unfit (glyphsOf (u .ambiguous) line) (lineGlyphs (u .ambiguous) rest) in
+      let kept = none-skipped (glyphsOf (u .ambiguous) line) (all-fit (glyphsOf (u .ambiguous) line) (omega arith)) in
+      simp (glyphs-append, solids-append, no-solid-lost u (glyphsOf (u .ambiguous) line) some, kept, wrapped-solids rest (omega arith))
 
 fit-lists : (most : ℕ) (ls : List Line) → countOf unfit (glyphsOfAll (lists ls)) ≡ 0 → NoWider most (lists ls) → Fit most ls
 fit-lists most [] e n = tt
@@ -134,26 +134,26 @@ all-placed inner number (line ∷ rest) f =
 
 -- ---- the text
 
-module _ (text : List ℕ) (opens : Opens text) where
-  same-glyphs : lineGlyphs (linesFrom 0 text) ≡ glyphsFrom 0 text
-  same-glyphs = all-glyphs 0 text (opens-none text opens)
+module _ (u : Rule) (text : List ℕ) (opens : Opens text) where
+  same-glyphs : lineGlyphs (u .ambiguous) (linesFrom 0 text) ≡ glyphsFrom (u .ambiguous) 0 text
+  same-glyphs = all-glyphs (u .ambiguous) 0 text (opens-none text opens)
 
-  lines-fit : OneCell (glyphsFrom 0 text) → countOf unfit (lineGlyphs (linesFrom 0 text)) ≡ 0
-  lines-fit cells = ap (countOf unfit) same-glyphs ∙ none-unfit (glyphsFrom 0 text) cells
+  lines-fit : OneCell (glyphsFrom (u .ambiguous) 0 text) → countOf unfit (lineGlyphs (u .ambiguous) (linesFrom 0 text)) ≡ 0
+  lines-fit cells = ap (countOf unfit) same-glyphs ∙ none-unfit (glyphsFrom (u .ambiguous) 0 text) cells
 
-pub fit-text : (u : Rule) (default : Alignment) (text : List ℕ) → 0 < u .limit → Opens text → OneCell (glyphsFrom 0 text)
+pub fit-text : (u : Rule) (default : Alignment) (text : List ℕ) → 0 < u .limit → Opens text → OneCell (glyphsFrom (u .ambiguous) 0 text)
     → Fit (u .limit) (lines u WordWrap default text)
 fit-text u default text some opens cells =
-    let fit = lines-fit text opens cells in
+    let fit = lines-fit u text opens cells in
     fit-lists (u .limit) (lines u WordWrap default text)
     (rw (lines-wrapped u default text) (omega (arith, wrapped-fit u some (linesFrom 0 text))))
     (rw (lines-wrapped u default text) (wrapped-narrow u some (linesFrom 0 text) fit))
 
 pub placed-glyphs : (inner : Rect) (u : Rule) (default : Alignment) (text : List ℕ) → u .limit ≡ inner .width → 0 < u .limit → Opens text
-    → OneCell (glyphsFrom 0 text)
-    → map (λ (p : Placement). p .glyph) (placementsFrom inner 0 (lines u WordWrap default text)) ≡ solids (glyphsFrom 0 text)
+    → OneCell (glyphsFrom (u .ambiguous) 0 text)
+    → map (λ (p : Placement). p .glyph) (placementsFrom inner 0 (lines u WordWrap default text)) ≡ solids (glyphsFrom (u .ambiguous) 0 text)
 placed-glyphs inner u default text limit some opens cells =
     all-placed inner 0 (lines u WordWrap default text) (subst (λ (most : ℕ). Fit most (lines u WordWrap default text)) limit (fit-text u default text some opens cells))
     ∙ ap (λ (ls : List (List Glyph)). solids (glyphsOfAll ls)) (lines-wrapped u default text)
-    ∙ wrapped-solids u some (linesFrom 0 text) (lines-fit text opens cells)
-    ∙ ap solids (same-glyphs text opens)
+    ∙ wrapped-solids u some (linesFrom 0 text) (lines-fit u text opens cells)
+    ∙ ap solids (same-glyphs u text opens)

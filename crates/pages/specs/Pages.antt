@@ -24,6 +24,7 @@ scrolledTo scroll n =
       alignment = n .alignment;
       wrap = n .wrap;
       scroll = scroll;
+      ambiguous = n .ambiguous;
     }
 
 -- "each starts on blank cells"

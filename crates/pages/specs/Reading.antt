@@ -89,11 +89,11 @@ BlankElsewhere i =
 pub record NothingLost (i : Call) : Type 0 where
   pub reached : Reached i
   -- "the symbols … are exactly those of its text's non-whitespace glyphs"
-  pub symbols : map (λ (s : Seen). s .symbol) (pagesRead i) ≡ map (λ (g : Glyph). g .symbol) (solids (glyphsFrom 0 (i .text)))
+  pub symbols : map (λ (s : Seen). s .symbol) (pagesRead i) ≡ map (λ (g : Glyph). g .symbol) (solids (glyphsFrom (i .notice .ambiguous) 0 (i .text)))
   -- "on the page and in the cell document 01 gives it, and nothing else is"
   pub places : pagesRead i ≡ map seen (placements i)
   -- "Each is there once, in text order"
-  pub glyphs : map (λ (p : Placement). p .glyph) (placements i) ≡ solids (glyphsFrom 0 (i .text))
+  pub glyphs : map (λ (p : Placement). p .glyph) (placements i) ≡ solids (glyphsFrom (i .notice .ambiguous) 0 (i .text))
   pub blank-elsewhere : BlankElsewhere i
 
 -- Demand 3, the counts of a tally call, for glyphs of any width: "placed + clipped + zero-width + over-wide + dropped = glyphs",
@@ -101,12 +101,12 @@ pub record NothingLost (i : Call) : Type 0 where
 pub record AllCounted (call : tally.Call) : Type 0 where
   pub all-glyphs :
       let c = tally.countsOf call in
-      c .placed + c .clipped + c .«zero_width» + c .«over_wide» + c .dropped ≡ length (glyphsFrom 0 (call .text))
+      c .placed + c .clipped + c .«zero_width» + c .«over_wide» + c .dropped ≡ length (glyphsFrom (call .ambiguous) 0 (call .text))
   pub all-whitespace : solids (dropped (tally.ruleIn call) (call .text)) ≡ []
 
 -- the tally of a notice's text at the inner width
 abbrev pub pagesTally : Call → Bool → tally.Call
-pagesTally i trim = tally.callOf (i .text) (innerArea i .width) trim
+pagesTally i trim = tally.callOf (i .text) (i .notice .ambiguous) (innerArea i .width) trim
 
 -- More than demand 3 asks; it relates the pages to the counts, for glyphs of any width: the tally of the text at the inner width
 -- is accepted, and the counts of the pages' answers add up to it.
@@ -120,6 +120,6 @@ pub record SameCounts (i : Call) (trim : Bool) : Type 0 where
 -- Demand 3 as one claim: the pages of every such notice whose glyphs are one cell wide; the tally of every accepted text at every
 -- limit above 0, for glyphs of any width; and the pages' counts, which are the tally's.
 pub record DemandThree : Type 0 where
-  pub nothing-lost : (i : Call) → WrappedNotice i → OneCell (glyphsFrom 0 (i .text)) → NothingLost i
+  pub nothing-lost : (i : Call) → WrappedNotice i → OneCell (glyphsFrom (i .notice .ambiguous) 0 (i .text)) → NothingLost i
   pub all-counted : (call : tally.Call) → tally.verdictOf call ≡ Accepted → 0 < call .limit → AllCounted call
   pub same-counts : (i : Call) (w : WrappedNotice i) → SameCounts i (w .trim)

@@ -43,6 +43,6 @@ module _ (styles : List ℕ) (screen : Screen) (few : screen .columns < 2 ^ 15) 
       record {
         in-met = λ here. absurd (true≢false (sym here ∙ outside));
         in-inner = in-no-inner (n .block) titles met column row small outside;
-        frame-keeps = frame-leaves styles (n .block) met small column row outside screen titles unshadowed;
+        frame-keeps = frame-leaves styles (n .block) met small column row outside (n .ambiguous) screen titles unshadowed;
       })
       cell

@@ -42,7 +42,7 @@ inner-on-screen screen count b titles met on few-columns few-rows e =
 
 -- the settings for the text of a notice
 abbrev textSettings : Notice → TextSettings
-textSettings n = record { style = n .style; «text_style» = n .«text_style»; alignment = n .alignment; wrap = n .wrap; scroll = n .scroll }
+textSettings n = record { style = n .style; «text_style» = n .«text_style»; alignment = n .alignment; wrap = n .wrap; scroll = n .scroll; ambiguous = n .ambiguous }
 
 module _ (columns : ℕ) (styles text : List ℕ) (n : Notice) (inner : Rect) (cells : List ℕ) where
   -- a non-empty area gets its style, then its lines

@@ -10,6 +10,7 @@ use Rattle.block.specs.Inner.{innerOf}
 use Rattle.buffer.specs.declared.Screen.{Screen}
 use Rattle.buffer.specs.Drawing.{over, onlyIf, inOrder, areaOf, styleAt}
 use Rattle.buffer.proofs.Keeping.{Keeps, InksKeep, order-keeps, only-keeps}
+use Rattle.titles.specs.Titles.{titlesFrom}
 use Rattle.render_block.specs.Frame.{frame}
 use Rattle.render_block.proofs.Keeping.{style-keeps}
 use Rattle.render_lines.specs.Rows.{textOn}
@@ -26,7 +27,7 @@ not-true false h = refl
 pub record NoticeParts (read : ℕ → ℕ) (column row : ℕ) (styles : List ℕ) (screen : Screen) (titles : List ℕ) (n : Notice) (met : Rect) : Type 0 where
   pub in-met : contains met column row ≡ true → InksKeep read
   pub in-inner : contains (innerOf (n .block) titles met) column row ≡ true → InksKeep read
-  pub frame-keeps : Keeps read (frame styles screen titles (n .block) met) column row
+  pub frame-keeps : Keeps read (frame styles screen (titlesFrom (n .ambiguous) titles) (n .block) met) column row
 
 module _ (read : ℕ → ℕ) (column row : ℕ) (styles text : List ℕ) (n : Notice) where
   inside-keeps : (inner : Rect) → (contains inner column row ≡ true → InksKeep read) → Keeps read (insideOf styles text n inner) column row
@@ -49,7 +50,7 @@ module _ (read : ℕ → ℕ) (column row : ℕ) (styles text : List ℕ) (n : N
   notice-keeps screen titles area parts =
       let met = meet area (areaOf screen) in
       let first = over met (styled (styleAt styles (n .style))) in
-      let second = frame styles screen titles (n .block) met in
+      let second = frame styles screen (titlesFrom (n .ambiguous) titles) (n .block) met in
       let third = insideOf styles text n (innerOf (n .block) titles met) in
       only-keeps read column row (not (isEmpty met)) (inOrder (first ∷ second ∷ third ∷ []))
       (λ some.

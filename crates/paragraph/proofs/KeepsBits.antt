@@ -9,6 +9,7 @@ use Rattle.buffer.specs.declared.Screen.{Screen}
 use Rattle.buffer.specs.Drawing.{areaOf}
 use Rattle.buffer.proofs.Keeping.{untouchedBits, inks-keep-bits}
 use Rattle.render_block.proofs.KeepsBits.{frame-keeps-bits}
+use Rattle.titles.specs.Titles.{titlesFrom}
 use Rattle.paragraph.specs.declared.Notice.{Notice}
 use Rattle.paragraph.specs.Notice.{noticeOf}
 use Rattle.paragraph.proofs.Keeping.{notice-keeps}
@@ -21,6 +22,6 @@ keeps-bits styles screen text titles n area column row cell =
     record {
       in-met = λ _. inks-keep-bits;
       in-inner = λ _. inks-keep-bits;
-      frame-keeps = frame-keeps-bits styles screen titles (n .block) column row (meet area (areaOf screen));
+      frame-keeps = frame-keeps-bits styles screen (titlesFrom (n .ambiguous) titles) (n .block) column row (meet area (areaOf screen));
     })
     cell

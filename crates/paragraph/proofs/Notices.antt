@@ -18,6 +18,7 @@ use Rattle.buffer.specs.InkExtra.{inked}
 use Rattle.buffer.specs.PartsExtra.{OnScreen}
 use Rattle.buffer.proofs.Drawn.{drawn-also}
 use Rattle.buffer.proofs.Order.{first-then, only-drawn, only-spared}
+use Rattle.titles.specs.Titles.{titlesFrom}
 use Rattle.render_block.specs.Frame.{frame}
 use Rattle.buffer.specs.PartsExtra.{HasCells}
 use Rattle.render_block.proofs.Frames.{met-on-screen}
@@ -39,8 +40,8 @@ module _ (columns : ℕ) (styles text titles : List ℕ) (screen : Screen) (n : 
   -- the notice's style, then the frame
   pub style-and-frame : (met : Rect) (style : ℕ) (first last : List ℕ) → style ≡ styleAt styles (n .style)
       → first ≡ drawn columns (over met (inked (Style style))) cells
-      → last ≡ drawn columns (frame styles screen titles (n .block) met) first
-      → last ≡ drawn columns (inOrder (over met (styled (styleAt styles (n .style))) ∷ frame styles screen titles (n .block) met ∷ [])) cells
+      → last ≡ drawn columns (frame styles screen (titlesFrom (n .ambiguous) titles) (n .block) met) first
+      → last ≡ drawn columns (inOrder (over met (styled (styleAt styles (n .style))) ∷ frame styles screen (titlesFrom (n .ambiguous) titles) (n .block) met ∷ [])) cells
   unfolding inked
   style-and-frame met style first last e p q = first-then columns _ (_ ∷ []) cells first last (rw e at p) q
 
@@ -57,7 +58,7 @@ module _ (columns : ℕ) (styles text titles : List ℕ) (screen : Screen) (n : 
 
     -- a non-empty meeting gets the frame, then the inner area
     pub notice-drawn : empty ≡ false → 0 < columns → (first last : List ℕ)
-        → first ≡ drawn columns (inOrder (over met (styled (styleAt styles (n .style))) ∷ frame styles screen titles (n .block) met ∷ [])) cells
+        → first ≡ drawn columns (inOrder (over met (styled (styleAt styles (n .style))) ∷ frame styles screen (titlesFrom (n .ambiguous) titles) (n .block) met ∷ [])) cells
         → last ≡ drawn columns (insideOf styles text n (innerOf (n .block) titles met)) first
         → last ≡ drawn columns (noticeOf styles screen text titles n area) cells
     unfolding noticeOf innerAreaOf

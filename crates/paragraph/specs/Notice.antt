@@ -8,6 +8,7 @@ use Rattle.layout.specs.Rect.{meet, isEmpty}
 use Rattle.block.specs.Inner.{innerOf}
 use Rattle.buffer.specs.declared.Screen.{Screen}
 use Rattle.buffer.specs.Drawing.{Drawing, over, onlyIf, inOrder, areaOf, styleAt}
+use Rattle.titles.specs.Titles.{titlesFrom}
 use Rattle.render_block.specs.Frame.{frame}
 use Rattle.line_composer.specs.Lines.{Line, lines}
 use Rattle.line_composer.specs.Wrap.{methodOf, ruleAt}
@@ -17,7 +18,7 @@ use Rattle.paragraph.specs.declared.Notice.{Notice}
 
 -- the lines of a notice, "composed with the inner width as the limit"
 unfoldable pub noticeLines : Notice → List ℕ → ℕ → List Line
-noticeLines n text width = lines (ruleAt (n .wrap) width) (methodOf (n .wrap)) (n .alignment) text
+noticeLines n text width = lines (ruleAt (n .ambiguous) (n .wrap) width) (methodOf (n .wrap)) (n .alignment) text
 
 -- "inner area of the met area"
 unfoldable pub innerAreaOf : Screen → List ℕ → Notice → Rect → Rect
@@ -39,7 +40,7 @@ noticeOf styles screen text titles n area =
     onlyIf (not (isEmpty met))
     (inOrder
     (over met (styled (styleAt styles (n .style)))
-    ∷ frame styles screen titles (n .block) met
+    ∷ frame styles screen (titlesFrom (n .ambiguous) titles) (n .block) met
     ∷ insideOf styles text n (innerAreaOf screen titles n area)
     ∷ []))
 

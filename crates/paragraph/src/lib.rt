@@ -7,6 +7,7 @@ use line_composer::Wrap;
 use render_lines::DrawCounts;
 use render_text::TextSettings;
 use text::Alignment;
+use text::AmbiguousWidth;
 ghost use mathlib.Core.Path.{_≡_};
 ghost use mathlib.Core.Bool.{false};
 ghost use mathlib.Core.List.{[], _∷_};
@@ -20,12 +21,13 @@ ghost use Rattle.buffer.specs.PartsExtra.{OnScreen};
 ghost use Rattle.buffer.specs.PartsExtra.{HasCells};
 ghost use Rattle.block.specs.Causes.{SymbolsFit};
 ghost use Rattle.block.specs.Inner.{innerOf};
+ghost use Rattle.titles.specs.Titles.{titlesFrom};
 ghost use Rattle.render_block.specs.Frame.{frame};
 ghost use Rattle.render_lines.specs.DrawingExtra.{Composable};
 ghost use Rattle.paragraph.specs.Notice.{insideOf, insideCounts, noticeOf, noticeCounts};
 
 // Settings of a notice (paragraph.rs: `Paragraph`). `style` and `text_style` are style numbers, `alignment` is the default of its lines,
-// `scroll` the first line drawn.
+// `scroll` the first line drawn, `ambiguous` how ambiguous glyphs of text and titles are read.
 pub struct Notice {
     pub block: Block,
     pub style: u8,
@@ -33,6 +35,7 @@ pub struct Notice {
     pub alignment: Alignment,
     pub wrap: Wrap,
     pub scroll: u16,
+    pub ambiguous: AmbiguousWidth,
 }
 
 // Draws the text in the inner area of `met`, which is on the screen; nothing if the inner area is empty.
@@ -65,12 +68,14 @@ fn render_paragraph(
     }
     let alignment = notice.alignment;
     let wrap = notice.wrap;
+    let ambiguous = notice.ambiguous;
     let inside = TextSettings {
         style: notice.style,
         text_style: notice.text_style,
         alignment,
         wrap,
         scroll: notice.scroll,
+        ambiguous,
     };
     render_text::render_text(screen, cells, styles, text, inner, inside)
 }
@@ -88,12 +93,13 @@ fn render_style_and_frame(
     requires { ⌜ OnScreen screen (length (now cells)) met ⌝ }
     ensures { λ _.
         let under = over met (styled (styleAt (now (styles .entry)) (notice .style))) in
-        let around = frame (now (styles .entry)) screen (now (titles .entry)) (notice .block) met in
+        let around = frame (now (styles .entry)) screen (titlesFrom (notice .ambiguous) (now (titles .entry))) (notice .block) met in
         ⌜ now (cells .exit) ≡ drawn (screen .columns) (inOrder (under ∷ around ∷ [])) (now (cells .entry)) ⌝ }
 {
+    let ambiguous = notice.ambiguous;
     let ink = Ink::Style(buffer::style_at(styles, notice.style));
     buffer::paint_area(screen, cells, met, ink);
-    render_block::render_frame(screen, cells, styles, titles, notice.block, met);
+    render_block::render_frame(screen, cells, styles, titles, ambiguous, notice.block, met);
 }
 
 // Draws a notice in the intersection of its area and the screen, and its shadow; nothing if the intersection is empty.

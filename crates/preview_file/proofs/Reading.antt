@@ -116,7 +116,7 @@ module _ (bytes : List ℕ) where
 
   pub text-read :
       (a b : ℕ) → a ≡ number2 bytes 79 → b ≡ number2 bytes 81 →
-      _≡_ {A = FlatText} (record { scroll = a; column = b; style = getD bytes 83 0; «text_style» = getD bytes 84 0; alignment = getD bytes 85 0; wrap = getD bytes 86 0 }) (textIn bytes)
+      _≡_ {A = FlatText} (record { scroll = a; column = b; style = getD bytes 83 0; «text_style» = getD bytes 84 0; alignment = getD bytes 85 0; wrap = getD bytes 86 0; ambiguous = 1 }) (textIn bytes)
   unfolding textIn
   text-read a b e f = rw (e, f) refl
 

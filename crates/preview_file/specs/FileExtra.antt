@@ -89,6 +89,7 @@ blockIn bytes =
       «shadow_style» = getD bytes 78 0;
     }
 
+-- the form doesn't say how ambiguous glyphs are read: 1, narrow
 unfoldable pub textIn : List ℕ → FlatText
 textIn bytes =
     record {
@@ -98,6 +99,7 @@ textIn bytes =
       «text_style» = getD bytes 84 0;
       alignment = getD bytes 85 0;
       wrap = getD bytes 86 0;
+      ambiguous = 1;
     }
 
 -- size of the fields before the styles

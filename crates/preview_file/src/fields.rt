@@ -91,6 +91,7 @@ fn block(input: &[u8]) -> FlatBlock
     }
 }
 
+// The form doesn't say how ambiguous glyphs are read: narrow, unless the program is told otherwise.
 fn text(input: &[u8]) -> FlatText
     requires { ⌜ openingBytes ≤ length (now input) ⌝ }
     ensures { λ r. ⌜ r ≡ textIn (now (input .entry)) ⌝ }
@@ -102,6 +103,7 @@ fn text(input: &[u8]) -> FlatText
         text_style: input[84],
         alignment: input[85],
         wrap: input[86],
+        ambiguous: 1,
     }
 }
 

@@ -2,7 +2,7 @@
 //
 //     NTC1 (4 bytes) | columns 2 | rows 2 | area: x 2, y 2, width 2, height 2
 //     the block: the fields of `flat::FlatBlock` in their order and sizes, the shadow's offsets as two's complement
-//     the text's settings: the fields of `flat::FlatText` in their order and sizes
+//     the text's settings: the fields of `flat::FlatText` in their order and sizes, without `ambiguous`
 //     count of styles 2 | count of title records 2 | count of text records 2
 //     the styles, 8 bytes each | the title records, 4 bytes each | the text records, 4 bytes each
 //

@@ -21,7 +21,7 @@ fn numbered(bytes: &[u8], number: u32) {
 }
 
 pub fn usage() {
-    text(b"usage: preview [FILE] [ansi] [page N]\n");
+    text(b"usage: preview [FILE] [wide] [ansi] [page N]\n");
 }
 
 pub fn not_opened() {

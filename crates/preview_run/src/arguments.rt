@@ -1,4 +1,4 @@
-// Parses the program's arguments: a file, `ansi`, and `page` with a number, each optional.
+// Parses the program's arguments: a file, `wide`, `ansi`, and `page` with a number, each optional.
 use crate::Asked;
 use preview_sheet::paging::Pages;
 ghost use Prim.Native.Nat.{_≤_};
@@ -6,6 +6,7 @@ ghost use Prim.Native.Nat.{_≤_};
 // Kind of an argument.
 enum Argument {
     Missing,
+    Wide,
     Ansi,
     Page,
     Other,
@@ -24,6 +25,9 @@ pub enum Request {
 }
 
 fn meaning(argument: &[u8]) -> Argument {
+    if check::same(argument, b"wide") {
+        return Argument::Wide;
+    }
     if check::same(argument, b"ansi") {
         return Argument::Ansi;
     }
@@ -85,10 +89,11 @@ fn number_at(number: usize) -> Numeral {
 }
 
 // Returns a request for all pages, if argument `number` is missing.
-fn at_the_end(number: usize, ansi: bool, from_file: bool) -> Request {
+fn at_the_end(number: usize, wide: bool, ansi: bool, from_file: bool) -> Request {
     match argument_at(number) {
         Argument::Missing => Request::Show {
             asked: Asked {
+                wide,
                 ansi,
                 pages: Pages::All,
             },
@@ -99,8 +104,8 @@ fn at_the_end(number: usize, ansi: bool, from_file: bool) -> Request {
 }
 
 // Returns a request for the page that argument `number`, the last, gives.
-fn with_page(number: usize, ansi: bool, from_file: bool) -> Request
-    requires { ⌜ number ≤ 4 ⌝ }
+fn with_page(number: usize, wide: bool, ansi: bool, from_file: bool) -> Request
+    requires { ⌜ number ≤ 5 ⌝ }
 {
     let Numeral::Value(page) = number_at(number) else {
         return Request::Wrong;
@@ -110,6 +115,7 @@ fn with_page(number: usize, ansi: bool, from_file: bool) -> Request
     };
     Request::Show {
         asked: Asked {
+            wide,
             ansi,
             pages: Pages::Only(page),
         },
@@ -118,29 +124,39 @@ fn with_page(number: usize, ansi: bool, from_file: bool) -> Request
 }
 
 // Parses the arguments from `number` on: `page` and a number, or none.
-fn from_page(number: usize, ansi: bool, from_file: bool) -> Request
-    requires { ⌜ number ≤ 3 ⌝ }
+fn from_page(number: usize, wide: bool, ansi: bool, from_file: bool) -> Request
+    requires { ⌜ number ≤ 4 ⌝ }
 {
     match argument_at(number) {
-        Argument::Page => with_page(number + 1, ansi, from_file),
-        _ => at_the_end(number, ansi, from_file),
+        Argument::Page => with_page(number + 1, wide, ansi, from_file),
+        _ => at_the_end(number, wide, ansi, from_file),
     }
 }
 
 // Parses the arguments from `number` on: `ansi`, then `page` and a number, each optional.
-fn from_ansi(number: usize, from_file: bool) -> Request
+fn from_ansi(number: usize, wide: bool, from_file: bool) -> Request
+    requires { ⌜ number ≤ 3 ⌝ }
+{
+    match argument_at(number) {
+        Argument::Ansi => from_page(number + 1, wide, true, from_file),
+        _ => from_page(number, wide, false, from_file),
+    }
+}
+
+// Parses the arguments from `number` on: `wide`, `ansi`, then `page` and a number, each optional.
+fn from_wide(number: usize, from_file: bool) -> Request
     requires { ⌜ number ≤ 2 ⌝ }
 {
     match argument_at(number) {
-        Argument::Ansi => from_page(number + 1, true, from_file),
-        _ => from_page(number, false, from_file),
+        Argument::Wide => from_ansi(number + 1, true, from_file),
+        _ => from_ansi(number, false, from_file),
     }
 }
 
 // Parses all arguments.
 pub fn requested() -> Request {
     match argument_at(1) {
-        Argument::Other => from_ansi(2, true),
-        _ => from_ansi(1, false),
+        Argument::Other => from_wide(2, true),
+        _ => from_wide(1, false),
     }
 }

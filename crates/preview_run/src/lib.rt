@@ -6,8 +6,10 @@ use arguments::Request;
 use libc::STDIN_FILENO;
 use preview_sheet::paging::Pages;
 
-// Options: whether to print escape sequences for colours and modifiers, and which pages to show.
+// Options: whether ambiguous glyphs are read wide, whether to print escape sequences for colours and modifiers, and which pages to
+// show.
 pub struct Asked {
+    pub wide: bool,
     pub ansi: bool,
     pub pages: Pages,
 }

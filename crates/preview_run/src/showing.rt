@@ -1,5 +1,6 @@
 // Shows a notice page by page.
 use crate::Asked;
+use notice::AmbiguousWidth;
 use notice::DrawCounts;
 use notice::NoticeAnswer;
 use notice::TallyAnswer;
@@ -119,11 +120,11 @@ fn show_pages(
 }
 
 // Prints the tally of a text, if it is wrapped.
-fn show_tally(text: &[u32], width: u16, wrap: Wrap) {
+fn show_tally(text: &[u32], ambiguous: AmbiguousWidth, width: u16, wrap: Wrap) {
     let Wrap::On { trim } = wrap else {
         return;
     };
-    match notice::tally(text, width, trim) {
+    match notice::tally(text, ambiguous, width, trim) {
         TallyAnswer::Counted(counts) => preview_messages::tally(counts),
         TallyAnswer::Refused(why) => preview_messages::refused(why.number()),
     }
@@ -144,6 +145,7 @@ fn show_measured(
 ) {
     let settings = opening.text;
     let wrap = settings.named_wrap();
+    let ambiguous = flat::ambiguous_named(settings.ambiguous);
     let shown = asked.pages;
     let pages = paging::page_count(measure.lines, settings.scroll, measure.height);
     if shown.is_past(pages) {
@@ -163,7 +165,7 @@ fn show_measured(
         cells,
         wide_cells,
     );
-    show_tally(text, measure.width, wrap);
+    show_tally(text, ambiguous, measure.width, wrap);
 }
 
 // Shows a notice, or prints why it is refused. It is drawn once first, as drawing checks all that measuring does.
@@ -293,8 +295,10 @@ fn show_widened(
     wide_titles: &mut [u32],
     wide_text: &mut [u32],
 ) {
-    widths::widen(titles, wide_titles);
-    widths::widen(text, wide_text);
+    let settings = opening.text;
+    let ambiguous = flat::ambiguous_named(settings.ambiguous);
+    widths::widen(titles, ambiguous, wide_titles);
+    widths::widen(text, ambiguous, wide_text);
     let title_count = least(titles.len(), wide_titles.len());
     let record_count = least(text.len(), wide_text.len());
     show_on_screen(
@@ -308,8 +312,9 @@ fn show_widened(
     );
 }
 
-// Shows a notice, if every number of its settings names a case.
-fn show_opening(opening: Opening, asked: Asked, styles: &[u64], titles: &[u32], text: &[u32]) {
+// Shows a notice, read as asked, if every number of its settings names a case.
+fn show_opening(input: Opening, asked: Asked, styles: &[u64], titles: &[u32], text: &[u32]) {
+    let opening = preview_sheet::read_as(input, asked.wide);
     let block = opening.block;
     let settings = opening.text;
     let mut wide_titles = [0u32; 8192];

@@ -13,6 +13,7 @@ use native.Mathlib.Nat.{add-zero}
 use native.Mathlib.Omega.{arith}
 use borrow.Author.Tests.{ne-eqb, le-ltb}
 use lib.ListN.{length, replicate}
+use Rattle.text.specs.declared.AmbiguousWidth.{AmbiguousWidth}
 use Rattle.cell.specs.Cell.{blankCell}
 use Rattle.refuse.specs.declared.Refusal.the-variants.{TextLength, TextHeads, Titles, Symbol}
 use Rattle.refuse.specs.declared.Verdict.the-variants.{Accepted}
@@ -34,7 +35,7 @@ use Rattle.pages.specs.Pages.{innerArea, composedLines, pageCount, pagesOf, scr
 use Rattle.pages.specs.Reading.{WrappedNotice}
 use Rattle.pages.proofs.Screen.{screen-sized, inner-some}
 use Rattle.pages.proofs.Reached.{few-columns, left-lines, reached-16}
-use Rattle.flat.specs.FlatExtra.{shadowNamed, blockFrom, noticeFrom, wrapNamed}
+use Rattle.flat.specs.FlatExtra.{ambiguousNamed, shadowNamed, blockFrom, noticeFrom, wrapNamed}
 use Rattle.preview_file.specs.declared.Opening.{Opening}
 use Rattle.preview_sheet.specs.declared.Fitting.the-variants.{Fits}
 use Rattle.preview_sheet.specs.PagingExtra.{pagesFrom}
@@ -58,9 +59,9 @@ count-from-top lines scroll height e some =
     rw (ne-eqb height 0 (λ (none : height ≡ 0). omega arith), all) refl
 
 -- a block with nothing set adds no rows to the lines
-no-rows-added : (wrap : Wrap) (trim : Bool) (limit : ℕ) (text : List ℕ) → wrap ≡ On trim → 0 < limit → lineCount (blockFrom nothingSet) [] wrap limit text ≡ linesAt (On trim) limit text
+no-rows-added : (a : AmbiguousWidth) (wrap : Wrap) (trim : Bool) (limit : ℕ) (text : List ℕ) → wrap ≡ On trim → 0 < limit → lineCount a (blockFrom nothingSet) [] wrap limit text ≡ linesAt a (On trim) limit text
 unfolding lineCount verticalSpace hasTitleAt blockFrom
-no-rows-added wrap trim limit text e some = rw (ne-eqb limit 0 (λ (none : limit ≡ 0). omega arith), e, add-zero) refl
+no-rows-added a wrap trim limit text e some = rw (ne-eqb limit 0 (λ (none : limit ≡ 0). omega arith), e, add-zero) refl
 
 module _ (o : Opening) (styles titles text cells : List ℕ) where
   -- the call by which `preview` draws the notice on cells, from its scroll row on
@@ -82,7 +83,7 @@ module _ (o : Opening) (styles titles text cells : List ℕ) where
         rw (no-cause causes Titles (w .accepted), no-cause causes Symbol (w .accepted)) refl
 
     abbrev countCall : count.Call
-    countCall = count.callOf text [] (blockFrom nothingSet) (wrapNamed (o .text)) (innerArea noticeCall .width)
+    countCall = count.callOf text (ambiguousNamed (o .text .ambiguous)) [] (blockFrom nothingSet) (wrapNamed (o .text)) (innerArea noticeCall .width)
 
     count-accepted : count.verdictOf countCall ≡ Accepted
     unfolding count.verdictOf count.causesOf width.causesOf frameCauses titlesWrong blockSymbols borderSymbols blockFrom shadowNamed verdictOf causesOf screenCauses textCauses
@@ -93,7 +94,7 @@ module _ (o : Opening) (styles titles text cells : List ℕ) where
     lines-counted : count.countOf countCall ≡ length (composedLines noticeCall)
     unfolding linesAt noticeFrom
     lines-counted =
-        no-rows-added (wrapNamed (o .text)) (w .trim) (innerArea noticeCall .width) text (w .wrapped) (inner-some noticeCall w .0)
+        no-rows-added (ambiguousNamed (o .text .ambiguous)) (wrapNamed (o .text)) (w .trim) (innerArea noticeCall .width) text (w .wrapped) (inner-some noticeCall w .0)
         ∙ sym (left-lines noticeCall w)
 
     pub same-measure : fittingOf o titles text

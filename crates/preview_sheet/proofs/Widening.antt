@@ -2,17 +2,18 @@
 use Prim.Native.Nat.{ℕ, _%_, _^_}
 use mathlib.Core.Path.{_≡_, refl, _∙_}
 use mathlib.Core.Bool.{Bool, true, false}
+use Rattle.text.specs.declared.AmbiguousWidth.{AmbiguousWidth}
 use Rattle.text.specs.Record.{isHead, widthOf, whitespaceOf, styleOf, glyphRecord}
 use Rattle.cell.specs.Cell.{cellFrom, withUntouched}
 use Rattle.preview_sheet.specs.WidthsExtra.{widened, withWidth}
 
-module _ (r : ℕ) (b : Bool) (e : b ≡ isHead r) where
-  pub widened-head : b ≡ true → r ≡ widened r
+module _ (a : AmbiguousWidth) (r : ℕ) (b : Bool) (e : b ≡ isHead r) where
+  pub widened-head : b ≡ true → r ≡ widened a r
   unfolding widened
   widened-head t = rw (← e, t) refl
 
   pub widened-glyph :
-      (w s v : ℕ) (space : Bool) → b ≡ false → w ≡ widthOf r → space ≡ whitespaceOf r → s ≡ styleOf r → v ≡ glyphRecord w w space s → v ≡ widened r
+      (w s v : ℕ) (space : Bool) → b ≡ false → w ≡ widthOf a r → space ≡ whitespaceOf r → s ≡ styleOf r → v ≡ glyphRecord w w space s → v ≡ widened a r
   unfolding widened
   widened-glyph w s v space f g h k p = p ∙ rw (← e, f, g, h, k) refl
 

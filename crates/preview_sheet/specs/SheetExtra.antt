@@ -1,7 +1,9 @@
 -- Not in the papers: the notice of an opening of the packed form, as `preview` draws and measures it.
 use Prim.Native.Nat.{ℕ}
+use mathlib.Core.Bool.{Bool, cond}
 use mathlib.Core.List.{List, []}
 use lib.IntN.{pos}
+use Rattle.text.specs.declared.AmbiguousWidth.{AmbiguousWidth}
 use Rattle.layout.specs.declared.Rect.{Rect}
 use Rattle.layout.specs.Rect.{meet}
 use Rattle.buffer.specs.Drawing.{areaOf}
@@ -18,7 +20,7 @@ use Rattle.paragraph.specs.declared.Notice.{Notice}
 use Rattle.draw_notice.specs.Call.{Call, callOf}
 use Rattle.pages.specs.Pages.{scrolledTo}
 use Rattle.flat.specs.declared.FlatBlock.{FlatBlock}
-use Rattle.flat.specs.FlatExtra.{areaFrom, blockFrom, noticeFrom, wrapNamed}
+use Rattle.flat.specs.FlatExtra.{ambiguousNamed, areaFrom, blockFrom, noticeFrom, wrapNamed}
 use Rattle.preview_file.specs.declared.Opening.{Opening}
 use Rattle.preview_sheet.specs.WidthsExtra.{widenedBlock}
 use Rattle.preview_sheet.specs.declared.Fitting.{Fitting}
@@ -32,6 +34,29 @@ noticeAt o first = scrolledTo first (noticeFrom (o .block) (o .text))
 abbrev pub callAt : Opening → ℕ → List ℕ → List ℕ → List ℕ → List ℕ → Call
 callAt o first styles titles text cells =
     callOf (o .columns) (o .rows) cells styles text titles (areaFrom (o .area)) (noticeAt o first)
+
+-- the opening with its ambiguous glyphs read wide, if so asked
+abbrev pub openingRead : Bool → Opening → Opening
+openingRead wide o =
+    record {
+      columns = o .columns;
+      rows = o .rows;
+      area = o .area;
+      block = o .block;
+      text =
+          record {
+            scroll = o .text .scroll;
+            column = o .text .column;
+            style = o .text .style;
+            «text_style» = o .text .«text_style»;
+            alignment = o .text .alignment;
+            wrap = o .text .wrap;
+            ambiguous = cond wide 2 (o .text .ambiguous);
+          };
+      styles = o .styles;
+      titles = o .titles;
+      records = o .records;
+    }
 
 -- the opening with the symbols of its block replaced by their widths
 abbrev pub widenedOpening : Opening → Opening
@@ -84,16 +109,18 @@ abbrev pub fitted : Rect → MeasureAnswer → Fitting
 fitted inside (Value lines) = Fits (record { width = inside .width; height = inside .height; lines = lines })
 fitted inside (NoValue why) = Refused (refusalNumber why)
 
-unfoldable pub linesIn : Wrap → List ℕ → Rect → Fitting
-linesIn wrap text inside = fitted inside (countAnswer (countCall text [] (blockFrom nothingSet) wrap (inside .width)))
+unfoldable pub linesIn : AmbiguousWidth → Wrap → List ℕ → Rect → Fitting
+linesIn ambiguous wrap text inside =
+    fitted inside (countAnswer (countCall text ambiguous [] (blockFrom nothingSet) wrap (inside .width)))
 
 -- size and lines of the inner area, given the answer of `inner` on the intersection of area and screen
-abbrev pub measuredIn : Wrap → List ℕ → InnerAnswer → Fitting
-measuredIn wrap text (Area inside) = linesIn wrap text inside
-measuredIn wrap text (NoArea why) = Refused (refusalNumber why)
+abbrev pub measuredIn : AmbiguousWidth → Wrap → List ℕ → InnerAnswer → Fitting
+measuredIn ambiguous wrap text (Area inside) = linesIn ambiguous wrap text inside
+measuredIn ambiguous wrap text (NoArea why) = Refused (refusalNumber why)
 
 abbrev pub metOf : Opening → Rect
 metOf o = meet (areaFrom (o .area)) (areaOf (screenOf (o .columns) (o .rows)))
 
 unfoldable pub fittingOf : Opening → List ℕ → List ℕ → Fitting
-fittingOf o titles text = measuredIn (wrapNamed (o .text)) text (innerAnswer (innerCall (blockFrom (o .block)) titles (metOf o)))
+fittingOf o titles text =
+    measuredIn (ambiguousNamed (o .text .ambiguous)) (wrapNamed (o .text)) text (innerAnswer (innerCall (blockFrom (o .block)) titles (metOf o)))

@@ -2,13 +2,15 @@
 use Prim.Native.Nat.{ℕ, _%_, _^_}
 use mathlib.Core.Bool.{cond}
 use mathlib.Core.List.{List, [], _∷_}
+use Rattle.text.specs.declared.AmbiguousWidth.{AmbiguousWidth}
 use Rattle.text.specs.Record.{isHead, widthOf, whitespaceOf, styleOf, glyphRecord}
 use Rattle.cell.specs.Cell.{cellFrom, withUntouched}
 use Rattle.flat.specs.declared.FlatBlock.{FlatBlock}
 
--- a glyph with its width as symbol; a head is unchanged
-unfoldable pub widened : ℕ → ℕ
-widened r = cond (isHead r) r (glyphRecord (widthOf r) (widthOf r) (whitespaceOf r) (styleOf r))
+-- a glyph with its width, as read, as symbol and as width; a head is unchanged
+unfoldable pub widened : AmbiguousWidth → ℕ → ℕ
+widened ambiguous r =
+    cond (isHead r) r (glyphRecord (widthOf ambiguous r) (widthOf ambiguous r) (whitespaceOf r) (styleOf r))
 
 -- the block with all its symbols replaced by 1, the width of each
 abbrev pub widenedBlock : FlatBlock → FlatBlock

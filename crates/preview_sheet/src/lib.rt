@@ -6,6 +6,7 @@ pub mod widths;
 use buffer::Screen;
 use flat::FlatArea;
 use flat::FlatBlock;
+use notice::AmbiguousWidth;
 use notice::Block;
 use notice::InnerAnswer;
 use notice::MeasureAnswer;
@@ -21,7 +22,7 @@ ghost use Rattle.buffer.specs.Drawing.{areaOf};
 ghost use Rattle.buffer.specs.Screen.{screenOf};
 ghost use Rattle.draw_notice.specs.Call.{answerOf, cellsAfter};
 ghost use Rattle.flat.specs.FlatExtra.{areaFrom, blockFrom};
-ghost use Rattle.preview_sheet.specs.SheetExtra.{noticeAt, callAt, widenedOpening, nothingSet, linesIn, fittingOf};
+ghost use Rattle.preview_sheet.specs.SheetExtra.{noticeAt, callAt, openingRead, widenedOpening, nothingSet, linesIn, fittingOf};
 
 // Size of a notice's inner area, and count of its lines.
 pub struct Measure {
@@ -44,6 +45,20 @@ fn notice_at(opening: Opening, first: u16) -> Notice
     let mut settings = opening.text;
     settings.scroll = first;
     settings.notice(block)
+}
+
+// Returns the opening with its ambiguous glyphs read wide, if so asked.
+pub fn read_as(opening: Opening, wide: bool) -> Opening
+    ensures { λ r. ⌜ r ≡ openingRead wide opening ⌝ }
+{
+    let mut settings = opening.text;
+    let mut read = opening;
+    if wide {
+        settings.ambiguous = 2;
+        read.text = settings;
+        return read;
+    }
+    read
 }
 
 // Returns the opening with the symbols of its block replaced by their widths.
@@ -124,10 +139,10 @@ fn met(area: FlatArea, columns: u16, rows: u16) -> Rect
 }
 
 // Counts the lines at an area's width.
-fn lines_in(wrap: Wrap, inside: Rect, text: &[u32]) -> Fitting
-    ensures { λ r. ⌜ r ≡ linesIn wrap (now (text .entry)) inside ⌝ }
+fn lines_in(wrap: Wrap, inside: Rect, text: &[u32], ambiguous: AmbiguousWidth) -> Fitting
+    ensures { λ r. ⌜ r ≡ linesIn ambiguous wrap (now (text .entry)) inside ⌝ }
 {
-    match notice::line_count(text, &[0u32; 0], no_block(), wrap, inside.width) {
+    match notice::line_count(text, ambiguous, &[0u32; 0], no_block(), wrap, inside.width) {
         MeasureAnswer::Value(lines) => Fitting::Fits(Measure {
             width: inside.width,
             height: inside.height,
@@ -146,7 +161,10 @@ pub fn measured(opening: Opening, titles: &[u32], text: &[u32]) -> Fitting
     let settings = opening.text;
     let met = met(area, opening.columns, opening.rows);
     match notice::inner(flat_block.block(), titles, met) {
-        InnerAnswer::Area(inside) => lines_in(settings.named_wrap(), inside, text),
+        InnerAnswer::Area(inside) => {
+            let ambiguous = flat::ambiguous_named(settings.ambiguous);
+            lines_in(settings.named_wrap(), inside, text, ambiguous)
+        }
         InnerAnswer::Refused(why) => Fitting::Refused(why.number()),
     }
 }

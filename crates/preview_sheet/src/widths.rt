@@ -1,28 +1,29 @@
 // Replaces the symbols of a notice by their widths: drawn like the notice, each cell then holds the width of its symbol.
 use flat::FlatBlock;
+use text::AmbiguousWidth;
 use text::glyph;
 use text::head;
 ghost use mathlib.Core.Path.{_≡_};
 ghost use Rattle.preview_sheet.specs.WidthsExtra.{widened, widenedBlock, withWidth, changedBy};
 
-// Returns a glyph with its width as symbol; a head is returned unchanged.
-fn widened_record(word: u32) -> u32
-    ensures { λ r. ⌜ r ≡ widened word ⌝ }
+// Returns a glyph with its width, as read, as symbol and as width; a head is returned unchanged.
+fn widened_record(word: u32, ambiguous: AmbiguousWidth) -> u32
+    ensures { λ r. ⌜ r ≡ widened ambiguous word ⌝ }
 {
     if head::is_head(word) {
         return word;
     }
-    let width = glyph::width(word);
+    let width = glyph::width(word, ambiguous);
     glyph::pack(width, width, glyph::is_whitespace(word), glyph::style(word))
 }
 
 // Copies records to the start of `wide`, as many as fit, with widths as symbols.
-pub fn widen(records: &[u32], wide: &mut [u32])
-    ensures { λ _. ⌜ now (wide .exit) ≡ changedBy (λ old word. widened word) (now (wide .entry)) (now (records .entry)) ⌝ }
+pub fn widen(records: &[u32], ambiguous: AmbiguousWidth, wide: &mut [u32])
+    ensures { λ _. ⌜ now (wide .exit) ≡ changedBy (λ old word. widened ambiguous word) (now (wide .entry)) (now (records .entry)) ⌝ }
 {
     let mut i = 0;
     while i < records.len() && i < wide.len() {
-        wide[i] = widened_record(records[i]);
+        wide[i] = widened_record(records[i], ambiguous);
         i += 1;
     }
 }

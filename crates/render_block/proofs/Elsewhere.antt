@@ -8,6 +8,7 @@ use mathlib.Core.List.{List}
 use native.Mathlib.Decide.{decLt}
 use native.Mathlib.Omega.{arith}
 use Rattle.num.specs.Held.{held}
+use Rattle.text.specs.declared.AmbiguousWidth.{AmbiguousWidth}
 use Rattle.layout.specs.declared.Rect.{Rect}
 use Rattle.layout.specs.Rect.{rightOf, bottomOf, meet, isEmpty, contains}
 use Rattle.layout.proofs.NotEmpty.{not-empty}
@@ -18,7 +19,7 @@ use Rattle.buffer.proofs.Keeping.{Keeps, InksKeep, wholeCell, only-keeps}
 use Rattle.buffer.proofs.Within.{cell-inside}
 use Rattle.border_edges.specs.Sides.{leftSide, topSide, rightSide, bottomSide, bottomRight, topRight, bottomLeft, topLeft}
 use Rattle.render_borders.specs.Borders.{sides, corners}
-use Rattle.titles.specs.Titles.{titlesOn}
+use Rattle.titles.specs.Titles.{titlesFrom, titlesOn}
 use Rattle.titles.proofs.OtherRows.{titles-alone}
 use Rattle.titles.proofs.OtherColumns.{titles-beside}
 use Rattle.shadow.proofs.Keeping.{inShadow}
@@ -85,24 +86,24 @@ module _ (styles : List ℕ) (b : Block) (met : Rect) (small : SmallArea met) (c
       )
 
   -- titles are in the first and the last row, within the columns of the block
-  titles-leave : (titles : List ℕ) → Keeps wholeCell (titlesOn styles b met titles) column row
-  titles-leave titles =
+  titles-leave : (a : AmbiguousWidth) (titles : List ℕ) → Keeps wholeCell (titlesOn styles b met (titlesFrom a titles)) column row
+  titles-leave a titles =
       dite (decLt row (met .y))
-      (λ (above : row < met .y). titles-alone column row styles b met titles (λ e. absurd (omega (arith, above, e))) (λ e. absurd (omega (arith, above, e, small .high, small .down))))
+      (λ (above : row < met .y). titles-alone column row styles b a met titles (λ e. absurd (omega (arith, above, e))) (λ e. absurd (omega (arith, above, e, small .high, small .down))))
       (λ n.
       dite (decLt row (bottomOf met))
       (λ (in-rows : row < bottomOf met).
       titles-beside column b met (small .wide) (small .across)
-      (λ left right. not-between met column row outside left (omega (arith, right, small .across)) (omega (arith, n)) in-rows) row styles titles)
-      (λ m. titles-alone column row styles b met titles (λ e. absurd (omega (arith, m, e, small .high, small .down))) (λ e. absurd (omega (arith, m, e, small .high, small .down)))))
+      (λ left right. not-between met column row outside left (omega (arith, right, small .across)) (omega (arith, n)) in-rows) row styles (titlesFrom a titles))
+      (λ m. titles-alone column row styles b a met titles (λ e. absurd (omega (arith, m, e, small .high, small .down))) (λ e. absurd (omega (arith, m, e, small .high, small .down)))))
 
-  pub frame-leaves : (screen : Screen) (titles : List ℕ) → inShadow screen met (b .shadow) column row ≡ false
-      → Keeps wholeCell (frame styles screen titles b met) column row
-  frame-leaves screen titles unshadowed =
-      frame-keeps wholeCell column row styles b screen titles met
+  pub frame-leaves : (a : AmbiguousWidth) (screen : Screen) (titles : List ℕ) → inShadow screen met (b .shadow) column row ≡ false
+      → Keeps wholeCell (frame styles screen (titlesFrom a titles) b met) column row
+  frame-leaves a screen titles unshadowed =
+      frame-keeps wholeCell column row styles b screen (titlesFrom a titles) met
       (λ here. absurd (true≢false (sym here ∙ outside)))
       (λ here. absurd (true≢false (sym here ∙ unshadowed)))
-      sides-leave corners-leave (titles-leave titles)
+      sides-leave corners-leave (titles-leave a titles)
 
 -- a non-empty meeting with a screen of fewer than 2^15 columns
 pub met-small : (screen : Screen) (area : Rect) → screen .columns < 2 ^ 15 → isEmpty (meet area (areaOf screen)) ≡ false → SmallArea (meet area (areaOf screen))
@@ -121,15 +122,15 @@ met-small screen area few some =
     low : (first end other : ℕ) → 0 < min (held end) other - first → first + (min (held end) other - first) ≤ 65535
     low first end other h = omega arith
 
-module _ (styles : List ℕ) (screen : Screen) (few : screen .columns < 2 ^ 15) (titles : List ℕ) (b : Block) (area : Rect) where
+module _ (styles : List ℕ) (screen : Screen) (few : screen .columns < 2 ^ 15) (a : AmbiguousWidth) (titles : List ℕ) (b : Block) (area : Rect) where
   pub elsewhere : (column row cell : ℕ) → contains (meet area (areaOf screen)) column row ≡ false
       → inShadow screen (meet area (areaOf screen)) (b .shadow) column row ≡ false
-      → blockOf styles screen titles b area column row cell ≡ cell
+      → blockOf styles screen (titlesFrom a titles) b area column row cell ≡ cell
   unfolding blockOf
   elsewhere column row cell outside unshadowed =
       let met = meet area (areaOf screen) in
-      only-keeps wholeCell column row (not (isEmpty met)) (frame styles screen titles b met)
-      (λ some. frame-leaves styles b met (met-small screen area few (not-true (isEmpty met) some)) column row outside screen titles unshadowed) cell
+      only-keeps wholeCell column row (not (isEmpty met)) (frame styles screen (titlesFrom a titles) b met)
+      (λ some. frame-leaves styles b met (met-small screen area few (not-true (isEmpty met) some)) column row outside a screen titles unshadowed) cell
     where
       not-true : (e : Bool) → not e ≡ true → e ≡ false
       not-true true h = absurd (true≢false (sym h))

@@ -15,12 +15,12 @@ use Rattle.buffer.proofs.Drawn.{drawn-also}
 use Rattle.buffer.proofs.OnScreen.{meeting-on-screen}
 use Rattle.buffer.proofs.Order.{first-then, only-drawn, only-spared}
 use Rattle.render_borders.specs.Borders.{sides, corners}
-use Rattle.titles.specs.Titles.{titlesOn}
+use Rattle.titles.specs.Titles.{Title, titlesOn}
 use Rattle.shadow.specs.Shadow.{shadowOf}
 use Rattle.render_block.specs.Frame.{frame, blockOf}
 use Rattle.buffer.specs.PartsExtra.{HasCells}
 
-module _ (columns : ℕ) (styles : List ℕ) (screen : Screen) (titles : List ℕ) (b : Block) (cells : List ℕ) where
+module _ (columns : ℕ) (styles : List ℕ) (screen : Screen) (titles : List Title) (b : Block) (cells : List ℕ) where
   -- sides and corners, then titles
   pub borders-titles-drawn : (met : Rect) (next last : List ℕ)
       → next ≡ drawn columns (inOrder (sides styles b met ∷ corners styles b met ∷ [])) cells

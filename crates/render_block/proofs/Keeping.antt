@@ -12,7 +12,7 @@ use Rattle.buffer.specs.Drawing.{over, inOrder, styleAt}
 use Rattle.buffer.proofs.Keeping.{Keeps, InksKeep, order-keeps, only-keeps, over-keeps}
 use Rattle.border_edges.specs.declared.Edge.{Edge}
 use Rattle.render_borders.specs.Borders.{border, sideEdges, cornerEdges, sides, corners}
-use Rattle.titles.specs.Titles.{titlesOn}
+use Rattle.titles.specs.Titles.{Title, titlesOn}
 use Rattle.shadow.specs.Shadow.{shadowOf}
 use Rattle.shadow.proofs.Keeping.{inShadow, shadow-keeps}
 use Rattle.render_block.specs.Frame.{frame}
@@ -49,7 +49,7 @@ module _ (read : ℕ → ℕ) (column row : ℕ) where
     corners-keep r kept = edges-keep (cornerEdges b r) kept
 
     -- the whole frame, if its borders and titles keep it
-    pub frame-keeps : (screen : Screen) (titles : List ℕ) (met : Rect)
+    pub frame-keeps : (screen : Screen) (titles : List Title) (met : Rect)
         → (contains met column row ≡ true → InksKeep read)
         → (inShadow screen met (b .shadow) column row ≡ true → InksKeep read)
         → Keeps read (sides styles b met) column row

@@ -8,6 +8,7 @@ use mathlib.Core.List.{List, [], _∷_}
 use native.Mathlib.Omega.{arith}
 use Rattle.num.specs.Held.{held}
 use Rattle.text.specs.declared.TitlePosition.the-variants.{Top, Bottom}
+use Rattle.text.specs.declared.AmbiguousWidth.{AmbiguousWidth}
 use Rattle.layout.specs.declared.Rect.{Rect}
 use Rattle.layout.specs.Rect.{rightOf, bottomOf, meet, isEmpty, contains}
 use Rattle.cell.specs.Cell.{cellFrom, styled}
@@ -18,14 +19,14 @@ use Rattle.buffer.specs.declared.Screen.{Screen}
 use Rattle.buffer.specs.Drawing.{over, onlyIf, areaOf, styleAt}
 use Rattle.buffer.proofs.Within.{cell-inside as inside-cell}
 use Rattle.render_borders.specs.Borders.{sides, corners}
-use Rattle.titles.specs.Titles.{titlesRow, titlesOn}
+use Rattle.titles.specs.Titles.{titlesFrom, titlesRow, titlesOn}
 use Rattle.titles.proofs.OtherRows.{titles-alone}
 use Rattle.shadow.specs.Shadow.{shadowOf}
 use Rattle.shadow.proofs.Keeps.{shadow-spares}
 use Rattle.render_block.specs.Frame.{frame, blockOf}
 use Rattle.render_block.proofs.KeepsSymbols.{KeepsSymbol, Between, order-keeps, alone-keeps, style-keeps, inside-between, takes-one, cell-between, cell-inside, sides-keep, corners-keep}
 
-module _ (b : Block) (titles : List ℕ) (met : Rect) (across : met .x + met .width ≤ 65535) (down : met .y + met .height ≤ 65535)
+module _ (a : AmbiguousWidth) (b : Block) (titles : List ℕ) (met : Rect) (across : met .x + met .width ≤ 65535) (down : met .y + met .height ≤ 65535)
     (column row : ℕ) (inner : contains (innerOf b titles met) column row ≡ true) where
   between-edges : Between (innerOf b titles met) column row
   between-edges = cell-between b titles met across down column row inner
@@ -65,19 +66,19 @@ module _ (b : Block) (titles : List ℕ) (met : Rect) (across : met .x + met .wi
           absurd (omega (arith, here))
 
   -- so the titles keep the symbols of the inner area
-  titles-keep : (styles : List ℕ) → KeepsSymbol (titlesOn styles b met titles) column row
+  titles-keep : (styles : List ℕ) → KeepsSymbol (titlesOn styles b met (titlesFrom a titles)) column row
   titles-keep styles =
-      alone-keeps (titlesOn styles b met titles) column row (titles-alone column row styles b met titles clear-top clear-bottom)
+      alone-keeps (titlesOn styles b met (titlesFrom a titles)) column row (titles-alone column row styles b a met titles clear-top clear-bottom)
 
   -- the frame keeps the symbols of the inner area
-  frame-keeps : (styles : List ℕ) (screen : Screen) → KeepsSymbol (frame styles screen titles b met) column row
+  frame-keeps : (styles : List ℕ) (screen : Screen) → KeepsSymbol (frame styles screen (titlesFrom a titles) b met) column row
   unfolding frame
   frame-keeps styles screen =
       order-keeps
       (over met (styled (styleAt styles (b .style)))
       ∷ sides styles b met
       ∷ corners styles b met
-      ∷ titlesOn styles b met titles
+      ∷ titlesOn styles b met (titlesFrom a titles)
       ∷ shadowOf styles screen met (b .shadow)
       ∷ []) column row (
         style-keeps met (styleAt styles (b .style)) column row,
@@ -108,24 +109,24 @@ met-fits place end other before after paddings start column low high =
     short : (place end : ℕ) → end ≤ 65535 → 0 < end - place → place + (end - place) ≤ 65535
     short place end most h = omega arith
 
-module _ (styles : List ℕ) (screen : Screen) (b : Block) (titles : List ℕ) (area : Rect) (column row : ℕ)
+module _ (styles : List ℕ) (screen : Screen) (a : AmbiguousWidth) (b : Block) (titles : List ℕ) (area : Rect) (column row : ℕ)
     (inner : contains (innerOf b titles (meet area (areaOf screen))) column row ≡ true) where
   abbrev met : Rect
   met = meet area (areaOf screen)
 
-  met-frame : KeepsSymbol (frame styles screen titles b met) column row
+  met-frame : KeepsSymbol (frame styles screen (titlesFrom a titles) b met) column row
   unfolding innerOf
   met-frame =
       let c = inside-between (innerOf b titles met) column row inner in
-      frame-keeps b titles met
+      frame-keeps a b titles met
       (met-fits (met .x) (area .x + area .width) (rightOf (areaOf screen)) _ _ _ (innerOf b titles met .x) column (c .left) (c .right))
       (met-fits (met .y) (area .y + area .height) (bottomOf (areaOf screen)) _ _ _ (innerOf b titles met .y) row (c .top) (c .bottom))
       column row inner styles screen
 
-  pub block-keeps : KeepsSymbol (blockOf styles screen titles b area) column row
+  pub block-keeps : KeepsSymbol (blockOf styles screen (titlesFrom a titles) b area) column row
   unfolding blockOf
   block-keeps cell = go (not (isEmpty met))
     where
-      go : (test : Bool) → cellFrom (onlyIf test (frame styles screen titles b met) column row cell) .symbol ≡ cellFrom cell .symbol
+      go : (test : Bool) → cellFrom (onlyIf test (frame styles screen (titlesFrom a titles) b met) column row cell) .symbol ≡ cellFrom cell .symbol
       go true = met-frame cell
       go false = refl

@@ -11,10 +11,11 @@ use Rattle.buffer.specs.declared.Screen.{Screen}
 use Rattle.buffer.specs.Drawing.{areaOf}
 use Rattle.buffer.proofs.Keeping.{Keeps, untouchedBits, inks-keep-bits, only-keeps}
 use Rattle.titles.proofs.Keeping.{titles-keep}
+use Rattle.titles.specs.Titles.{Title}
 use Rattle.render_block.specs.Frame.{frame, blockOf}
 use Rattle.render_block.proofs.Keeping.{sides-keep, corners-keep, frame-keeps}
 
-module _ (styles : List ℕ) (screen : Screen) (titles : List ℕ) (b : Block) (column row : ℕ) where
+module _ (styles : List ℕ) (screen : Screen) (titles : List Title) (b : Block) (column row : ℕ) where
   pub frame-keeps-bits : (met : Rect) → Keeps untouchedBits (frame styles screen titles b met) column row
   frame-keeps-bits met =
       let bits = inks-keep-bits in

@@ -8,23 +8,25 @@ use native.Mathlib.Numerals.{add-one}
 use native.Mathlib.Omega.{arith}
 use borrow.Author.Tests.{lt-ltb, le-ltb, le-leb, lt-leb}
 use lib.Dec.{ltb}
-use lib.ListN.{length, getD, drop, drop-of-length-le}
+use lib.ListN.{length, getD, set, drop, drop-of-length-le}
 use lib.Seq.{drop-cons}
+use Rattle.text.specs.declared.AmbiguousWidth.{AmbiguousWidth}
 use Rattle.text.specs.Record.{widthOf}
 use Rattle.text.specs.Line.{Start, numbered, startsFrom}
 use Rattle.text.specs.Lists.{countOf}
+use Rattle.text.proofs.Reading.{width-most}
 use Rattle.wrapping.specs.declared.Rule.{Rule}
 use Rattle.wrapping.specs.Wrapping.{overWide, notOverWide}
 use Rattle.buffer.specs.Drawing.{changed}
 use Rattle.buffer.proofs.Changed.{length-changed, changed-same, changed-none, changed-then}
 use Rattle.line_composer.specs.Places.{isPlaced, isClipped}
 use Rattle.render_glyphs.specs.RenderGlyphs.{glyphOn, glyphsOn}
-use Rattle.render_glyphs.specs.WritingExtra.{startsOf, Wrote}
-use Rattle.render_glyphs.proofs.OneGlyph.{startOf}
+use Rattle.render_glyphs.specs.WritingExtra.{glyphCell, startsOf, Wrote}
+use Rattle.render_glyphs.proofs.OneGlyph.{startOf, glyph-placed}
 
 -- the glyphs from record i on, the first starting in the given column
 abbrev pub startsLeft : Rule → List ℕ → ℕ → ℕ → List Start
-startsLeft u records column i = startsFrom column (notOverWide u (numbered i (drop i records)))
+startsLeft u records column i = startsFrom column (notOverWide u (numbered (u .ambiguous) i (drop i records)))
 
 -- Invariant of `write_glyphs`: the glyphs before record i are written. Writing the others on the row gives the same cells as
 -- writing all on the old row, and the counts so far plus those of the others are those of all.
@@ -39,10 +41,10 @@ pub record Writing (styles : List ℕ) (style : ℕ) (u : Rule) (records old row
   pub same-clipped : clipped-count + countOf (isClipped (length old)) (startsLeft u records column i) ≡ countOf (isClipped (length old)) (startsOf u 0 records)
 
 -- drawing a glyph doesn't depend on its record number
-number-unread : (styles : List ℕ) (style area number column word i cell : ℕ)
-    → glyphOn styles style area (startOf number column word) i cell ≡ glyphOn styles style area (startOf 0 column word) i cell
+number-unread : (a : AmbiguousWidth) (styles : List ℕ) (style area number column word i cell : ℕ)
+    → glyphOn styles style area (startOf a number column word) i cell ≡ glyphOn styles style area (startOf a 0 column word) i cell
 unfolding glyphOn isPlaced
-number-unread styles style area number column word i cell = refl
+number-unread a styles style area number column word i cell = refl
 
 -- a glyph that isn't placed changes no cell
 unplaced : (styles : List ℕ) (style area : ℕ) (s : Start) (row : List ℕ) → isPlaced area s ≡ false → row ≡ changed (glyphOn styles style area s) row
@@ -76,21 +78,21 @@ module _ (styles : List ℕ) (style : ℕ) (u : Rule) (records old : List ℕ) w
           is-clipped = sym (add-zero clipped-count) ∙ (rw none at (w .same-clipped));
         }
 
-    module _ (h : i < length records) (width : ℕ) (e : width ≡ widthOf (getD records i 0)) where
+    module _ (h : i < length records) (width : ℕ) (e : width ≡ widthOf (u .ambiguous) (getD records i 0)) where
       abbrev here : Start
-      here = startOf i column (getD records i 0)
+      here = startOf (u .ambiguous) i column (getD records i 0)
 
       -- record i is skipped if over-wide, else it is the next glyph of the line
       skipped : u .limit < width → startsLeft u records column i ≡ startsLeft u records column (i + 1)
       unfolding overWide
       skipped o =
-          let t : ltb (u .limit) (widthOf (getD records i 0)) ≡ true = lt-ltb (u .limit) (widthOf (getD records i 0)) (omega arith) in
+          let t : ltb (u .limit) (widthOf (u .ambiguous) (getD records i 0)) ≡ true = lt-ltb (u .limit) (widthOf (u .ambiguous) (getD records i 0)) (omega arith) in
           rw (add-one i, drop-cons records i 0 h, t)
 
       kept : width ≤ u .limit → startsLeft u records column i ≡ here ∷ startsLeft u records (column + width) (i + 1)
       unfolding overWide
       kept f =
-          let t : ltb (u .limit) (widthOf (getD records i 0)) ≡ false = le-ltb (u .limit) (widthOf (getD records i 0)) (omega arith) in
+          let t : ltb (u .limit) (widthOf (u .ambiguous) (getD records i 0)) ≡ false = le-ltb (u .limit) (widthOf (u .ambiguous) (getD records i 0)) (omega arith) in
           rw (e, add-one i, drop-cons records i 0 h, t)
 
       pub writing-skips : u .limit < width → Writing styles style u records old row column placed-count clipped-count (i + 1)
@@ -108,11 +110,11 @@ module _ (styles : List ℕ) (style : ℕ) (u : Rule) (records old : List ℕ) w
       -- a turn on a glyph of the line counts it, and writes it if it is placed
       turned : (next : List ℕ) (a b : Bool) (m n : ℕ) → width ≤ u .limit → isPlaced (length old) here ≡ a → isClipped (length old) here ≡ b
           → m ≡ placed-count + cond a 1 0 → n ≡ clipped-count + cond b 1 0 → m + n ≤ placed-count + clipped-count + 1
-          → next ≡ changed (glyphOn styles style (length old) (startOf 0 column (getD records i 0))) row
+          → next ≡ changed (glyphOn styles style (length old) (startOf (u .ambiguous) 0 column (getD records i 0))) row
           → Writing styles style u records old next (column + width) m n (i + 1)
       turned next a b m n f p q r s one d =
           let others : List Start = startsLeft u records (column + width) (i + 1) in
-          let small : width ≤ 7 = omega arith in
+          let small : width ≤ 6 = omega (arith, width-most (u .ambiguous) (getD records i 0)) in
           record {
             reached = omega arith;
             same-length = rw d (length-changed _ row ∙ w .same-length);
@@ -121,7 +123,7 @@ module _ (styles : List ℕ) (style : ℕ) (u : Rule) (records old : List ℕ) w
             same-cells =
                 rw d (changed-then _ _ row)
                 ∙ changed-same _ _ row
-                (λ j cell _. ap (glyphsOn styles style (length old) others j) (sym (number-unread styles style (length old) i column (getD records i 0) j cell)))
+                (λ j cell _. ap (glyphsOn styles style (length old) others j) (sym (number-unread (u .ambiguous) styles style (length old) i column (getD records i 0) j cell)))
                 ∙ (rw (kept f) at (w .same-cells));
             same-placed = rw r (counted (isPlaced (length old)) placed-count a here others p ∙ (rw (kept f) at (w .same-placed)));
             same-clipped = rw s (counted (isClipped (length old)) clipped-count b here others q ∙ (rw (kept f) at (w .same-clipped)));
@@ -131,27 +133,27 @@ module _ (styles : List ℕ) (style : ℕ) (u : Rule) (records old : List ℕ) w
       pub writing-passes : width ≤ u .limit → width ≡ 0 → Writing styles style u records old row column placed-count clipped-count (i + 1)
       unfolding isPlaced isClipped
       writing-passes f z =
-          let none : ltb 0 (widthOf (getD records i 0)) ≡ false = le-ltb 0 (widthOf (getD records i 0)) (omega arith) in
-          let out : isPlaced (length old) (startOf 0 column (getD records i 0)) ≡ false = rw none in
+          let none : ltb 0 (widthOf (u .ambiguous) (getD records i 0)) ≡ false = le-ltb 0 (widthOf (u .ambiguous) (getD records i 0)) (omega arith) in
+          let out : isPlaced (length old) (startOf (u .ambiguous) 0 column (getD records i 0)) ≡ false = rw none in
           rw (z, add-zero) at
           (turned row false false placed-count clipped-count f (rw none) (rw none) (omega arith) (omega arith) (omega arith)
-          (unplaced styles style (length old) (startOf 0 column (getD records i 0)) row out))
+          (unplaced styles style (length old) (startOf (u .ambiguous) 0 column (getD records i 0)) row out))
 
       module _ (f : width ≤ u .limit) (n : width ≡ 0 → ⊥) where
-        some : ltb 0 (widthOf (getD records i 0)) ≡ true
-        some = lt-ltb 0 (widthOf (getD records i 0)) (omega (arith, n))
+        some : ltb 0 (widthOf (u .ambiguous) (getD records i 0)) ≡ true
+        some = lt-ltb 0 (widthOf (u .ambiguous) (getD records i 0)) (omega (arith, n))
 
         module _ (next : List ℕ) (m k : ℕ) where
           -- a glyph that starts left of the edge is placed
           pub writing-places : (written : List ℕ) → column < length row
-              → written ≡ changed (glyphOn styles style (length row) (startOf 0 column (getD records i 0))) row
+              → written ≡ set row column (glyphCell styles style (getD records i 0) (getD row column 0))
               → next ≡ written → m ≡ placed-count + 1 → k ≡ clipped-count
               → Writing styles style u records old next (column + width) m k (i + 1)
           unfolding isPlaced isClipped
           writing-places written b d g p q =
               let c : column < length old = omega (arith, w .same-length) in
               turned next true false m k f (rw some (lt-ltb _ _ c)) (rw some (lt-leb _ _ c)) (omega arith) (omega arith) (omega arith)
-              (g ∙ (rw (w .same-length) at d))
+              (g ∙ d ∙ (rw (w .same-length) at (glyph-placed (u .ambiguous) styles style column (getD records i 0) row b (omega (arith, e, n)))))
 
           -- any other is clipped
           pub writing-clips : length row ≤ column → next ≡ row → m ≡ placed-count → k ≡ clipped-count + 1
@@ -159,8 +161,8 @@ module _ (styles : List ℕ) (style : ℕ) (u : Rule) (records old : List ℕ) w
           unfolding isPlaced isClipped
           writing-clips b g p q =
               let c : length old ≤ column = omega (arith, w .same-length) in
-              let out : isPlaced (length old) (startOf 0 column (getD records i 0)) ≡ false = rw some (le-ltb _ _ c) in
+              let out : isPlaced (length old) (startOf (u .ambiguous) 0 column (getD records i 0)) ≡ false = rw some (le-ltb _ _ c) in
               turned next false true m k f (rw some (le-ltb _ _ c)) (rw some (le-leb _ _ c)) (omega arith) (omega arith) (omega arith)
-              (g ∙ unplaced styles style (length old) (startOf 0 column (getD records i 0)) row out)
+              (g ∙ unplaced styles style (length old) (startOf (u .ambiguous) 0 column (getD records i 0)) row out)
 
 pub ruleset writing = (writing-starts, writing-done, writing-skips, writing-passes, writing-places, writing-clips)

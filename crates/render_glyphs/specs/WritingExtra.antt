@@ -4,18 +4,25 @@ use Prim.Native.Nat.{ℕ}
 use mathlib.Core.Path.{_≡_}
 use mathlib.Core.List.{List}
 use lib.ListN.{length}
+use Rattle.text.specs.Record.{symbolOf, styleOf}
 use Rattle.text.specs.Line.{Start, Glyph, numbered, startsFrom}
 use Rattle.text.specs.Lists.{countOf}
 use Rattle.wrapping.specs.declared.Rule.{Rule}
 use Rattle.wrapping.specs.Wrapping.{notOverWide}
-use Rattle.buffer.specs.Drawing.{changed}
+use Rattle.cell.specs.Cell.{withSymbol, styled}
+use Rattle.buffer.specs.Drawing.{changed, styleAt}
 use Rattle.line_composer.specs.Places.{isPlaced, isClipped}
 use Rattle.render_glyphs.specs.declared.GlyphCounts.{GlyphCounts}
 use Rattle.render_glyphs.specs.RenderGlyphs.{glyphsOn}
 
+-- the cell of a glyph's record after it is written: its symbol, then the text style, then its own style; no width is read
+unfoldable pub glyphCell : List ℕ → ℕ → ℕ → ℕ → ℕ
+glyphCell styles textStyle word cell =
+    styled (styleAt styles (styleOf word)) (styled (styleAt styles textStyle) (withSymbol (symbolOf word) cell))
+
 -- the glyphs of a line's records, the first starting in the given column; record numbers are unused here
 abbrev pub startsOf : Rule → ℕ → List ℕ → List Start
-startsOf u column records = startsFrom column (notOverWide u (numbered 0 records))
+startsOf u column records = startsFrom column (notOverWide u (numbered (u .ambiguous) 0 records))
 
 -- result of writing glyphs on a row: the cells after it, and the counts of glyphs placed and clipped
 pub record Wrote (styles : List ℕ) (textStyle : ℕ) (starts : List Start) (row after : List ℕ) (counts : GlyphCounts) : Type 0 where

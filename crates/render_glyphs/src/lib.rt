@@ -3,12 +3,9 @@ use text::glyph;
 use wrapping::Rule;
 ghost use mathlib.Core.Path.{_≡_};
 ghost use Prim.Native.Nat.{_<_};
-ghost use lib.ListN.{length};
-ghost use Rattle.text.specs.Record.{widthOf};
-ghost use Rattle.text.specs.Line.{glyphFrom, FewRecords};
-ghost use Rattle.buffer.specs.Drawing.{changed};
-ghost use Rattle.render_glyphs.specs.RenderGlyphs.{glyphOn};
-ghost use Rattle.render_glyphs.specs.WritingExtra.{startsOf, Wrote};
+ghost use lib.ListN.{length, getD, set};
+ghost use Rattle.text.specs.Line.{FewRecords};
+ghost use Rattle.render_glyphs.specs.WritingExtra.{glyphCell, startsOf, Wrote};
 
 // Counts of the glyphs placed and clipped on a row.
 pub struct GlyphCounts {
@@ -18,10 +15,10 @@ pub struct GlyphCounts {
 
 // Writes a glyph in the cell of its column: its symbol, then the text style, then its own style.
 fn write_glyph(row: &mut [u64], styles: &[u64], style: u8, column: usize, word: u32)
-    requires { ⌜ (column < length (now row)) × (0 < widthOf word) ⌝ }
+    requires { ⌜ column < length (now row) ⌝ }
     ensures { λ _.
-        let change = glyphOn (now (styles .entry)) style (length (now (row .entry))) (record { start = column; glyph = glyphFrom 0 word }) in
-        ⌜ now (row .exit) ≡ changed change (now (row .entry)) ⌝ }
+        let cell = glyphCell (now (styles .entry)) style word (getD (now (row .entry)) column 0) in
+        ⌜ now (row .exit) ≡ set (now (row .entry)) column cell ⌝ }
 {
     let symbol = glyph::symbol(word) as u64;
     let text_style = buffer::style_at(styles, style);
@@ -48,7 +45,7 @@ pub fn write_glyphs(
     let mut i = 0;
     while i < records.len() {
         let word = records[i];
-        let width = glyph::width(word) as usize;
+        let width = rule.width(word) as usize;
         i += 1;
         if rule.limit < width {
             continue;

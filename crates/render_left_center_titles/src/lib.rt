@@ -3,6 +3,7 @@ use block::Block;
 use buffer::Screen;
 use layout::Rect;
 use text::Alignment;
+use text::AmbiguousWidth;
 use text::TitlePosition;
 use text::line;
 use titles::Group;
@@ -13,11 +14,12 @@ ghost use mathlib.Core.Bool.{false};
 ghost use Prim.Native.Nat.{_<_};
 ghost use lib.ListN.{length};
 ghost use Rattle.text.specs.declared.Alignment.the-variants.{Left, Center};
-ghost use Rattle.text.specs.Line.{linesFrom, Opens};
+ghost use Rattle.text.specs.Line.{Opens};
 ghost use Rattle.buffer.specs.Drawing.{drawn};
+ghost use Rattle.title_glyphs.specs.TitleGlyphs.{titleGlyphs};
 ghost use Rattle.title.specs.Title.{titleLineWidth};
 ghost use Rattle.title.specs.FittingExtra.{TitleArea};
-ghost use Rattle.titles.specs.Titles.{filteredTitles, titleDrawn, titlesDrawn, spacedFrom, leftTitles, centerTitles};
+ghost use Rattle.titles.specs.Titles.{titlesFrom, filteredTitles, titleDrawn, titlesDrawn, spacedFrom, leftTitles, centerTitles};
 ghost use Rattle.titles.specs.PlacingExtra.{placedWidth, nextPlace, placedAt, placedTitles, centerPlace, AreaFits, titlesOf, titleOf, Added, Moved};
 
 // Draws a title at a place with a non-empty area, and returns the place after it.
@@ -29,15 +31,16 @@ fn render_title_at(
     place: Place,
     word: u32,
     glyphs: &[u32],
+    ambiguous: AmbiguousWidth,
 ) -> Place
     requires { ⌜ TitleArea screen (length (now cells)) (place .area) ⌝ }
-    ensures place { λ r. ⌜ r ≡ nextPlace place (placedWidth place (titleLineWidth (now (glyphs .entry)))) ⌝ }
+    ensures place { λ r. ⌜ r ≡ nextPlace place (placedWidth place (titleLineWidth (titleGlyphs ambiguous (now (glyphs .entry))))) ⌝ }
     ensures drawn { λ r.
-        let drawing = titleDrawn (now (styles .entry)) block (placedAt place (titleOf 0 word (now (glyphs .entry)))) in
+        let drawing = titleDrawn (now (styles .entry)) block (placedAt place (titleOf ambiguous word (now (glyphs .entry)))) in
         ⌜ now (cells .exit) ≡ drawn (screen .columns) drawing (now (cells .entry)) ⌝ }
 {
     let area = place.area;
-    let width = place.width(title::line_width_u16(glyphs));
+    let width = place.width(title::line_width_u16(glyphs, ambiguous));
     let part = Rect {
         x: area.x,
         y: area.y,
@@ -52,6 +55,7 @@ fn render_title_at(
         part,
         place.alignment(word),
         glyphs,
+        ambiguous,
     );
     place.next(width)
 }
@@ -66,16 +70,17 @@ fn render_next_title(
     place: Place,
     word: u32,
     glyphs: &[u32],
+    ambiguous: AmbiguousWidth,
 ) -> Place
     requires { ⌜ AreaFits screen (length (now cells)) (place .area) × (0 < screen .columns) ⌝ }
-    ensures { λ r. ⌜ Moved screen (now (styles .entry)) block group word (now (glyphs .entry)) place (now (cells .entry)) r (now (cells .exit)) ⌝ }
+    ensures { λ r. ⌜ Moved screen (now (styles .entry)) block group (titleOf ambiguous word (now (glyphs .entry))) place (now (cells .entry)) r (now (cells .exit)) ⌝ }
 {
     let area = place.area;
     if area.is_empty() {
         return place;
     }
     if group.has_title(block, word) {
-        return render_title_at(screen, cells, styles, block, place, word, glyphs);
+        return render_title_at(screen, cells, styles, block, place, word, glyphs, ambiguous);
     }
     place
 }
@@ -87,6 +92,7 @@ fn render_titles_forward(
     cells: &mut [u64],
     styles: &[u64],
     titles: &[u32],
+    ambiguous: AmbiguousWidth,
     block: Block,
     group: Group,
     place: Place,
@@ -94,7 +100,7 @@ fn render_titles_forward(
     requires { ⌜ (0 < screen .columns) × Opens (now titles) ⌝ }
     requires { ⌜ AreaFits screen (length (now cells)) (place .area) ⌝ }
     ensures { λ _.
-        let drawing = titlesDrawn (now (styles .entry)) block (placedTitles place (titlesOf block group (linesFrom 0 (now (titles .entry))))) in
+        let drawing = titlesDrawn (now (styles .entry)) block (placedTitles place (titlesOf block group (titlesFrom ambiguous (now (titles .entry))))) in
         ⌜ now (cells .exit) ≡ drawn (screen .columns) drawing (now (cells .entry)) ⌝ }
 {
     let mut place = place;
@@ -111,32 +117,43 @@ fn render_titles_forward(
             place,
             titles[at],
             &titles[from..end],
+            ambiguous,
         );
         at = end;
     }
 }
 
 // Returns the sum plus the title's width and one column, if the title belongs to the group.
-fn add_spaced(sum: u16, block: Block, group: Group, word: u32, glyphs: &[u32]) -> u16
-    ensures { λ r. ⌜ Added block group word (now (glyphs .entry)) sum r ⌝ }
+fn add_spaced(
+    sum: u16,
+    block: Block,
+    group: Group,
+    word: u32,
+    glyphs: &[u32],
+    ambiguous: AmbiguousWidth,
+) -> u16
+    ensures { λ r. ⌜ Added block group (titleOf ambiguous word (now (glyphs .entry))) sum r ⌝ }
 {
     if group.has_title(block, word) {
-        return num::saturating_add(sum, places::spaced(title::line_width_u16(glyphs)));
+        return num::saturating_add(
+            sum,
+            places::spaced(title::line_width_u16(glyphs, ambiguous)),
+        );
     }
     sum
 }
 
 // Returns the sum of the widths of a group's titles, with one column after each.
-fn spaced_width(titles: &[u32], block: Block, group: Group) -> u16
+fn spaced_width(titles: &[u32], ambiguous: AmbiguousWidth, block: Block, group: Group) -> u16
     requires { ⌜ Opens (now titles) ⌝ }
-    ensures { λ r. ⌜ r ≡ spacedFrom 0 (titlesOf block group (linesFrom 0 (now (titles .entry)))) ⌝ }
+    ensures { λ r. ⌜ r ≡ spacedFrom 0 (titlesOf block group (titlesFrom ambiguous (now (titles .entry)))) ⌝ }
 {
     let mut sum: u16 = 0;
     let mut at = 0;
     while at < titles.len() {
         let from = at + 1;
         let end = from + line::line_length(&titles[from..]);
-        sum = add_spaced(sum, block, group, titles[at], &titles[from..end]);
+        sum = add_spaced(sum, block, group, titles[at], &titles[from..end], ambiguous);
         at = end;
     }
     sum
@@ -148,6 +165,7 @@ pub fn render_left_titles(
     cells: &mut [u64],
     styles: &[u64],
     titles: &[u32],
+    ambiguous: AmbiguousWidth,
     block: Block,
     position: TitlePosition,
     area: Rect,
@@ -155,7 +173,7 @@ pub fn render_left_titles(
     requires { ⌜ (0 < screen .columns) × Opens (now titles) ⌝ }
     requires { ⌜ AreaFits screen (length (now cells)) area ⌝ }
     ensures { λ _.
-        let drawing = titlesDrawn (now (styles .entry)) block (leftTitles area (filteredTitles block position Left (linesFrom 0 (now (titles .entry))))) in
+        let drawing = titlesDrawn (now (styles .entry)) block (leftTitles area (filteredTitles block position Left (titlesFrom ambiguous (now (titles .entry))))) in
         ⌜ now (cells .exit) ≡ drawn (screen .columns) drawing (now (cells .entry)) ⌝ }
 {
     let group = Group {
@@ -167,7 +185,16 @@ pub fn render_left_titles(
         offset: 0,
         truncates: false,
     };
-    render_titles_forward(screen, cells, styles, titles, block, group, place);
+    render_titles_forward(
+        screen,
+        cells,
+        styles,
+        titles,
+        ambiguous,
+        block,
+        group,
+        place,
+    );
 }
 
 // Returns the place of the first centred title, given the total width of all centred titles
@@ -202,6 +229,7 @@ pub fn render_center_titles(
     cells: &mut [u64],
     styles: &[u64],
     titles: &[u32],
+    ambiguous: AmbiguousWidth,
     block: Block,
     position: TitlePosition,
     area: Rect,
@@ -209,14 +237,23 @@ pub fn render_center_titles(
     requires { ⌜ (0 < screen .columns) × Opens (now titles) ⌝ }
     requires { ⌜ AreaFits screen (length (now cells)) area × (area .height ≡ 1) ⌝ }
     ensures { λ _.
-        let drawing = titlesDrawn (now (styles .entry)) block (centerTitles area (filteredTitles block position Center (linesFrom 0 (now (titles .entry))))) in
+        let drawing = titlesDrawn (now (styles .entry)) block (centerTitles area (filteredTitles block position Center (titlesFrom ambiguous (now (titles .entry))))) in
         ⌜ now (cells .exit) ≡ drawn (screen .columns) drawing (now (cells .entry)) ⌝ }
 {
     let group = Group {
         position,
         alignment: Alignment::Center,
     };
-    let spaced = spaced_width(titles, block, group);
+    let spaced = spaced_width(titles, ambiguous, block, group);
     let place = center_place(area, num::saturating_sub(spaced, 1));
-    render_titles_forward(screen, cells, styles, titles, block, group, place);
+    render_titles_forward(
+        screen,
+        cells,
+        styles,
+        titles,
+        ambiguous,
+        block,
+        group,
+        place,
+    );
 }

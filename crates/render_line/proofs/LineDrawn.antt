@@ -79,7 +79,7 @@ module _ (v : LineCall) (start : ℕ) (part : List ℕ) (counts : GlyphCounts) (
   borrowed-length : length borrowed ≡ room
   borrowed-length = part-length start area (v .row) (w .low) (omega arith)
 
-  starts-drawn : startsFrom (start + 0) (notOverWide (v .rule) (numbered (line .first) records)) ≡ drawnStarts area composed
+  starts-drawn : startsFrom (start + 0) (notOverWide (v .rule) (numbered (v .rule .ambiguous) (line .first) records)) ≡ drawnStarts area composed
   unfolding drawnStarts lineAt
   starts-drawn = rw (add-zero, w .offset, w .width, slice-borrowed (line .first) (line .end) (v .text) (w .ordered) (w .within))
 
@@ -104,7 +104,7 @@ module _ (v : LineCall) (start : ℕ) (part : List ℕ) (counts : GlyphCounts) (
   cell-before : (i cell : ℕ) → i < start → CellAgrees i cell
   unfolding lineOn
   cell-before i cell p =
-      let glyphs : List Glyph = notOverWide (v .rule) (numbered (line .first) records) in
+      let glyphs : List Glyph = notOverWide (v .rule) (numbered (v .rule .ambiguous) (line .first) records) in
       simp (within-before start area i p)
       (sym (rw starts-drawn at (glyphs-before (v .styles) (v .style) area (start + 0) glyphs i cell (omega arith))))
 

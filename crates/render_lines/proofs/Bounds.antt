@@ -88,19 +88,19 @@ sum-aligned : (a : Alignment) (ls : List (List Glyph)) → sumOf glyphsIn (map (
 sum-aligned a [] = refl
 sum-aligned a (gs ∷ ls) = omega (arith, sum-aligned a ls, length-append gs (glyphsOfAll ls))
 
-line-few : (u : Rule) (method : Method) (default : Alignment) (line : TextLine) → sumOf glyphsIn (lineLines u method default line) ≤ length (glyphsOf line)
+line-few : (u : Rule) (method : Method) (default : Alignment) (line : TextLine) → sumOf glyphsIn (lineLines u method default line) ≤ length (glyphsOf (u .ambiguous) line)
 unfolding lineLines
 line-few u method default line =
     let a : Alignment = resolved (alignmentOf (line .head)) default in
-    omega (arith, sum-aligned a (linesOf u method a (glyphsOf line)), lines-of-few u method a (glyphsOf line))
+    omega (arith, sum-aligned a (linesOf u method a (glyphsOf (u .ambiguous) line)), lines-of-few u method a (glyphsOf (u .ambiguous) line))
 
-all-few : (u : Rule) (method : Method) (default : Alignment) (ls : List TextLine) → sumOf glyphsIn (allLines u method default ls) ≤ length (lineGlyphs ls)
+all-few : (u : Rule) (method : Method) (default : Alignment) (ls : List TextLine) → sumOf glyphsIn (allLines u method default ls) ≤ length (lineGlyphs (u .ambiguous) ls)
 all-few u method default [] = omega arith
 all-few u method default (line ∷ rest) =
     omega (
       arith,
       sum-append glyphsIn (lineLines u method default line) (allLines u method default rest),
-      length-append (glyphsOf line) (lineGlyphs rest),
+      length-append (glyphsOf (u .ambiguous) line) (lineGlyphs (u .ambiguous) rest),
       line-few u method default line,
       all-few u method default rest,
     )
@@ -112,8 +112,8 @@ lines-few u method default text =
     omega (
       arith,
       all-few u method default (linesFrom 0 text),
-      simp length-append at (ap length (split-glyphs 0 text)),
-      glyphs-short 0 text,
+      simp length-append at (ap length (split-glyphs (u .ambiguous) 0 text)),
+      glyphs-short (u .ambiguous) 0 text,
     )
 
 -- a count bounded by each line's glyphs is bounded by the records, over any consecutive lines of the text

@@ -3,6 +3,7 @@ use block::Block;
 use buffer::Screen;
 use layout::Rect;
 use text::Alignment;
+use text::AmbiguousWidth;
 use text::TitlePosition;
 use text::head;
 use text::line;
@@ -13,11 +14,11 @@ ghost use mathlib.Core.List.{reverse};
 ghost use Prim.Native.Nat.{_<_};
 ghost use lib.ListN.{length};
 ghost use Rattle.text.specs.declared.Alignment.the-variants.{Right};
-ghost use Rattle.text.specs.Line.{linesFrom};
 ghost use Rattle.buffer.specs.Drawing.{drawn};
+ghost use Rattle.title_glyphs.specs.TitleGlyphs.{titleGlyphs};
 ghost use Rattle.title.specs.Title.{titleLineWidth};
 ghost use Rattle.title.specs.FittingExtra.{TitleArea};
-ghost use Rattle.titles.specs.Titles.{filteredTitles, placedAsGiven, titleDrawn, titlesDrawn, rightPart, beforeTitle, rightTitles};
+ghost use Rattle.titles.specs.Titles.{titlesFrom, filteredTitles, placedAsGiven, titleDrawn, titlesDrawn, rightPart, beforeTitle, rightTitles};
 ghost use Rattle.titles.specs.PlacingExtra.{AreaFits, titlesOf, titleOf, MovedBack};
 
 // Returns the area remaining before a title of this width at the right end and the column between titles.
@@ -53,15 +54,16 @@ fn render_title_before(
     area: Rect,
     word: u32,
     glyphs: &[u32],
+    ambiguous: AmbiguousWidth,
 ) -> Rect
     requires { ⌜ TitleArea screen (length (now cells)) area ⌝ }
-    ensures left { λ r. ⌜ r ≡ beforeTitle (titleLineWidth (now (glyphs .entry))) area ⌝ }
+    ensures left { λ r. ⌜ r ≡ beforeTitle (titleLineWidth (titleGlyphs ambiguous (now (glyphs .entry)))) area ⌝ }
     ensures drawn { λ r.
-        let part = rightPart (titleLineWidth (now (glyphs .entry))) area in
-        let drawing = titleDrawn (now (styles .entry)) block (placedAsGiven part (titleOf 0 word (now (glyphs .entry)))) in
+        let part = rightPart (titleLineWidth (titleGlyphs ambiguous (now (glyphs .entry)))) area in
+        let drawing = titleDrawn (now (styles .entry)) block (placedAsGiven part (titleOf ambiguous word (now (glyphs .entry)))) in
         ⌜ now (cells .exit) ≡ drawn (screen .columns) drawing (now (cells .entry)) ⌝ }
 {
-    let width = title::line_width_u16(glyphs);
+    let width = title::line_width_u16(glyphs, ambiguous);
     let part = right_part(area, width);
     let alignment = head::resolve(word, Alignment::Left);
     title::render_title(
@@ -72,6 +74,7 @@ fn render_title_before(
         part,
         alignment,
         glyphs,
+        ambiguous,
     );
     before_title(area, width)
 }
@@ -86,15 +89,16 @@ fn render_previous_title(
     area: Rect,
     word: u32,
     glyphs: &[u32],
+    ambiguous: AmbiguousWidth,
 ) -> Rect
     requires { ⌜ AreaFits screen (length (now cells)) area × (0 < screen .columns) ⌝ }
-    ensures { λ r. ⌜ MovedBack screen (now (styles .entry)) block group word (now (glyphs .entry)) area (now (cells .entry)) r (now (cells .exit)) ⌝ }
+    ensures { λ r. ⌜ MovedBack screen (now (styles .entry)) block group (titleOf ambiguous word (now (glyphs .entry))) area (now (cells .entry)) r (now (cells .exit)) ⌝ }
 {
     if area.is_empty() {
         return area;
     }
     if group.has_title(block, word) {
-        return render_title_before(screen, cells, styles, block, area, word, glyphs);
+        return render_title_before(screen, cells, styles, block, area, word, glyphs, ambiguous);
     }
     area
 }
@@ -105,6 +109,7 @@ fn render_titles_backward(
     cells: &mut [u64],
     styles: &[u64],
     titles: &[u32],
+    ambiguous: AmbiguousWidth,
     block: Block,
     group: Group,
     area: Rect,
@@ -112,8 +117,8 @@ fn render_titles_backward(
     requires { ⌜ 0 < screen .columns ⌝ }
     requires { ⌜ AreaFits screen (length (now cells)) area ⌝ }
     ensures { λ _.
-        let lines = linesFrom 0 (now (titles .entry)) in
-        let drawing = titlesDrawn (now (styles .entry)) block (rightTitles area (reverse (titlesOf block group lines))) in
+        let all = titlesFrom ambiguous (now (titles .entry)) in
+        let drawing = titlesDrawn (now (styles .entry)) block (rightTitles area (reverse (titlesOf block group all))) in
         ⌜ now (cells .exit) ≡ drawn (screen .columns) drawing (now (cells .entry)) ⌝ }
 {
     let first = line::line_length(titles);
@@ -131,6 +136,7 @@ fn render_titles_backward(
             left,
             titles[at],
             &titles[from..end],
+            ambiguous,
         );
         end = at;
     }
@@ -142,6 +148,7 @@ pub fn render_right_titles(
     cells: &mut [u64],
     styles: &[u64],
     titles: &[u32],
+    ambiguous: AmbiguousWidth,
     block: Block,
     position: TitlePosition,
     area: Rect,
@@ -149,13 +156,13 @@ pub fn render_right_titles(
     requires { ⌜ 0 < screen .columns ⌝ }
     requires { ⌜ AreaFits screen (length (now cells)) area ⌝ }
     ensures { λ _.
-        let lines = linesFrom 0 (now (titles .entry)) in
-        let drawing = titlesDrawn (now (styles .entry)) block (rightTitles area (reverse (filteredTitles block position Right lines))) in
+        let all = titlesFrom ambiguous (now (titles .entry)) in
+        let drawing = titlesDrawn (now (styles .entry)) block (rightTitles area (reverse (filteredTitles block position Right all))) in
         ⌜ now (cells .exit) ≡ drawn (screen .columns) drawing (now (cells .entry)) ⌝ }
 {
     let group = Group {
         position,
         alignment: Alignment::Right,
     };
-    render_titles_backward(screen, cells, styles, titles, block, group, area);
+    render_titles_backward(screen, cells, styles, titles, ambiguous, block, group, area);
 }

@@ -10,12 +10,12 @@ use Rattle.render_text.specs.SettingsExtra.{textOptionsOf}
 
 module _ (n : TextSettings) (width : ℕ) where
   pub wrapped : (trim : Bool) → n .wrap ≡ On trim
-      → record { rule = ruleOf width trim; method = WordWrap; «default_alignment» = n .alignment; style = n .«text_style»; scroll = n .scroll } ≡ textOptionsOf n width
+      → record { rule = ruleOf (n .ambiguous) width trim; method = WordWrap; «default_alignment» = n .alignment; style = n .«text_style»; scroll = n .scroll } ≡ textOptionsOf n width
   unfolding textOptionsOf
   wrapped trim e = rw e
 
   pub unwrapped : (column : ℕ) → n .wrap ≡ Off column
-      → record { rule = ruleOf width false; method = Truncate column; «default_alignment» = n .alignment; style = n .«text_style»; scroll = n .scroll } ≡ textOptionsOf n width
+      → record { rule = ruleOf (n .ambiguous) width false; method = Truncate column; «default_alignment» = n .alignment; style = n .«text_style»; scroll = n .scroll } ≡ textOptionsOf n width
   unfolding textOptionsOf
   unwrapped column e = rw e
 

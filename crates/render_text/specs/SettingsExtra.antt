@@ -15,7 +15,7 @@ use Rattle.render_text.specs.declared.TextSettings.{TextSettings}
 unfoldable pub textOptionsOf : TextSettings → ℕ → TextOptions
 textOptionsOf n width =
     record {
-      rule = ruleAt (n .wrap) width;
+      rule = ruleAt (n .ambiguous) (n .wrap) width;
       method = methodOf (n .wrap);
       «default_alignment» = n .alignment;
       style = n .«text_style»;

@@ -7,6 +7,7 @@ use line_composer::Wrap;
 use render_lines::DrawCounts;
 use render_lines::TextOptions;
 use text::Alignment;
+use text::AmbiguousWidth;
 use wrapping::Rule;
 ghost use mathlib.Core.Path.{_≡_};
 ghost use mathlib.Core.Bool.{false};
@@ -18,13 +19,14 @@ ghost use Rattle.render_lines.specs.DrawingExtra.{Composable};
 ghost use Rattle.render_text.specs.SettingsExtra.{textOptionsOf, linesOn, linesCounted};
 
 // Settings of a notice without its block. `style` and `text_style` are style numbers, `alignment` is the default of its lines,
-// `scroll` the first line drawn.
+// `scroll` the first line drawn, `ambiguous` how ambiguous glyphs are read.
 pub struct TextSettings {
     pub style: u8,
     pub text_style: u8,
     pub alignment: Alignment,
     pub wrap: Wrap,
     pub scroll: u16,
+    pub ambiguous: AmbiguousWidth,
 }
 
 // Returns the options that `render_lines` takes, at a width.
@@ -36,16 +38,25 @@ fn text_options(notice: TextSettings, width: u16) -> TextOptions
     let style = notice.text_style;
     let scroll = notice.scroll;
     let wrap = notice.wrap;
+    let ambiguous = notice.ambiguous;
     match wrap {
         Wrap::On { trim } => TextOptions {
-            rule: Rule { limit, trim },
+            rule: Rule {
+                limit,
+                trim,
+                ambiguous,
+            },
             method: Method::WordWrap,
             default_alignment,
             style,
             scroll,
         },
         Wrap::Off { column } => TextOptions {
-            rule: Rule { limit, trim: false },
+            rule: Rule {
+                limit,
+                trim: false,
+                ambiguous,
+            },
             method: Method::Truncate(column as u32),
             default_alignment,
             style,

@@ -2,16 +2,17 @@
 use block::Block;
 use buffer::Screen;
 use layout::Rect;
+use text::AmbiguousWidth;
 use text::TitlePosition;
 ghost use mathlib.Core.Path.{_≡_};
 ghost use mathlib.Core.Bool.{false};
 ghost use Prim.Native.Nat.{_<_, _^_};
 ghost use lib.ListN.{length};
-ghost use Rattle.text.specs.Line.{linesFrom, Opens};
+ghost use Rattle.text.specs.Line.{Opens};
 ghost use Rattle.layout.specs.Rect.{isEmpty};
 ghost use Rattle.buffer.specs.Drawing.{drawn};
 ghost use Rattle.buffer.specs.PartsExtra.{OnScreen};
-ghost use Rattle.titles.specs.Titles.{titlesDrawn, titlesRow, titlesArea, groupsIn, titlesAt, titlesOn};
+ghost use Rattle.titles.specs.Titles.{titlesFrom, titlesDrawn, titlesRow, titlesArea, groupsIn, titlesAt, titlesOn};
 ghost use Rattle.titles.specs.PlacingExtra.{AreaFits};
 
 // Returns the row of the titles at a position.
@@ -45,6 +46,7 @@ fn render_in_titles_area(
     cells: &mut [u64],
     styles: &[u64],
     titles: &[u32],
+    ambiguous: AmbiguousWidth,
     block: Block,
     position: TitlePosition,
     area: Rect,
@@ -52,7 +54,7 @@ fn render_in_titles_area(
     requires { ⌜ (0 < screen .columns) × Opens (now titles) × (area .height ≡ 1) ⌝ }
     requires { ⌜ AreaFits screen (length (now cells)) area ⌝ }
     ensures { λ _.
-        let drawing = titlesDrawn (now (styles .entry)) block (groupsIn block position area (linesFrom 0 (now (titles .entry)))) in
+        let drawing = titlesDrawn (now (styles .entry)) block (groupsIn block position area (titlesFrom ambiguous (now (titles .entry)))) in
         ⌜ now (cells .exit) ≡ drawn (screen .columns) drawing (now (cells .entry)) ⌝ }
 {
     render_left_center_titles::render_left_titles(
@@ -60,6 +62,7 @@ fn render_in_titles_area(
         cells,
         styles,
         titles,
+        ambiguous,
         block,
         position,
         area,
@@ -69,11 +72,21 @@ fn render_in_titles_area(
         cells,
         styles,
         titles,
+        ambiguous,
         block,
         position,
         area,
     );
-    render_right_titles::render_right_titles(screen, cells, styles, titles, block, position, area);
+    render_right_titles::render_right_titles(
+        screen,
+        cells,
+        styles,
+        titles,
+        ambiguous,
+        block,
+        position,
+        area,
+    );
 }
 
 // Draws the titles at a position of a non-empty rectangle (block.rs: `Block::render_title_position`).
@@ -82,6 +95,7 @@ fn render_title_position(
     cells: &mut [u64],
     styles: &[u64],
     titles: &[u32],
+    ambiguous: AmbiguousWidth,
     block: Block,
     position: TitlePosition,
     met: Rect,
@@ -89,11 +103,20 @@ fn render_title_position(
     requires { ⌜ (isEmpty met ≡ false) × (screen .columns < 2 ^ 15) × (screen .rows < 2 ^ 15) × Opens (now titles) ⌝ }
     requires { ⌜ OnScreen screen (length (now cells)) met ⌝ }
     ensures { λ _.
-        let drawing = titlesDrawn (now (styles .entry)) block (titlesAt block position met (linesFrom 0 (now (titles .entry)))) in
+        let drawing = titlesDrawn (now (styles .entry)) block (titlesAt block position met (titlesFrom ambiguous (now (titles .entry)))) in
         ⌜ now (cells .exit) ≡ drawn (screen .columns) drawing (now (cells .entry)) ⌝ }
 {
     let area = titles_area(block, position, met);
-    render_in_titles_area(screen, cells, styles, titles, block, position, area);
+    render_in_titles_area(
+        screen,
+        cells,
+        styles,
+        titles,
+        ambiguous,
+        block,
+        position,
+        area,
+    );
 }
 
 // Draws a block's titles over a non-empty rectangle: top, then bottom (block.rs: `Block::render_titles`).
@@ -102,13 +125,14 @@ pub fn render_titles(
     cells: &mut [u64],
     styles: &[u64],
     titles: &[u32],
+    ambiguous: AmbiguousWidth,
     block: Block,
     met: Rect,
 )
     requires { ⌜ (isEmpty met ≡ false) × (screen .columns < 2 ^ 15) × (screen .rows < 2 ^ 15) × Opens (now titles) ⌝ }
     requires { ⌜ OnScreen screen (length (now cells)) met ⌝ }
     ensures { λ _.
-        let drawing = titlesOn (now (styles .entry)) block met (now (titles .entry)) in
+        let drawing = titlesOn (now (styles .entry)) block met (titlesFrom ambiguous (now (titles .entry))) in
         ⌜ now (cells .exit) ≡ drawn (screen .columns) drawing (now (cells .entry)) ⌝ }
 {
     render_title_position(
@@ -116,6 +140,7 @@ pub fn render_titles(
         cells,
         styles,
         titles,
+        ambiguous,
         block,
         TitlePosition::Top,
         met,
@@ -125,6 +150,7 @@ pub fn render_titles(
         cells,
         styles,
         titles,
+        ambiguous,
         block,
         TitlePosition::Bottom,
         met,

@@ -3,6 +3,7 @@ use layout::Rect;
 use libc::STDOUT_FILENO;
 use num::byte_to_u32;
 use test_blocks::plain;
+use text::AmbiguousWidth;
 use text::glyph;
 use text::head;
 ghost use Prim.Native.Nat.{_<_, _≤_};
@@ -41,6 +42,7 @@ fn draw_row(cells: &mut [u64], columns: u16, titles: &[u32]) {
         cells,
         &styles,
         titles,
+        AmbiguousWidth::Narrow,
         area,
         plain::plain(),
     );

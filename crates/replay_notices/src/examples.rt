@@ -5,6 +5,7 @@ use line_composer::Wrap;
 use paragraph::Notice;
 use test_blocks::plain;
 use text::Alignment;
+use text::AmbiguousWidth;
 use text::glyph;
 use text::head;
 ghost use Prim.Native.Nat.{_<_, _^_};
@@ -18,6 +19,7 @@ fn notice(column: u16) -> Notice {
         alignment: Alignment::Left,
         wrap: Wrap::Off { column },
         scroll: 0,
+        ambiguous: AmbiguousWidth::Narrow,
     }
 }
 

@@ -26,16 +26,16 @@ over-append u (g ∷ a) b = go (overWide u g) (over-append u a b)
     go false e = e
 
 -- the over-wide glyphs of all lines are those of each line together
-pub skipped-length : (u : Rule) (ls : List TextLine) → length (overWides u (lineGlyphs ls)) ≡ length (allSkipped u ls)
+pub skipped-length : (u : Rule) (ls : List TextLine) → length (overWides u (lineGlyphs (u .ambiguous) ls)) ≡ length (allSkipped u ls)
 skipped-length u [] = refl
 skipped-length u (line ∷ rest) = simp (over-append, length-append) (omega (arith, skipped-length u rest))
 
 -- at a limit above 0 every glyph of text lines is emitted, dropped or over-wide
 pub all-accounted : (u : Rule) (ls : List TextLine) → 0 < u .limit
-    → length (glyphsOfAll (wrapped u ls)) + length (allDropped u ls) + length (allSkipped u ls) ≡ length (lineGlyphs ls)
+    → length (glyphsOfAll (wrapped u ls)) + length (allDropped u ls) + length (allSkipped u ls) ≡ length (lineGlyphs (u .ambiguous) ls)
 all-accounted u [] h = refl
 all-accounted u (line ∷ rest) h =
-    simp (glyphs-append, length-append) (omega (arith, accounted-lengths u (glyphsOf line) h, all-accounted u rest h))
+    simp (glyphs-append, length-append) (omega (arith, accounted-lengths u (glyphsOf (u .ambiguous) line) h, all-accounted u rest h))
 
 -- every dropped glyph is whitespace
 pub all-blank : (u : Rule) (ls : List TextLine) → solids (allDropped u ls) ≡ []

@@ -33,13 +33,13 @@ use Rattle.tally.specs.Call.{Call, ruleIn, causesOf, verdictOf, countsOf
 use Rattle.tally.proofs.Accounted.{skipped-length, all-accounted, all-blank}
 
 -- a text that opens with a head has no glyph outside its lines, so its over-wide glyphs are those of its lines
-pub skipped-glyphs : (u : Rule) (text : List ℕ) → Opens text → length (overWides u (glyphsFrom 0 text)) ≡ length (skipped u text)
+pub skipped-glyphs : (u : Rule) (text : List ℕ) → Opens text → length (overWides u (glyphsFrom (u .ambiguous) 0 text)) ≡ length (skipped u text)
 unfolding skipped
-skipped-glyphs u text o = rw (all-glyphs 0 text (opens-none text o)) at (skipped-length u (linesFrom 0 text))
+skipped-glyphs u text o = rw (all-glyphs (u .ambiguous) 0 text (opens-none text o)) at (skipped-length u (linesFrom 0 text))
 
 pub counts : (u : Rule) (text : List ℕ) → Opens text → 0 < u .limit →
     let c = tallyOf u text in
-    c .placed + c .clipped + c .«zero_width» + c .«over_wide» + c .dropped ≡ length (glyphsFrom 0 text)
+    c .placed + c .clipped + c .«zero_width» + c .«over_wide» + c .dropped ≡ length (glyphsFrom (u .ambiguous) 0 text)
 unfolding tallyOf skipped dropped
 counts u text o h =
     rw (ne-eqb (u .limit) 0 (λ (e : u .limit ≡ 0). omega arith))
@@ -47,7 +47,7 @@ counts u text o h =
       arith,
       all-counted (u .limit) (starts (composed u text)),
       emitted-length u Left text,
-      rw (all-glyphs 0 text (opens-none text o)) at (all-accounted u (linesFrom 0 text) h),
+      rw (all-glyphs (u .ambiguous) 0 text (opens-none text o)) at (all-accounted u (linesFrom 0 text) h),
     ))
 
 pub all-whitespace : (u : Rule) (text : List ℕ) → solids (dropped u text) ≡ []
@@ -61,7 +61,7 @@ opened call a = text-opens (call .text) (no-cause (causesOf mostAccepted call) T
 
 pub tally-counts : (call : Call) → verdictOf call ≡ Accepted → 0 < call .limit →
     let c = countsOf call in
-    (c .placed + c .clipped + c .«zero_width» + c .«over_wide» + c .dropped ≡ length (glyphsFrom 0 (call .text)))
+    (c .placed + c .clipped + c .«zero_width» + c .«over_wide» + c .dropped ≡ length (glyphsFrom (call .ambiguous) 0 (call .text)))
     × (solids (dropped (ruleIn call) (call .text)) ≡ [])
 unfolding countsOf
 tally-counts call a h = (rw a (counts (ruleIn call) (call .text) (opened call a) h), all-whitespace (ruleIn call) (call .text))

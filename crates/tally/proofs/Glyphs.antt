@@ -16,16 +16,16 @@ use Rattle.wrapping.specs.Wrapping.{overWide, overWides}
 use Rattle.tally.specs.TallyingExtra.{glyphCounts}
 
 -- the glyphs from record i on
-abbrev pub after : List ℕ → ℕ → List Glyph
-after text i = glyphsFrom i (drop i text)
+abbrev pub after : Rule → List ℕ → ℕ → List Glyph
+after u text i = glyphsFrom (u .ambiguous) i (drop i text)
 
 -- Invariant of `glyph_counts`: i records were read; the counts so far plus those of the remaining records are those of the text.
 pub record Passing (u : Rule) (text : List ℕ) (glyphs over i : ℕ) : Type 0 where
   pub within : i ≤ length text
   pub glyphs-few : glyphs ≤ i
   pub over-few : over ≤ i
-  pub all : glyphs + length (after text i) ≡ length (glyphsFrom 0 text)
-  pub wide : over + length (overWides u (after text i)) ≡ length (overWides u (glyphsFrom 0 text))
+  pub all : glyphs + length (after u text i) ≡ length (glyphsFrom (u .ambiguous) 0 text)
+  pub wide : over + length (overWides u (after u text i)) ≡ length (overWides u (glyphsFrom (u .ambiguous) 0 text))
 
 module _ (u : Rule) (text : List ℕ) where
   pub passing-starts : Passing u text 0 0 0
@@ -35,7 +35,7 @@ module _ (u : Rule) (text : List ℕ) where
     module _ (h : i < length text) (b : Bool) (e : b ≡ isHead (getD text i 0)) where
       pub passing-head : b ≡ true → Passing u text glyphs over (i + 1)
       passing-head t =
-          let k : after text i ≡ after text (i + 1) = rw (add-one, drop-cons text i 0 h, ← e, t) in
+          let k : after u text i ≡ after u text (i + 1) = rw (add-one, drop-cons text i 0 h, ← e, t) in
           record {
             within = omega arith;
             glyphs-few = omega (arith, p .glyphs-few);
@@ -44,14 +44,14 @@ module _ (u : Rule) (text : List ℕ) where
             wide = rw k at (p .wide);
           }
 
-      module _ (f : b ≡ false) (w : ℕ) (g : w ≡ widthOf (getD text i 0)) where
-        glyph-first : after text i ≡ glyphFrom i (getD text i 0) ∷ after text (i + 1)
+      module _ (f : b ≡ false) (w : ℕ) (g : w ≡ widthOf (u .ambiguous) (getD text i 0)) where
+        glyph-first : after u text i ≡ glyphFrom (u .ambiguous) i (getD text i 0) ∷ after u text (i + 1)
         glyph-first = rw (add-one, drop-cons text i 0 h, ← e, f)
 
         pub passing-wide : u .limit < w → Passing u text (glyphs + 1) (over + 1) (i + 1)
         unfolding overWide
         passing-wide o =
-            let t : ltb (u .limit) (widthOf (getD text i 0)) ≡ true = lt-ltb (u .limit) (widthOf (getD text i 0)) (omega arith) in
+            let t : ltb (u .limit) (widthOf (u .ambiguous) (getD text i 0)) ≡ true = lt-ltb (u .limit) (widthOf (u .ambiguous) (getD text i 0)) (omega arith) in
             record {
               within = omega arith;
               glyphs-few = omega (arith, p .glyphs-few);
@@ -63,7 +63,7 @@ module _ (u : Rule) (text : List ℕ) where
         pub passing-narrow : w ≤ u .limit → Passing u text (glyphs + 1) over (i + 1)
         unfolding overWide
         passing-narrow o =
-            let t : ltb (u .limit) (widthOf (getD text i 0)) ≡ false = le-ltb (u .limit) (widthOf (getD text i 0)) (omega arith) in
+            let t : ltb (u .limit) (widthOf (u .ambiguous) (getD text i 0)) ≡ false = le-ltb (u .limit) (widthOf (u .ambiguous) (getD text i 0)) (omega arith) in
             record {
               within = omega arith;
               glyphs-few = omega (arith, p .glyphs-few);
@@ -76,8 +76,8 @@ module _ (u : Rule) (text : List ℕ) where
     unfolding glyphCounts
     passing-done h =
         let n : drop i text ≡ [] = drop-of-length-le text h in
-        let a : glyphs ≡ length (glyphsFrom 0 text) = omega (arith, rw n at (p .all)) in
-        let w : over ≡ length (overWides u (glyphsFrom 0 text)) = omega (arith, rw n at (p .wide)) in
+        let a : glyphs ≡ length (glyphsFrom (u .ambiguous) 0 text) = omega (arith, rw n at (p .all)) in
+        let w : over ≡ length (overWides u (glyphsFrom (u .ambiguous) 0 text)) = omega (arith, rw n at (p .wide)) in
         cc
 
 pub ruleset passing = (passing-starts, passing-head, passing-wide, passing-narrow, passing-done)

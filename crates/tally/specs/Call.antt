@@ -1,7 +1,8 @@
--- Document 01, 'Why a call is refused': the causes and the answer of the call `tally`.
+-- Document 01, 'Why a call is refused': the causes and the answer of the call `tally`. Document 02, C-11: its text is read as set.
 use Prim.Native.Nat.{ℕ}
 use mathlib.Core.Bool.{Bool}
 use mathlib.Core.List.{List}
+use Rattle.text.specs.declared.AmbiguousWidth.{AmbiguousWidth}
 use Rattle.refuse.specs.declared.Ceilings.{Ceilings}
 use Rattle.refuse.specs.declared.Verdict.{Verdict}
 use Rattle.refuse.specs.Refusal.{Cause, firstCause, refusalNumber, answering, unlessRefused}
@@ -16,14 +17,15 @@ use Rattle.tally.specs.Tally.{noCounts, tallyOf}
 -- inputs of the call
 pub record Call : Type 0 where
   pub text : List ℕ
+  pub ambiguous : AmbiguousWidth
   pub limit : ℕ
   pub trim : Bool
 
-abbrev pub callOf : List ℕ → ℕ → Bool → Call
-callOf text limit trim = record { text = text; limit = limit; trim = trim }
+abbrev pub callOf : List ℕ → AmbiguousWidth → ℕ → Bool → Call
+callOf text ambiguous limit trim = record { text = text; ambiguous = ambiguous; limit = limit; trim = trim }
 
 abbrev pub ruleIn : Call → Rule
-ruleIn call = ruleOf (call .limit) (call .trim)
+ruleIn call = ruleOf (call .ambiguous) (call .limit) (call .trim)
 
 -- causes 3, 4, 8
 unfoldable pub causesOf : Ceilings → Call → List Cause

@@ -10,4 +10,4 @@ use Rattle.tally.specs.declared.TextGlyphCounts.{TextGlyphCounts}
 
 -- counts of a text's glyphs and of the over-wide ones among them
 unfoldable pub glyphCounts : Rule → List ℕ → TextGlyphCounts
-glyphCounts u text = record { glyphs = length (glyphsFrom 0 text); «over_wide» = length (overWides u (glyphsFrom 0 text)) }
+glyphCounts u text = record { glyphs = length (glyphsFrom (u .ambiguous) 0 text); «over_wide» = length (overWides u (glyphsFrom (u .ambiguous) 0 text)) }

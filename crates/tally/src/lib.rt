@@ -5,6 +5,7 @@ mod tallying;
 use refuse::ACCEPTED;
 use refuse::Refusal;
 use refuse::Verdict;
+use text::AmbiguousWidth;
 use wrapping::Rule;
 ghost use mathlib.Core.Path.{_≡_};
 ghost use Rattle.tally.specs.Call.{callOf, answerOf};
@@ -32,8 +33,8 @@ pub struct TextGlyphCounts {
 }
 
 // Tallies a text at a limit. Refused for causes 3, 4 and 8.
-pub fn tally(text: &[u32], limit: u16, trim: bool) -> TallyAnswer
-    ensures { λ r. ⌜ r ≡ answerOf (callOf (now (text .entry)) limit trim) ⌝ }
+pub fn tally(text: &[u32], ambiguous: AmbiguousWidth, limit: u16, trim: bool) -> TallyAnswer
+    ensures { λ r. ⌜ r ≡ answerOf (callOf (now (text .entry)) ambiguous limit trim) ⌝ }
 {
     if let Verdict::Refused(why) = check_records::line_verdict(ACCEPTED, text, limit) {
         return TallyAnswer::Refused(why);
@@ -41,6 +42,7 @@ pub fn tally(text: &[u32], limit: u16, trim: bool) -> TallyAnswer
     let rule = Rule {
         limit: limit as usize,
         trim,
+        ambiguous,
     };
     TallyAnswer::Counted(tallying::text_counts(rule, text))
 }

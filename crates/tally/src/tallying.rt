@@ -1,7 +1,6 @@
 // Counting of a text's glyphs by kind.
 use crate::TallyCounts;
 use crate::TextGlyphCounts;
-use text::glyph;
 use text::head;
 use wrapping::Rule;
 ghost use mathlib.Core.Path.{_≡_};
@@ -24,7 +23,7 @@ fn glyph_counts(rule: Rule, text: &[u32]) -> TextGlyphCounts
             continue;
         }
         glyphs += 1;
-        if rule.limit < glyph::width(glyph_or_head) as usize {
+        if rule.limit < rule.width(glyph_or_head) as usize {
             over_wide += 1;
         }
     }

@@ -29,7 +29,7 @@ lists-aligned a (gs ∷ ls) = ap {B = List (List Glyph)} (λ (rest : List (List 
 -- the composed lines of text lines, as lists of glyphs
 abbrev pub wrapped : Rule → List TextLine → List (List Glyph)
 wrapped u [] = []
-wrapped u (line ∷ rest) = wrap u (glyphsOf line) .lines ++ wrapped u rest
+wrapped u (line ∷ rest) = wrap u (glyphsOf (u .ambiguous) line) .lines ++ wrapped u rest
 
 -- the default alignment changes no line's glyphs
 all-wrapped : (u : Rule) (default : Alignment) (ls : List TextLine) → lists (allLines u WordWrap default ls) ≡ wrapped u ls
@@ -37,7 +37,7 @@ unfolding lineLines linesOf
 all-wrapped u default [] = refl
 all-wrapped u default (line ∷ rest) =
     map-append (λ (l : Line). l .glyphs) (lineLines u WordWrap default line) (allLines u WordWrap default rest)
-    ∙ rw (lists-aligned (resolved (alignmentOf (line .head)) default) (wrap u (glyphsOf line) .lines), all-wrapped u default rest)
+    ∙ rw (lists-aligned (resolved (alignmentOf (line .head)) default) (wrap u (glyphsOf (u .ambiguous) line) .lines), all-wrapped u default rest)
 
 pub lines-wrapped : (u : Rule) (default : Alignment) (text : List ℕ) → lists (lines u WordWrap default text) ≡ wrapped u (linesFrom 0 text)
 unfolding lines
@@ -53,10 +53,10 @@ pub emitted-length : (u : Rule) (default : Alignment) (text : List ℕ) → leng
 emitted-length u default text = all-starts (lines u WordWrap default text) ∙ ap (λ (ls : List (List Glyph)). length (glyphsOfAll ls)) (lines-wrapped u default text)
 
 -- a text emits no more glyphs than it has
-pub emitted-few : (u : Rule) (ls : List TextLine) → length (glyphsOfAll (wrapped u ls)) ≤ length (lineGlyphs ls)
+pub emitted-few : (u : Rule) (ls : List TextLine) → length (glyphsOfAll (wrapped u ls)) ≤ length (lineGlyphs (u .ambiguous) ls)
 emitted-few u [] = omega arith
 emitted-few u (line ∷ rest) =
-    simp (glyphs-append, length-append) (omega (arith, wrapped-few u (glyphsOf line), emitted-few u rest))
+    simp (glyphs-append, length-append) (omega (arith, wrapped-few u (glyphsOf (u .ambiguous) line), emitted-few u rest))
 
 -- a text emits no more glyphs than it has records
 pub text-emits : (u : Rule) (default : Alignment) (text : List ℕ) → length (starts (lines u WordWrap default text)) ≤ length text
@@ -65,6 +65,6 @@ text-emits u default text =
       arith,
       emitted-length u default text,
       emitted-few u (linesFrom 0 text),
-      simp length-append at (ap length (split-glyphs 0 text)),
-      glyphs-short 0 text,
+      simp length-append at (ap length (split-glyphs (u .ambiguous) 0 text)),
+      glyphs-short (u .ambiguous) 0 text,
     )

@@ -14,6 +14,7 @@ use Rattle.text.specs.Record.{widthOf}
 use Rattle.text.specs.Lists.{countOf}
 use Rattle.text.specs.Line.{Glyph, glyphFrom, numbered, Start, startsFrom}
 use Rattle.text.proofs.Lists.{count-append}
+use Rattle.text.proofs.Reading.{width-most}
 use Rattle.wrapping.specs.declared.Rule.{Rule}
 use Rattle.wrapping.specs.Wrapping.{overWide, notOverWide}
 use Rattle.text.proofs.Bools.{cond-cases}
@@ -78,7 +79,7 @@ with-more limit c column w d e =
 
 -- the glyphs of the records from i to `end`
 abbrev pub glyphsBetween : Rule → List ℕ → ℕ → ℕ → List Glyph
-glyphsBetween u text i end = notOverWide u (numbered i (slice i end text))
+glyphsBetween u text i end = notOverWide u (numbered (u .ambiguous) i (slice i end text))
 
 -- Invariant of `one_line_counts`: of the records from `first` to `end` those before i are counted. The counts so far plus those
 -- of the others are those of the line, no more glyphs are counted than records were read, and each is at most 7 columns wide.
@@ -94,24 +95,24 @@ module _ (u : Rule) (text : List ℕ) (first end : ℕ) where
       rw e (record { within = h; same = refl; few = omega arith; near = omega arith })
 
   module _ (c : LineCounts) (column i : ℕ) (p : Placing u text first end c column i) where
-    module _ (b : i < end) (l : end ≤ length text) (w : ℕ) (e : w ≡ widthOf (getD text i 0)) where
+    module _ (b : i < end) (l : end ≤ length text) (w : ℕ) (e : w ≡ widthOf (u .ambiguous) (getD text i 0)) where
       abbrev here : Glyph
-      here = glyphFrom i (getD text i 0)
+      here = glyphFrom (u .ambiguous) i (getD text i 0)
 
-      small : w ≤ 7
-      small = omega arith
+      small : w ≤ 6
+      small = omega (arith, width-most (u .ambiguous) (getD text i 0))
 
       -- record i is skipped if over-wide, else it is the next glyph of the line
       skipped : u .limit < w → glyphsBetween u text i end ≡ glyphsBetween u text (i + 1) end
       unfolding overWide
       skipped o =
-          let t : ltb (u .limit) (widthOf (getD text i 0)) ≡ true = lt-ltb (u .limit) (widthOf (getD text i 0)) (omega arith) in
+          let t : ltb (u .limit) (widthOf (u .ambiguous) (getD text i 0)) ≡ true = lt-ltb (u .limit) (widthOf (u .ambiguous) (getD text i 0)) (omega arith) in
           rw (add-one, slice-cons i end text 0 b l, t)
 
       kept : w ≤ u .limit → glyphsBetween u text i end ≡ here ∷ glyphsBetween u text (i + 1) end
       unfolding overWide
       kept h =
-          let t : ltb (u .limit) (widthOf (getD text i 0)) ≡ false = le-ltb (u .limit) (widthOf (getD text i 0)) (omega arith) in
+          let t : ltb (u .limit) (widthOf (u .ambiguous) (getD text i 0)) ≡ false = le-ltb (u .limit) (widthOf (u .ambiguous) (getD text i 0)) (omega arith) in
           rw (add-one, slice-cons i end text 0 b l, t)
 
       pub placing-skips : u .limit < w → Placing u text first end c column (i + 1)

@@ -4,7 +4,6 @@ use line_composer::Method;
 use line_composer::NextLine;
 use line_composer::WrappedLine;
 use text::Alignment;
-use text::glyph;
 use wrapping::Rule;
 ghost use mathlib.Core.Path.{_≡_};
 ghost use mathlib.Core.List.{[], _∷_};
@@ -79,7 +78,7 @@ fn one_line_counts(rule: Rule, text: &[u32], line: WrappedLine) -> LineCounts
     let mut column = 0;
     let mut i = line.first;
     while i < end {
-        let w = glyph::width(text[i]) as usize;
+        let w = rule.width(text[i]) as usize;
         i += 1;
         if rule.limit < w {
             continue;

@@ -34,8 +34,8 @@ module _ (u : Rule) (column : ℕ) (default : Alignment) where
       omega (
         arith,
         length-append (lineLines u (Truncate column) default l) (allLines u (Truncate column) default ls),
-        length-map (truncate u column alignment (glyphsOf l)) (aligned alignment),
-        truncate-at-most-one u column alignment (glyphsOf l),
+        length-map (truncate u column alignment (glyphsOf (u .ambiguous) l)) (aligned alignment),
+        truncate-at-most-one u column alignment (glyphsOf (u .ambiguous) l),
         no-more-lines-than-text-lines ls,
       )
 

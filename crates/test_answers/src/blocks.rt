@@ -16,8 +16,11 @@ use test_blocks::titles;
 use test_blocks::words::four_on;
 use test_blocks::words::write_words;
 use test_sums::with_number;
+use test_texts::random::below;
 use test_texts::random::next;
 use test_texts::random::seed;
+use test_texts::texts::ambiguous_of;
+use text::AmbiguousWidth;
 ghost use mathlib.Core.Path.{_≡_};
 ghost use Prim.Native.Nat.{_≤_};
 ghost use lib.ListN.{length};
@@ -76,12 +79,13 @@ fn sum_drawn(
     cells: &mut [u64],
     styles: &[u64],
     titles: &[u32],
+    ambiguous: AmbiguousWidth,
     block: Block,
     area: Rect,
 ) -> Answer {
     let columns = screen.columns as u32;
     let rows = screen.rows as u32;
-    let answer = draw_block(columns, rows, cells, styles, titles, area, block);
+    let answer = draw_block(columns, rows, cells, styles, titles, ambiguous, area, block);
     if let BlockAnswer::Refused(_) = answer {
         return Answer::Refused;
     }
@@ -111,7 +115,8 @@ fn titled_with(case: Case, styles: &[u64], records: &mut [u32], cells: &mut [u64
     let screen = case.screen;
     let x = four_on(seed(next(next(case.seed))));
     let n = many_titles::write_many(records, manner(case), x);
-    sum_drawn(screen, cells, styles, &records[..n], block, area)
+    let ambiguous = ambiguous_of(below(case.seed, 2));
+    sum_drawn(screen, cells, styles, &records[..n], ambiguous, block, area)
 }
 
 // Draws and sums with the titles of a case, if any.

@@ -30,16 +30,30 @@ fn unwrapped(column: u32) -> Wrap {
 // Returns the checksum of the rows wrapped, the rows unwrapped, and the columns.
 fn measures_in(case: Case, text: &[u32], titles: &[u32], block: Block) -> Answer {
     let width = case.limit;
+    let ambiguous = case.ambiguous;
     let on = Wrap::On { trim: case.trim };
     let off = unwrapped(case.column);
-    let MeasureAnswer::Value(wrapped) = measure::line_count(text, titles, block, on, width) else {
+    let MeasureAnswer::Value(wrapped) = measure::line_count(
+        text,
+        ambiguous,
+        titles,
+        block,
+        on,
+        width,
+    ) else {
         return Answer::Refused;
     };
-    let MeasureAnswer::Value(unwrapped) = measure::line_count(text, titles, block, off, width)
-    else {
+    let MeasureAnswer::Value(unwrapped) = measure::line_count(
+        text,
+        ambiguous,
+        titles,
+        block,
+        off,
+        width,
+    ) else {
         return Answer::Refused;
     };
-    let MeasureAnswer::Value(columns) = measure::line_width(text, titles, block) else {
+    let MeasureAnswer::Value(columns) = measure::line_width(text, ambiguous, titles, block) else {
         return Answer::Refused;
     };
     Answer::Sum(sum_measures(wrapped, unwrapped, columns))

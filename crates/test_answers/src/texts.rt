@@ -72,9 +72,11 @@ fn sum_truncated(rule: Rule, column: u32, default_alignment: Alignment, text: &[
 }
 
 fn wrapped_lines(case: Case, text: &[u32], list: &mut [u64]) -> Answer {
+    let ambiguous = case.ambiguous;
     let default_alignment = case.default_alignment;
     let ListAnswer::Written(n) = list_lines::list_lines(
         text,
+        ambiguous,
         default_alignment,
         case.limit,
         case.trim,
@@ -89,7 +91,8 @@ fn wrapped_lines(case: Case, text: &[u32], list: &mut [u64]) -> Answer {
 }
 
 fn counts(case: Case, text: &[u32]) -> Answer {
-    let TallyAnswer::Counted(counts) = tally::tally(text, case.limit, case.trim) else {
+    let ambiguous = case.ambiguous;
+    let TallyAnswer::Counted(counts) = tally::tally(text, ambiguous, case.limit, case.trim) else {
         return Answer::Refused;
     };
     Answer::Sum(sum_counts(counts))
@@ -101,9 +104,11 @@ fn truncated_lines(case: Case, text: &[u32]) -> Answer {
         return Answer::Refused;
     }
     let default_alignment = case.default_alignment;
+    let ambiguous = case.ambiguous;
     let rule = Rule {
         limit: case.limit as usize,
         trim: case.trim,
+        ambiguous,
     };
     Answer::Sum(sum_truncated(rule, case.column, default_alignment, text))
 }

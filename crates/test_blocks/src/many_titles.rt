@@ -47,13 +47,14 @@ fn length_of(x: u32, most: u32) -> u32
     }
 }
 
-// Returns a glyph width: mostly 0 to 3, any width once in sixteen.
+// Returns a width code: mostly 0 to 3 or ambiguous, any once in sixteen.
 fn width(x: u32) -> u32
     ensures { λ r. ⌜ r < 8 ⌝ }
 {
     match below(x, 16) {
         0 | 1 => 0,
-        2..=9 => 1,
+        2..=7 => 1,
+        8 | 9 => 7,
         10..=12 => 2,
         13 | 14 => 3,
         _ => below(next(x), 8),

@@ -7,6 +7,7 @@ use test_blocks::titles::alignment_of;
 use test_blocks::words::four_on;
 use test_texts::random::below;
 use test_texts::random::next;
+use test_texts::texts::ambiguous_of;
 ghost use Prim.Native.Nat.{_<_, _≤_};
 
 // Returns the padding of one side: mostly none, and once in 128 more than fits.
@@ -60,5 +61,6 @@ pub fn notice(block: Block, x: u32) -> Notice {
         alignment: alignment_of(below(c, 3)),
         wrap: wrap(d),
         scroll: scrolled(four_on(d), 4),
+        ambiguous: ambiguous_of(below(four_on(four_on(d)), 2)),
     }
 }

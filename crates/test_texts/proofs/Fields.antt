@@ -3,7 +3,7 @@ use Prim.Native.Nat.{ℕ, _%_, _^_, _<_}
 use mathlib.Core.Path.{_≡_}
 use mathlib.Core.Bool.{Bool, true, false}
 use native.Mathlib.Omega.{arith}
-use Rattle.text.specs.Record.{isHead, alignmentOf, positionOf, zerosOf, headRecord, widthOf, whitespaceOf, glyphRecord}
+use Rattle.text.specs.Record.{isHead, alignmentOf, positionOf, zerosOf, headRecord, widthCodeOf, whitespaceOf, glyphRecord}
 use Rattle.text.proofs.Fields as fields
 
 module _ (r a : ℕ) (h : a < 4) (e : r ≡ headRecord a 0) where
@@ -25,7 +25,7 @@ module _ (r x width : ℕ) (space : Bool) (w : width < 8) (e : r ≡ glyphRecord
   pub glyph-is-no-head : isHead r ≡ false
   glyph-is-no-head = rw e (fields.glyph-is-no-head (x % 2 ^ 21) width space (x % 2 ^ 6) (omega arith) w (omega arith))
 
-  pub glyph-width : widthOf r ≡ width
+  pub glyph-width : widthCodeOf r ≡ width
   glyph-width = rw e (fields.glyph-width (x % 2 ^ 21) width space (x % 2 ^ 6) (omega arith) w (omega arith))
 
   pub glyph-whitespace : whitespaceOf r ≡ space

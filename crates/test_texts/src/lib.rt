@@ -9,9 +9,10 @@ mod short;
 pub mod texts;
 
 use text::Alignment;
+use text::AmbiguousWidth;
 
 // A test case. Its text is the first `length` records that `write_case` wrote. `trim` is for wrapped lines, `column` (horizontal
-// scroll) for truncated ones. `number` is the case's index in its part.
+// scroll) for truncated ones; `ambiguous` is how ambiguous glyphs are read. `number` is the case's index in its part.
 pub struct Case {
     pub number: u32,
     pub length: usize,
@@ -19,4 +20,5 @@ pub struct Case {
     pub limit: u16,
     pub trim: bool,
     pub column: u32,
+    pub ambiguous: AmbiguousWidth,
 }

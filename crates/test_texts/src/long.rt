@@ -90,5 +90,6 @@ pub fn write_case(text: &mut [u32], number: u32) -> Case
         limit: limit(below(e, 26)),
         trim: number % 2 == 0,
         column: column_of(number, columns(kind), f),
+        ambiguous: texts::ambiguous_of(number / 6),
     }
 }

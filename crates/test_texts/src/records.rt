@@ -5,7 +5,7 @@ ghost use mathlib.Core.Path.{_≡_};
 ghost use mathlib.Core.Bool.{true, false};
 ghost use Prim.Native.Nat.{_<_};
 ghost use lib.Dec.{eqb};
-ghost use Rattle.text.specs.Record.{isHead, alignmentOf, positionOf, zerosOf, widthOf, whitespaceOf};
+ghost use Rattle.text.specs.Record.{isHead, alignmentOf, positionOf, zerosOf, widthCodeOf, whitespaceOf};
 
 // Returns a head with an alignment.
 pub fn head(alignment: u32) -> u32
@@ -23,7 +23,7 @@ pub fn glyph(width: u32, space: u32, x: u32) -> u32
     requires { ⌜ width < 8 ⌝ }
     requires { ⌜ space < 2 ⌝ }
     ensures { λ r. ⌜ isHead r ≡ false ⌝ }
-    ensures { λ r. ⌜ widthOf r ≡ width ⌝ }
+    ensures { λ r. ⌜ widthCodeOf r ≡ width ⌝ }
     ensures { λ r. ⌜ whitespaceOf r ≡ eqb space 1 ⌝ }
 {
     text::glyph::pack(x % SYMBOLS, width, space == 1, x % STYLES)

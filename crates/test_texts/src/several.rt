@@ -33,5 +33,6 @@ pub fn write_case(text: &mut [u32], number: u32) -> Case
         limit: below(e, 9) as u16,
         trim: number % 2 == 0,
         column: below(f, 10),
+        ambiguous: texts::ambiguous_of(number / 6),
     }
 }

@@ -1,14 +1,18 @@
 // Every text line of up to five glyphs of seven kinds, at limits 1 to 5, trimmed and untrimmed.
 use crate::Case;
 use crate::records;
+use crate::texts::ambiguous_of;
 use text::Alignment;
 ghost use Prim.Native.Nat.{_<_, _≤_};
 ghost use lib.ListN.{length};
 
-// Returns the glyph of a kind: 0 to 3 are solid of that width, 4 to 6 whitespace of width 0 to 2.
+// Returns the glyph of a kind: 0, 1 and 3 are solid of that width, 2 is solid and ambiguous, 4 to 6 are whitespace of width 0 to 2.
 fn glyph(kind: u32, x: u32) -> u32
     requires { ⌜ kind < 7 ⌝ }
 {
+    if kind == 2 {
+        return records::glyph(7, 0, x);
+    }
     records::glyph(kind % 4, kind / 4, x)
 }
 
@@ -55,5 +59,6 @@ pub fn write_case(text: &mut [u32], number: u32) -> Case
         limit: limit,
         trim: trim,
         column: column,
+        ambiguous: ambiguous_of(number / 10),
     }
 }

@@ -3,11 +3,12 @@ use crate::random::below;
 use crate::random::next;
 use crate::records;
 use text::Alignment;
+use text::AmbiguousWidth;
 ghost use Prim.Native.Nat.{_<_, _≤_};
 ghost use lib.ListN.{length};
 ghost use Rattle.test_texts.specs.MannersExtra.{Writable};
 
-// Distribution of a random text: one record in `heads` is a head, widths are below `widths`, and one
+// Distribution of a random text: one record in `heads` is a head, widths are below `widths` or ambiguous, each as often, and one
 // glyph in `spaces` is whitespace.
 pub struct Manner {
     pub heads: u32,
@@ -24,12 +25,31 @@ pub fn alignment(number: u32) -> Alignment {
     }
 }
 
+// Returns a reading of ambiguous glyphs: even numbers are narrow, odd ones wide.
+pub fn ambiguous_of(number: u32) -> AmbiguousWidth {
+    if number % 2 == 0 {
+        return AmbiguousWidth::Narrow;
+    }
+    AmbiguousWidth::Wide
+}
+
 // Returns 1 once in `times`, else 0.
 fn once_in(x: u32, times: u32) -> u32
     requires { ⌜ 0 < times ⌝ }
     ensures { λ r. ⌜ r < 2 ⌝ }
 {
     if below(x, times) == 0 { 1 } else { 0 }
+}
+
+// Returns the width code that a number up to `widths` stands for: `widths` itself for the ambiguous one.
+fn width_code(number: u32, widths: u32) -> u32
+    requires { ⌜ (number ≤ widths) × (widths ≤ 8) ⌝ }
+    ensures { λ r. ⌜ r < 8 ⌝ }
+{
+    if number == widths {
+        return 7;
+    }
+    number
 }
 
 // Returns the record at index `place`, made from x and the next two random numbers. Record 0 is a head.
@@ -45,7 +65,7 @@ fn any_record(place: usize, x: u32, manner: Manner) -> u32
         return records::head(below(second, 4));
     }
     records::glyph(
-        below(second, manner.widths),
+        width_code(below(second, manner.widths + 1), manner.widths),
         once_in(third, manner.spaces),
         third,
     )

@@ -88,5 +88,15 @@ pub fn draw(
         ));
     }
     let block = flat_block.block();
-    block_number(draw_block::draw_block(columns, rows, cells, styles, titles, area, block))
+    let ambiguous = flat::ambiguous_named(settings.ambiguous);
+    block_number(draw_block::draw_block(
+        columns,
+        rows,
+        cells,
+        styles,
+        titles,
+        ambiguous,
+        area,
+        block,
+    ))
 }

@@ -129,7 +129,8 @@ pub fn read_back(
     let Wrap::On { trim } = settings.named_wrap() else {
         return 98;
     };
-    let TallyAnswer::Counted(counts) = tally::tally(text, inside.width, trim) else {
+    let ambiguous = flat::ambiguous_named(settings.ambiguous);
+    let TallyAnswer::Counted(counts) = tally::tally(text, ambiguous, inside.width, trim) else {
         return 98;
     };
     let pages = paging::page_count(counts.lines, 0, inside.height);

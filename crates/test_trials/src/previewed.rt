@@ -21,6 +21,19 @@ fn plain(name: &[u8]) {
     case(
         name,
         Asked {
+            wide: false,
+            ansi: false,
+            pages: Pages::All,
+        },
+    );
+}
+
+// Shows all pages with ambiguous glyphs read wide.
+fn wide(name: &[u8]) {
+    case(
+        name,
+        Asked {
+            wide: true,
             ansi: false,
             pages: Pages::All,
         },
@@ -32,6 +45,7 @@ fn coloured(name: &[u8]) {
     case(
         name,
         Asked {
+            wide: false,
             ansi: true,
             pages: Pages::All,
         },
@@ -43,6 +57,7 @@ fn one_page(name: &[u8], page: u64) {
     case(
         name,
         Asked {
+            wide: false,
             ansi: false,
             pages: Pages::Only(page),
         },
@@ -66,6 +81,8 @@ fn shown() {
     plain(b"preview/10_scrolled_past"); // from line 65,535 on
     plain(b"preview/11_shadow_before"); // offsets below 0
     coloured(b"preview/12_widest"); // 512 columns
+    plain(b"preview/13_ambiguous"); // in the text and in a title, read narrow
+    wide(b"preview/13_ambiguous"); // and read wide
 }
 
 fn bad() {

@@ -5,7 +5,8 @@ use mathlib.Core.Bool.{Bool, true, false, cond}
 use native.Mathlib.Omega.{arith}
 use borrow.Author.Tests.{eq-eqb, ne-eqb}
 use lib.Dec.{eqb}
-use Rattle.text.specs.Record.{isHead, symbolOf, widthOf, whitespaceOf, styleOf, glyphRecord, alignmentOf, positionOf, zerosOf, headRecord}
+use Rattle.text.specs.declared.AmbiguousWidth.{AmbiguousWidth}
+use Rattle.text.specs.Record.{isHead, symbolOf, widthCodeOf, readWidth, whitespaceOf, styleOf, glyphRecord, alignmentOf, positionOf, zerosOf, headRecord}
 use Rattle.text.specs.Line.{glyphFrom}
 
 -- space is the whitespace bit
@@ -19,7 +20,7 @@ module _ (symbol width space style : ℕ) (s : symbol < 2 ^ 21) (w : width < 2 ^
   symbol-back : symbolOf word ≡ symbol
   symbol-back = let q : word / 2 ^ 10 ≡ symbol = omega arith in omega arith
 
-  width-back : widthOf word ≡ width
+  width-back : widthCodeOf word ≡ width
   width-back = let q : word / 2 ^ 7 ≡ symbol * 2 ^ 3 + width = omega arith in omega arith
 
   space-back : word / 2 ^ 6 % 2 ≡ space
@@ -44,7 +45,7 @@ module _ (symbol width : ℕ) (whitespace : Bool) (style : ℕ) (s : symbol < 2 
   pub glyph-symbol : symbolOf (glyphRecord symbol width whitespace style) ≡ symbol
   glyph-symbol = symbol-back symbol width (cond whitespace 1 0) style s w (bit-small whitespace) t
 
-  pub glyph-width : widthOf (glyphRecord symbol width whitespace style) ≡ width
+  pub glyph-width : widthCodeOf (glyphRecord symbol width whitespace style) ≡ width
   glyph-width = width-back symbol width (cond whitespace 1 0) style s w (bit-small whitespace) t
 
   pub glyph-whitespace : whitespaceOf (glyphRecord symbol width whitespace style) ≡ whitespace
@@ -54,8 +55,9 @@ module _ (symbol width : ℕ) (whitespace : Bool) (style : ℕ) (s : symbol < 2 
   glyph-style = style-back symbol width (cond whitespace 1 0) style s w (bit-small whitespace) t
 
   -- all fields at once
-  pub glyph-fields : (number : ℕ) → glyphFrom number (glyphRecord symbol width whitespace style) ≡ record { number = number; symbol = symbol; width = width; whitespace = whitespace; style = style }
-  glyph-fields number = rw (glyph-symbol, glyph-width, glyph-whitespace, glyph-style)
+  pub glyph-fields : (a : AmbiguousWidth) (number : ℕ)
+      → glyphFrom a number (glyphRecord symbol width whitespace style) ≡ record { number = number; symbol = symbol; width = readWidth a width; whitespace = whitespace; style = style }
+  glyph-fields a number = rw (glyph-symbol, glyph-width, glyph-whitespace, glyph-style)
 
 -- the fields of a head, its 27 zeros 0
 module _ (alignment position : ℕ) (a : alignment < 2 ^ 2) (p : position < 2 ^ 2) where

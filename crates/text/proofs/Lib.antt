@@ -1,4 +1,5 @@
 pub mod Fields
+pub mod Reading
 pub mod Resolving
 pub mod TextLines
 pub mod LineGlyphs

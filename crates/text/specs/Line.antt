@@ -4,9 +4,10 @@ use mathlib.Core.Path.{_≡_}
 use mathlib.Core.Bool.{Bool, false, cond, not}
 use mathlib.Core.List.{List, [], _∷_}
 use lib.ListN.{length}
+use Rattle.text.specs.declared.AmbiguousWidth.{AmbiguousWidth}
 use Rattle.text.specs.Record.{isHead, symbolOf, widthOf, whitespaceOf, styleOf}
 
--- a glyph: its record number, with heads counted, and its fields
+-- a glyph: its record number, with heads counted, and its fields, the width as read
 pub record Glyph : Type 0 where
   pub number : ℕ
   pub symbol : ℕ
@@ -14,13 +15,14 @@ pub record Glyph : Type 0 where
   pub whitespace : Bool
   pub style : ℕ
 
-abbrev pub glyphFrom : ℕ → ℕ → Glyph
-glyphFrom number r = record { number = number; symbol = symbolOf r; width = widthOf r; whitespace = whitespaceOf r; style = styleOf r }
+abbrev pub glyphFrom : AmbiguousWidth → ℕ → ℕ → Glyph
+glyphFrom ambiguous number r =
+    record { number = number; symbol = symbolOf r; width = widthOf ambiguous r; whitespace = whitespaceOf r; style = styleOf r }
 
 -- the records as glyphs, numbered from the number given
-abbrev pub numbered : ℕ → List ℕ → List Glyph
-numbered number [] = []
-numbered number (r ∷ rs) = glyphFrom number r ∷ numbered (suc number) rs
+abbrev pub numbered : AmbiguousWidth → ℕ → List ℕ → List Glyph
+numbered ambiguous number [] = []
+numbered ambiguous number (r ∷ rs) = glyphFrom ambiguous number r ∷ numbered ambiguous (suc number) rs
 
 -- 'Wrapping': "A list's width is its sum."
 abbrev pub total : List Glyph → ℕ
@@ -57,13 +59,16 @@ linesFrom number (r ∷ rs) =
     (record { head = r; first = suc number; records = untilHead rs } ∷ linesFrom (suc number) rs)
     (linesFrom (suc number) rs)
 
-abbrev pub glyphsOf : TextLine → List Glyph
-glyphsOf line = numbered (line .first) (line .records)
+abbrev pub glyphsOf : AmbiguousWidth → TextLine → List Glyph
+glyphsOf ambiguous line = numbered ambiguous (line .first) (line .records)
 
 -- 'Rows, pages, tally': "glyphs are the records that aren't heads", numbered from the number given
-abbrev pub glyphsFrom : ℕ → List ℕ → List Glyph
-glyphsFrom number [] = []
-glyphsFrom number (r ∷ rs) = cond (isHead r) (glyphsFrom (suc number) rs) (glyphFrom number r ∷ glyphsFrom (suc number) rs)
+abbrev pub glyphsFrom : AmbiguousWidth → ℕ → List ℕ → List Glyph
+glyphsFrom ambiguous number [] = []
+glyphsFrom ambiguous number (r ∷ rs) =
+    cond (isHead r)
+    (glyphsFrom ambiguous (suc number) rs)
+    (glyphFrom ambiguous number r ∷ glyphsFrom ambiguous (suc number) rs)
 
 -- 'Why a call is refused', causes 4 and 5: records "not empty and not opening with a head"
 abbrev pub notOpening : List ℕ → Bool

@@ -1,7 +1,9 @@
--- Document 01, 'Packed fields': the fields of a 32-bit record, most significant bit first.
+-- Document 01, 'Packed fields': the fields of a 32-bit record, most significant bit first. Document 02, C-11: how its width is read.
 use Prim.Native.Nat.{ℕ, _+_, _*_, _/_, _%_, _^_}
 use mathlib.Core.Bool.{Bool, cond}
 use lib.Dec.{eqb}
+use Rattle.text.specs.declared.AmbiguousWidth.{AmbiguousWidth}
+use Rattle.text.specs.declared.AmbiguousWidth.the-variants.{Narrow, Wide}
 
 -- the first bit: 0 in a glyph, 1 in a head
 abbrev pub isHead : ℕ → Bool
@@ -11,14 +13,26 @@ isHead r = eqb (r / 2 ^ 31) 1
 abbrev pub symbolOf : ℕ → ℕ
 symbolOf r = r / 2 ^ 10 % 2 ^ 21
 
-abbrev pub widthOf : ℕ → ℕ
-widthOf r = r / 2 ^ 7 % 2 ^ 3
+abbrev pub widthCodeOf : ℕ → ℕ
+widthCodeOf r = r / 2 ^ 7 % 2 ^ 3
 
 abbrev pub whitespaceOf : ℕ → Bool
 whitespaceOf r = eqb (r / 2 ^ 6 % 2) 1
 
 abbrev pub styleOf : ℕ → ℕ
 styleOf r = r % 2 ^ 6
+
+-- C-11: "Width code 7 now means ambiguous, and each call that reads widths takes an enum setting, narrow (1) or wide (2)."
+abbrev pub ambiguousCells : AmbiguousWidth → ℕ
+ambiguousCells Narrow = 1
+ambiguousCells Wide = 2
+
+-- the width that a code is read as: the code itself, unless it is 7
+unfoldable pub readWidth : AmbiguousWidth → ℕ → ℕ
+readWidth ambiguous code = cond (eqb code 7) (ambiguousCells ambiguous) code
+
+abbrev pub widthOf : AmbiguousWidth → ℕ → ℕ
+widthOf ambiguous r = readWidth ambiguous (widthCodeOf r)
 
 -- the glyph with these fields
 abbrev pub glyphRecord : ℕ → ℕ → Bool → ℕ → ℕ

@@ -1,8 +1,9 @@
 // Glyph, 32 bits: 0 | symbol 21 | width 3 | whitespace 1 | style 6.
+use crate::AmbiguousWidth;
 ghost use mathlib.Core.Path.{_≡_};
 ghost use mathlib.Core.Bool.{cond};
-ghost use Prim.Native.Nat.{_<_, _^_};
-ghost use Rattle.text.specs.Record.{symbolOf, widthOf, whitespaceOf, styleOf, glyphRecord};
+ghost use Prim.Native.Nat.{_≤_, _<_, _^_};
+ghost use Rattle.text.specs.Record.{symbolOf, widthCodeOf, ambiguousCells, widthOf, whitespaceOf, styleOf, glyphRecord};
 
 // Number of values of a field.
 pub const SYMBOLS: u32 = 1 << 21;
@@ -10,6 +11,9 @@ pub const SYMBOLS: u32 = 1 << 21;
 const WIDTHS: u32 = 1 << 3;
 
 pub const STYLES: u32 = 1 << 6;
+
+// Width code of an ambiguous glyph.
+const AMBIGUOUS: u32 = 7;
 
 // Place value of a field's lowest bit.
 const SYMBOL_PLACE: u32 = 1 << 10;
@@ -24,10 +28,32 @@ pub fn symbol(glyph: u32) -> u32
     glyph / SYMBOL_PLACE % SYMBOLS
 }
 
-pub fn width(glyph: u32) -> u32
-    ensures { λ r. ⌜ r ≡ widthOf glyph ⌝ }
+// The width field as it is packed; `width` reads it.
+fn width_code(glyph: u32) -> u32
+    ensures { λ r. ⌜ r ≡ widthCodeOf glyph ⌝ }
 {
     glyph / WIDTH_PLACE % WIDTHS
+}
+
+// Returns the cells that an ambiguous glyph is read as.
+fn ambiguous_cells(ambiguous: AmbiguousWidth) -> u32
+    ensures { λ r. ⌜ r ≡ ambiguousCells ambiguous ⌝ }
+{
+    match ambiguous {
+        AmbiguousWidth::Narrow => 1,
+        AmbiguousWidth::Wide => 2,
+    }
+}
+
+// Returns the width of a glyph as read.
+pub fn width(glyph: u32, ambiguous: AmbiguousWidth) -> u32
+    ensures { λ r. ⌜ (r ≡ widthOf ambiguous glyph) × (r ≤ 6) ⌝ }
+{
+    let code = width_code(glyph);
+    if code == AMBIGUOUS {
+        return ambiguous_cells(ambiguous);
+    }
+    code
 }
 
 pub fn is_whitespace(glyph: u32) -> bool

@@ -19,6 +19,12 @@ pub enum TitlePosition {
     Bottom,
 }
 
+// How glyphs with the ambiguous width code are read (UAX 11): as one cell, or as two.
+pub enum AmbiguousWidth {
+    Narrow,
+    Wide,
+}
+
 // Returns the number of an alignment in packed records and entries.
 pub fn alignment_number(alignment: Alignment) -> u32
     ensures { λ r. ⌜ r ≡ alignmentNumber alignment ⌝ }

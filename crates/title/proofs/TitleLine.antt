@@ -10,7 +10,7 @@ use mir.Val.{Fits}
 use lib.ListN.{length, take, drop}
 use Rattle.text.specs.declared.Alignment.{Alignment}
 use Rattle.text.specs.declared.Alignment.the-variants.{Left, Center, Right}
-use Rattle.text.specs.Line.{startsFrom}
+use Rattle.text.specs.Line.{Glyph, startsFrom}
 use Rattle.layout.specs.declared.Rect.{Rect}
 use Rattle.layout.specs.Rect.{rightOf}
 use Rattle.buffer.specs.declared.Screen.{Screen}
@@ -23,7 +23,7 @@ use Rattle.buffer.proofs.Drawn.{drawn-same}
 use Rattle.buffer.proofs.Over.{row-inside}
 use Rattle.buffer.proofs.Rows.{row-borrowed, row-fits}
 use Rattle.buffer.proofs.Order.{first-then}
-use Rattle.title_glyphs.specs.TitleGlyphs.{titleGlyphs, untilOverrun, titleGlyphsOn}
+use Rattle.title_glyphs.specs.TitleGlyphs.{untilOverrun, titleGlyphsOn}
 use Rattle.title.specs.Title.{titleLineWidth, lineStart, hiddenColumns, titleLine, titleIn}
 use Rattle.title.specs.FittingExtra.{TitleArea}
 use Rattle.title.proofs.Moving.{line-moved}
@@ -58,15 +58,15 @@ pub record LineOnRow (alignment : Alignment) (row : List ℕ) (w t hidden start 
   pub hides : hidden ≡ hiddenColumns alignment t w
   pub starts : start ≡ lineStart alignment t w
 
-module _ (alignment : Alignment) (w : ℕ) (records row : List ℕ) (t hidden start : ℕ) (is-width : t ≡ titleLineWidth records) where
+module _ (alignment : Alignment) (w : ℕ) (glyphs : List Glyph) (row : List ℕ) (t hidden start : ℕ) (is-width : t ≡ titleLineWidth glyphs) where
   -- the slice of the row from the start column
   abbrev slice : List ℕ
   slice = take (length row - start) (drop start row)
 
   -- writing the glyphs on that slice writes the line on the row
   pub line-written : (styles part : List ℕ) → LineOnRow alignment row w t hidden start
-      → part ≡ changed (titleGlyphsOn styles hidden (untilOverrun (hidden + length slice) (startsFrom 0 (titleGlyphs records)))) slice
-      → take start row ++ (part ++ drop (length row - start) (drop start row)) ≡ changed (titleLine styles alignment w records) row
+      → part ≡ changed (titleGlyphsOn styles hidden (untilOverrun (hidden + length slice) (startsFrom 0 glyphs))) slice
+      → take start row ++ (part ++ drop (length row - start) (drop start row)) ≡ changed (titleLine styles alignment w glyphs) row
   unfolding titleLine
   line-written styles part l h =
       let low : start ≤ length row = starts-within alignment t w start (length row) (l .starts) (l .is-row) in
@@ -74,31 +74,31 @@ module _ (alignment : Alignment) (w : ℕ) (records row : List ℕ) (t hidden st
       let either : (hidden ≡ 0) ⊎ (start ≡ 0) = rw (l .hides, l .starts) (hides-or-starts alignment t w) in
       part-borrowed _ start (length row) row part low (omega arith) (rw size at h)
       ∙ rw (← is-width, ← l .hides, ← l .starts, l .is-row)
-      (changed-same _ _ row (λ i cell inside. line-moved styles (titleGlyphs records) (length row) i cell inside hidden start either low))
+      (changed-same _ _ row (λ i cell inside. line-moved styles glyphs (length row) i cell inside hidden start either low))
 
 -- the row of a title's area ends within the cells
 pub row-end : (s : Screen) (n : ℕ) (r : Rect) → TitleArea s n r → r .y * s .columns + rightOf r ≤ n
 row-end s n r a = row-fits (s .columns) (rightOf r) (r .y) (s .rows) n (a .on-screen .right) (a .in-rows) (a .on-screen .size)
 
-module _ (s : Screen) (r : Rect) (styles : List ℕ) (alignment : Alignment) (records cells : List ℕ) where
+module _ (s : Screen) (r : Rect) (styles : List ℕ) (alignment : Alignment) (glyphs : List Glyph) (cells : List ℕ) where
   -- writing the line on the slice of the area's cells draws it in the area
   pub line-drawn : (right : ℕ) (part : List ℕ) → TitleArea s (length cells) r → right ≡ rightOf r
-      → part ≡ changed (titleLine styles alignment (r .width) records)
+      → part ≡ changed (titleLine styles alignment (r .width) glyphs)
       (take ((r .y * s .columns + right) - (r .y * s .columns + r .x)) (drop (r .y * s .columns + r .x) cells))
       → take (r .y * s .columns + r .x) cells ++ (part ++ drop ((r .y * s .columns + right) - (r .y * s .columns + r .x)) (drop (r .y * s .columns + r .x) cells))
-      ≡ drawn (s .columns) (inRow (r .x) (rightOf r) (r .y) (titleLine styles alignment (r .width) records)) cells
+      ≡ drawn (s .columns) (inRow (r .x) (rightOf r) (r .y) (titleLine styles alignment (r .width) glyphs)) cells
   line-drawn right part a e h =
-      rw e (row-borrowed (s .columns) (r .x) (rightOf r) (r .y) (titleLine styles alignment (r .width) records) cells part
+      rw e (row-borrowed (s .columns) (r .x) (rightOf r) (r .y) (titleLine styles alignment (r .width) glyphs) cells part
       (a .on-screen .columns) (omega (arith, a .few-columns, a .on-screen .right)) (a .on-screen .right) (row-end s (length cells) r a) (rw e at h))
 
   -- the titles style, then the line
   pub title-drawn : (number style : ℕ) (next last : List ℕ) → TitleArea s (length cells) r → Fits w16 (s .rows) → style ≡ styleAt styles number
       → next ≡ drawn (s .columns) (over r (inked (Style style))) cells
-      → last ≡ drawn (s .columns) (inRow (r .x) (rightOf r) (r .y) (titleLine styles alignment (r .width) records)) next
-      → last ≡ drawn (s .columns) (titleIn styles number r alignment records) cells
+      → last ≡ drawn (s .columns) (inRow (r .x) (rightOf r) (r .y) (titleLine styles alignment (r .width) glyphs)) next
+      → last ≡ drawn (s .columns) (titleIn styles number r alignment glyphs) cells
   unfolding titleIn inked
   title-drawn number style next last a fits e p q =
-      first-then (s .columns) _ (inside r (λ column row. titleLine styles alignment (r .width) records column) ∷ []) cells next last (rw e at p)
+      first-then (s .columns) _ (inside r (λ column row. titleLine styles alignment (r .width) glyphs column) ∷ []) cells next last (rw e at p)
       (q
       ∙ drawn-same (s .columns) _ _ next (a .on-screen .columns)
-      (λ column row cell _. row-inside r (titleLine styles alignment (r .width) records) column row cell (a .one-row) (omega (arith, a .in-rows, fits .fits))))
+      (λ column row cell _. row-inside r (titleLine styles alignment (r .width) glyphs) column row cell (a .one-row) (omega (arith, a .in-rows, fits .fits))))

@@ -1,8 +1,10 @@
 // Writing of a title line on a row of cells.
 use text::Alignment;
+use text::AmbiguousWidth;
 ghost use mathlib.Core.Path.{_≡_};
 ghost use lib.ListN.{length};
 ghost use Rattle.buffer.specs.Drawing.{changed};
+ghost use Rattle.title_glyphs.specs.TitleGlyphs.{titleGlyphs};
 ghost use Rattle.title.specs.Title.{lineStart, hiddenColumns, titleLine};
 
 // Returns the start column of a line of width t in w columns.
@@ -34,12 +36,13 @@ pub fn write_title_line(
     alignment: Alignment,
     w: u16,
     glyphs: &[u32],
+    ambiguous: AmbiguousWidth,
 )
     requires { ⌜ w ≡ length (now row) ⌝ }
-    ensures { λ _. ⌜ now (row .exit) ≡ changed (titleLine (now (styles .entry)) alignment w (now (glyphs .entry))) (now (row .entry)) ⌝ }
+    ensures { λ _. ⌜ now (row .exit) ≡ changed (titleLine (now (styles .entry)) alignment w (titleGlyphs ambiguous (now (glyphs .entry)))) (now (row .entry)) ⌝ }
 {
-    let t = crate::line_width_u16(glyphs);
+    let t = crate::line_width_u16(glyphs, ambiguous);
     let hidden = hidden_columns(alignment, t, w) as usize;
     let start = line_start(alignment, t, w) as usize;
-    title_glyphs::write_glyphs(&mut row[start..], styles, hidden, glyphs);
+    title_glyphs::write_glyphs(&mut row[start..], styles, hidden, glyphs, ambiguous);
 }

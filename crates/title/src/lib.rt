@@ -6,22 +6,24 @@ use buffer::Ink;
 use buffer::Screen;
 use layout::Rect;
 use text::Alignment;
+use text::AmbiguousWidth;
 ghost use mathlib.Core.Path.{_≡_};
 ghost use lib.ListN.{length};
 ghost use Rattle.layout.specs.Rect.{rightOf};
 ghost use Rattle.buffer.specs.Drawing.{drawn};
 ghost use Rattle.buffer.specs.PartsExtra.{inRow};
+ghost use Rattle.title_glyphs.specs.TitleGlyphs.{titleGlyphs};
 ghost use Rattle.title.specs.Title.{titleLineWidth, titleLine, titleIn};
 ghost use Rattle.title.specs.FittingExtra.{TitleArea};
 
 // Returns the width of a title line, saturating at 65,535 (block.rs: `Block::line_width_u16`).
-pub fn line_width_u16(glyphs: &[u32]) -> u16
-    ensures { λ r. ⌜ r ≡ titleLineWidth (now (glyphs .entry)) ⌝ }
+pub fn line_width_u16(glyphs: &[u32], ambiguous: AmbiguousWidth) -> u16
+    ensures { λ r. ⌜ r ≡ titleLineWidth (titleGlyphs ambiguous (now (glyphs .entry))) ⌝ }
 {
     let mut width: u16 = 0;
     let mut i = 0;
     while i < glyphs.len() {
-        width = num::saturating_add(width, text::glyph::width(glyphs[i]) as u16);
+        width = num::saturating_add(width, text::glyph::width(glyphs[i], ambiguous) as u16);
         i += 1;
     }
     width
@@ -35,10 +37,11 @@ fn render_title_line(
     area: Rect,
     alignment: Alignment,
     glyphs: &[u32],
+    ambiguous: AmbiguousWidth,
 )
     requires { ⌜ TitleArea screen (length (now cells)) area ⌝ }
     ensures { λ _.
-        let drawing = inRow (area .x) (rightOf area) (area .y) (titleLine (now (styles .entry)) alignment (area .width) (now (glyphs .entry))) in
+        let drawing = inRow (area .x) (rightOf area) (area .y) (titleLine (now (styles .entry)) alignment (area .width) (titleGlyphs ambiguous (now (glyphs .entry)))) in
         ⌜ now (cells .exit) ≡ drawn (screen .columns) drawing (now (cells .entry)) ⌝ }
 {
     let row = (area.y as usize) * (screen.columns as usize);
@@ -50,6 +53,7 @@ fn render_title_line(
         alignment,
         area.width,
         glyphs,
+        ambiguous,
     );
 }
 
@@ -62,13 +66,14 @@ pub fn render_title(
     area: Rect,
     alignment: Alignment,
     glyphs: &[u32],
+    ambiguous: AmbiguousWidth,
 )
     requires { ⌜ TitleArea screen (length (now cells)) area ⌝ }
     ensures { λ _.
-        let drawing = titleIn (now (styles .entry)) style area alignment (now (glyphs .entry)) in
+        let drawing = titleIn (now (styles .entry)) style area alignment (titleGlyphs ambiguous (now (glyphs .entry))) in
         ⌜ now (cells .exit) ≡ drawn (screen .columns) drawing (now (cells .entry)) ⌝ }
 {
     let ink = Ink::Style(buffer::style_at(styles, style));
     buffer::paint_area(screen, cells, area, ink);
-    render_title_line(screen, cells, styles, area, alignment, glyphs);
+    render_title_line(screen, cells, styles, area, alignment, glyphs, ambiguous);
 }

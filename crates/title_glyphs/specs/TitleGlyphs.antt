@@ -3,13 +3,14 @@ use Prim.Native.Nat.{ℕ, _+_}
 use mathlib.Core.Bool.{Bool, cond, _&&_}
 use mathlib.Core.List.{List, [], _∷_}
 use lib.Dec.{eqb, leb, ltb}
+use Rattle.text.specs.declared.AmbiguousWidth.{AmbiguousWidth}
 use Rattle.text.specs.Line.{Glyph, Start, numbered}
 use Rattle.cell.specs.Cell.{withSymbol, styled}
 use Rattle.buffer.specs.Drawing.{styleAt}
 
--- the glyphs of a title's records, numbered from 0; drawing doesn't read the numbers
-abbrev pub titleGlyphs : List ℕ → List Glyph
-titleGlyphs records = numbered 0 records
+-- the glyphs of a title's records, read as set and numbered from 0; drawing doesn't read the numbers
+abbrev pub titleGlyphs : AmbiguousWidth → List ℕ → List Glyph
+titleGlyphs ambiguous records = numbered ambiguous 0 records
 
 -- "drawing stops at the first that overruns w": the glyphs before the first that ends after `end`
 abbrev pub untilOverrun : ℕ → List Start → List Start

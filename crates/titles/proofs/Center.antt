@@ -10,7 +10,6 @@ use borrow.Author.Tests.{eq-eqb, leb-true}
 use lib.Dec.{leb}
 use lib.ListN.{length}
 use Rattle.num.specs.Held.{held}
-use Rattle.text.specs.Line.{TextLine}
 use Rattle.layout.specs.declared.Rect.{Rect}
 use Rattle.layout.specs.Rect.{isEmpty}
 use Rattle.buffer.specs.declared.Screen.{Screen}
@@ -19,7 +18,7 @@ use Rattle.buffer.proofs.Drawn.{drawn-same}
 use Rattle.block.specs.declared.Block.{Block}
 use Rattle.title.proofs.Cells.{nothing-drawn}
 use Rattle.titles.specs.declared.Place.{Place}
-use Rattle.titles.specs.Titles.{titleWidth, PlacedTitle, givenAlignment, titlesDrawn, withWidth, pastTitle, spacedFrom, totalWidth, centeredFrom, untruncatedTitles, centerOffset, truncatedWidth, placedTruncated, truncatedTitles, centerTitles}
+use Rattle.titles.specs.Titles.{Title, titleWidth, PlacedTitle, givenAlignment, titlesDrawn, withWidth, pastTitle, spacedFrom, totalWidth, centeredFrom, untruncatedTitles, centerOffset, truncatedWidth, placedTruncated, truncatedTitles, centerTitles}
 use Rattle.titles.specs.PlacingExtra.{placedWidth, placedTitles, centerPlace, AreaFits}
 use Rattle.titles.proofs.Areas.{area-narrow, one-row-some}
 use Rattle.titles.proofs.Placing.{placed-none}
@@ -30,7 +29,7 @@ abbrev wholePlace : ℕ → Rect → Place
 wholePlace width r = record { area = withWidth width r; offset = 0; truncates = false }
 
 -- with truncation, `placedTitles` is the rule itself
-truncated-titles-placed : (offset : ℕ) (area : Rect) (ts : List TextLine)
+truncated-titles-placed : (offset : ℕ) (area : Rect) (ts : List Title)
     → truncatedTitles offset area ts ≡ placedTitles (record { area = area; offset = offset; truncates = true }) ts
 truncated-titles-placed offset area [] = refl
 truncated-titles-placed offset area (t ∷ ts) =
@@ -39,20 +38,20 @@ truncated-titles-placed offset area (t ∷ ts) =
 
 module _ (styles : List ℕ) (b : Block) (column row : ℕ) where
   -- a cell after drawing titles without truncation, or from a place
-  abbrev whole : Rect → List TextLine → ℕ → ℕ
+  abbrev whole : Rect → List Title → ℕ → ℕ
   whole r ts cell = titlesDrawn styles b (untruncatedTitles r ts) column row cell
 
-  abbrev onward : Place → List TextLine → ℕ → ℕ
+  abbrev onward : Place → List Title → ℕ → ℕ
   onward p ts cell = titlesDrawn styles b (placedTitles p ts) column row cell
 
   -- if no width remains, a single title of width 0 remains, which draws nothing
-  last-none : (r : Rect) (t : TextLine) (ts : List TextLine) (cell : ℕ) → spacedSum (t ∷ ts) - 1 ≡ 0 → whole r (t ∷ ts) cell ≡ cell
+  last-none : (r : Rect) (t : Title) (ts : List Title) (cell : ℕ) → spacedSum (t ∷ ts) - 1 ≡ 0 → whole r (t ∷ ts) cell ≡ cell
   last-none r t [] cell e =
-      nothing-drawn styles (b .«titles_style») (withWidth (titleWidth t) r) (givenAlignment (t .head)) (t .records) column row cell (omega arith)
+      nothing-drawn styles (b .«titles_style») (withWidth (titleWidth t) r) (givenAlignment (t .head)) (t .glyphs) column row cell (omega arith)
   last-none r t (u ∷ ts) cell e = absurd (omega arith)
 
   -- if there is room for the first title, the others are placed after it
-  first-whole : (r : Rect) (width : ℕ) (t : TextLine) (ts : List TextLine) (cell : ℕ) → r .height ≡ 1 → 0 < width → titleWidth t ≤ width
+  first-whole : (r : Rect) (width : ℕ) (t : Title) (ts : List Title) (cell : ℕ) → r .height ≡ 1 → 0 < width → titleWidth t ≤ width
       → ((c : ℕ) → whole (pastTitle (titleWidth t) r) ts c ≡ onward (wholePlace (width - held (titleWidth t + 1)) (pastTitle (titleWidth t) r)) ts c)
       → whole r (t ∷ ts) cell ≡ onward (wholePlace width r) (t ∷ ts) cell
   first-whole r width t ts cell high some h others =
@@ -61,7 +60,7 @@ module _ (styles : List ℕ) (b : Block) (column row : ℕ) where
       rw (one-row-some (withWidth width r) high some, placed, offset) (others _)
 
   -- without truncation, a place is as wide as the remaining titles
-  untruncated-from-place : (r : Rect) (width : ℕ) (ts : List TextLine) (cell : ℕ) → r .height ≡ 1 → width ≡ spacedSum ts - 1 → spacedSum ts < 65535
+  untruncated-from-place : (r : Rect) (width : ℕ) (ts : List Title) (cell : ℕ) → r .height ≡ 1 → width ≡ spacedSum ts - 1 → spacedSum ts < 65535
       → whole r ts cell ≡ onward (wholePlace width r) ts cell
   untruncated-from-place r width [] cell high e k = refl
   untruncated-from-place r width (t ∷ ts) cell high e k =
@@ -74,7 +73,7 @@ module _ (styles : List ℕ) (b : Block) (column row : ℕ) where
       ∙ ap (λ (placed : List PlacedTitle). titlesDrawn styles b placed column row cell) (sym (placed-none (wholePlace width r) (t ∷ ts) (rw (eq-eqb width 0 z)))))
 
   -- `centerPlace` truncates when the rule does
-  center-from-place : (area : Rect) (ts : List TextLine) (cell : ℕ) → area .height ≡ 1 → area .width < 2 ^ 15
+  center-from-place : (area : Rect) (ts : List Title) (cell : ℕ) → area .height ≡ 1 → area .width < 2 ^ 15
       → titlesDrawn styles b (centerTitles area ts) column row cell ≡ onward (centerPlace area (totalWidth ts)) ts cell
   unfolding centerTitles centerPlace
   center-from-place area ts cell high few = go (leb (totalWidth ts) (area .width)) refl
@@ -94,7 +93,7 @@ module _ (styles : List ℕ) (b : Block) (column row : ℕ) where
       go false e = ap (λ (placed : List PlacedTitle). titlesDrawn styles b placed column row cell) (truncated-titles-placed offset area ts)
 
 -- drawing `placedTitles` from that place draws the centred titles
-pub center-drawn : (styles : List ℕ) (b : Block) (s : Screen) (area : Rect) (ts : List TextLine) (cells after : List ℕ) (spaced total : ℕ) (p : Place) → 0 < s .columns → AreaFits s (length cells) area → area .height ≡ 1
+pub center-drawn : (styles : List ℕ) (b : Block) (s : Screen) (area : Rect) (ts : List Title) (cells after : List ℕ) (spaced total : ℕ) (p : Place) → 0 < s .columns → AreaFits s (length cells) area → area .height ≡ 1
     → spaced ≡ spacedFrom 0 ts → total ≡ spaced - 1 → p ≡ centerPlace area total
     → after ≡ drawn (s .columns) (titlesDrawn styles b (placedTitles p ts)) cells → after ≡ drawn (s .columns) (titlesDrawn styles b (centerTitles area ts)) cells
 center-drawn styles b s area ts cells after spaced total p some fits high es et ep e =

@@ -8,7 +8,7 @@ use lib.ListN.{length, getD, take, drop}
 use lib.Seq.{drop-cons, take-add, length-take-le}
 use Rattle.text.specs.Record.{isHead}
 use Rattle.text.specs.Line.{untilHead, linesFrom}
-use Rattle.titles.specs.PlacingExtra.{titleOf, LastHead}
+use Rattle.titles.specs.PlacingExtra.{lineOf, LastHead}
 
 -- without a head, `untilHead` takes all records
 until-none : (number : ℕ) (rs : List ℕ) → linesFrom number rs ≡ [] → untilHead rs ≡ rs
@@ -16,7 +16,7 @@ until-none number [] e = refl
 until-none number (r ∷ rs) e = go (isHead r) refl (until-none (suc number) rs) e
   where
     go : (b : Bool) → isHead r ≡ b → (linesFrom (suc number) rs ≡ [] → untilHead rs ≡ rs)
-        → cond b (titleOf (suc number) r (untilHead rs) ∷ linesFrom (suc number) rs) (linesFrom (suc number) rs) ≡ [] → untilHead (r ∷ rs) ≡ r ∷ rs
+        → cond b (lineOf (suc number) r (untilHead rs) ∷ linesFrom (suc number) rs) (linesFrom (suc number) rs) ≡ [] → untilHead (r ∷ rs) ≡ r ∷ rs
     go true h ih none = absurd (omega (arith, ap length none))
     go false h ih none = rw h (ap {B = List ℕ} (λ (l : List ℕ). r ∷ l) (ih none))
 
@@ -27,7 +27,7 @@ until-stop (x ∷ xs) head ys h = ap {B = List ℕ} (λ (l : List ℕ). cond (is
 
 -- a head with no head after it opens the last title
 last-title : (number : ℕ) (xs : List ℕ) (head : ℕ) (ys : List ℕ) → isHead head ≡ true → ((n : ℕ) → linesFrom n ys ≡ [])
-    → linesFrom number (xs ++ (head ∷ ys)) ≡ linesFrom number xs ++ (titleOf (number + length xs + 1) head ys ∷ [])
+    → linesFrom number (xs ++ (head ∷ ys)) ≡ linesFrom number xs ++ (lineOf (number + length xs + 1) head ys ∷ [])
 last-title number [] head ys h none =
     let n : number + 0 + 1 ≡ suc number = omega arith in
     rw (h, until-none (suc number) ys (none (suc number)), none (suc number), n)
@@ -36,9 +36,9 @@ last-title number (x ∷ xs) head ys h none = go (isHead x) (last-title (suc num
     n : suc number + length xs + 1 ≡ number + suc (length xs) + 1
     n = omega arith
 
-    go : (b : Bool) → linesFrom (suc number) (xs ++ (head ∷ ys)) ≡ linesFrom (suc number) xs ++ (titleOf (suc number + length xs + 1) head ys ∷ [])
-        → cond b (titleOf (suc number) x (untilHead (xs ++ (head ∷ ys))) ∷ linesFrom (suc number) (xs ++ (head ∷ ys))) (linesFrom (suc number) (xs ++ (head ∷ ys)))
-        ≡ cond b (titleOf (suc number) x (untilHead xs) ∷ linesFrom (suc number) xs) (linesFrom (suc number) xs) ++ (titleOf (number + suc (length xs) + 1) head ys ∷ [])
+    go : (b : Bool) → linesFrom (suc number) (xs ++ (head ∷ ys)) ≡ linesFrom (suc number) xs ++ (lineOf (suc number + length xs + 1) head ys ∷ [])
+        → cond b (lineOf (suc number) x (untilHead (xs ++ (head ∷ ys))) ∷ linesFrom (suc number) (xs ++ (head ∷ ys))) (linesFrom (suc number) (xs ++ (head ∷ ys)))
+        ≡ cond b (lineOf (suc number) x (untilHead xs) ∷ linesFrom (suc number) xs) (linesFrom (suc number) xs) ++ (lineOf (number + suc (length xs) + 1) head ys ∷ [])
     go true ih = rw (until-stop xs head ys h, ih, n)
     go false ih = rw n at ih
 
@@ -77,7 +77,7 @@ module _ (titles : List ℕ) (end i : ℕ) (s : Seeking titles end i) where
         let split : take end titles ≡ take at titles ++ (head ∷ rest) = ap (λ (k : ℕ). take k titles) n ∙ take-add at (end - at) titles ∙ rw part in
         let k : 0 + at ≡ at = omega arith in
         let size : length (take at titles) ≡ at = length-take-le at titles (omega (arith, s .before, s .within)) in
-        let found : linesFrom 0 (take at titles ++ (head ∷ rest)) ≡ linesFrom 0 (take at titles) ++ (titleOf (0 + length (take at titles) + 1) head rest ∷ [])
+        let found : linesFrom 0 (take at titles ++ (head ∷ rest)) ≡ linesFrom 0 (take at titles) ++ (lineOf (0 + length (take at titles) + 1) head rest ∷ [])
         = last-title 0 (take at titles) head rest (sym p ∙ t) (s .none) in
         record { before = omega (arith, s .before); is-last = ap (linesFrom 0) split ∙ found ∙ rw (size, k, m) }
 

@@ -8,14 +8,13 @@ use native.Mathlib.Decide.{decLt}
 use native.Mathlib.Omega.{arith}
 use borrow.Author.Tests.{eq-eqb}
 use lib.ListN.{length}
-use Rattle.text.specs.Line.{TextLine}
 use Rattle.layout.specs.declared.Rect.{Rect}
 use Rattle.layout.specs.Rect.{isEmpty}
 use Rattle.buffer.specs.declared.Screen.{Screen}
 use Rattle.buffer.specs.Drawing.{drawn}
 use Rattle.block.specs.declared.Block.{Block}
 use Rattle.titles.specs.declared.Place.{Place}
-use Rattle.titles.specs.Titles.{titleWidth, PlacedTitle, titlesDrawn, pastTitle, leftTitles}
+use Rattle.titles.specs.Titles.{Title, titleWidth, PlacedTitle, titlesDrawn, pastTitle, leftTitles}
 use Rattle.titles.specs.PlacingExtra.{placedWidth, nextPlace, placedTitles, AreaFits}
 use Rattle.titles.proofs.Areas.{edge-within}
 use Rattle.titles.proofs.Placing.{placed-none}
@@ -25,15 +24,15 @@ abbrev leftPlace : Rect → Place
 leftPlace area = record { area = area; offset = 0; truncates = false }
 
 -- an empty area gets no title
-left-none : (area : Rect) (ts : List TextLine) → isEmpty area ≡ true → leftTitles area ts ≡ []
+left-none : (area : Rect) (ts : List Title) → isEmpty area ≡ true → leftTitles area ts ≡ []
 left-none area [] e = refl
 left-none area (t ∷ ts) e = rw e
 
-both-none : (area : Rect) (ts : List TextLine) → isEmpty area ≡ true → leftTitles area ts ≡ placedTitles (leftPlace area) ts
+both-none : (area : Rect) (ts : List Title) → isEmpty area ≡ true → leftTitles area ts ≡ placedTitles (leftPlace area) ts
 both-none area ts e = left-none area ts e ∙ sym (placed-none (leftPlace area) ts e)
 
 -- a non-empty area
-module _ (area : Rect) (t : TextLine) (ts : List TextLine) (some-room : isEmpty area ≡ false) where
+module _ (area : Rect) (t : Title) (ts : List Title) (some-room : isEmpty area ≡ false) where
   abbrev Same : Type 0
   Same = leftTitles area (t ∷ ts) ≡ placedTitles (leftPlace area) (t ∷ ts)
 
@@ -56,7 +55,7 @@ module _ (area : Rect) (t : TextLine) (ts : List TextLine) (some-room : isEmpty 
       let no-placed : placedTitles next ts ≡ [] = placed-none next ts (rw (eq-eqb (next .area .width) 0 (omega arith))) in
       rw (some-room, left, placed, no-left, no-placed)
 
-left-titles-placed : (area : Rect) (ts : List TextLine) → area .width ≤ 65535 → leftTitles area ts ≡ placedTitles (leftPlace area) ts
+left-titles-placed : (area : Rect) (ts : List Title) → area .width ≤ 65535 → leftTitles area ts ≡ placedTitles (leftPlace area) ts
 left-titles-placed area [] k = refl
 left-titles-placed area (t ∷ ts) k = go (isEmpty area) refl (left-titles-placed (pastTitle (titleWidth t) area) ts (omega arith))
   where
@@ -70,7 +69,7 @@ left-titles-placed area (t ∷ ts) k = go (isEmpty area) refl (left-titles-place
         (λ n. title-whole area t ts e (omega (arith, n)) others)
 
 -- drawing `placedTitles` from there draws the left titles
-pub left-drawn : (styles : List ℕ) (b : Block) (s : Screen) (area : Rect) (ts : List TextLine) (cells after : List ℕ) → AreaFits s (length cells) area
+pub left-drawn : (styles : List ℕ) (b : Block) (s : Screen) (area : Rect) (ts : List Title) (cells after : List ℕ) → AreaFits s (length cells) area
     → after ≡ drawn (s .columns) (titlesDrawn styles b (placedTitles (leftPlace area) ts)) cells
     → after ≡ drawn (s .columns) (titlesDrawn styles b (leftTitles area ts)) cells
 left-drawn styles b s area ts cells after fits e =

@@ -13,14 +13,13 @@ use Rattle.num.specs.Held.{held}
 use Rattle.text.specs.declared.Alignment.the-variants.{Left, Center, Right}
 use Rattle.text.specs.declared.TitlePosition.{TitlePosition}
 use Rattle.text.specs.declared.TitlePosition.the-variants.{Top, Bottom}
-use Rattle.text.specs.Line.{TextLine, linesFrom}
 use Rattle.layout.specs.declared.Rect.{Rect}
 use Rattle.layout.specs.Rect.{isEmpty, contains}
 use Rattle.buffer.proofs.Keeping.{Keeps, wholeCell}
 use Rattle.buffer.proofs.Within.{cell-outside}
 use Rattle.block.specs.declared.Block.{Block}
 use Rattle.block.specs.Inner.{atLeft, atRight, taken}
-use Rattle.titles.specs.Titles.{filteredTitles, PlacedTitle, titleWidth, spacedFrom, totalWidth, titlesArea, pastTitle, centeredFrom, centerOffset, truncatedWidth, beforeTitle, leftTitles, untruncatedTitles, truncatedTitles, centerTitles, rightTitles, groupsIn, titlesAt, titlesOn}
+use Rattle.titles.specs.Titles.{Title, filteredTitles, PlacedTitle, titleWidth, spacedFrom, totalWidth, titlesArea, pastTitle, centeredFrom, centerOffset, truncatedWidth, beforeTitle, leftTitles, untruncatedTitles, truncatedTitles, centerTitles, rightTitles, groupsIn, titlesAt, titlesOn}
 use Rattle.titles.proofs.Keeping.{KeptInAreas, placed-keep}
 
 -- ---- columns of the parts of an area at x of width w
@@ -62,7 +61,7 @@ middle-end : (x w total : ℕ) → total ≤ w → x + w ≤ 2 ^ 15 → held (x 
 middle-end x w total h few = omega arith
 
 -- the sum of spaced widths only grows
-spaced-least : (sum : ℕ) (ts : List TextLine) → sum ≤ 65535 → sum ≤ spacedFrom sum ts
+spaced-least : (sum : ℕ) (ts : List Title) → sum ≤ 65535 → sum ≤ spacedFrom sum ts
 spaced-least sum [] h = omega arith
 spaced-least sum (t ∷ ts) h =
     let next : ℕ = held (sum + held (titleWidth t + 1)) in
@@ -102,20 +101,20 @@ module _ (column : ℕ) where
         few = λ some. past-few (area .x) (area .width) width column some (a .few (omega arith));
       }
 
-  left-beside : (area : Rect) (ts : List TextLine) → Aside area → AllBeside (leftTitles area ts)
+  left-beside : (area : Rect) (ts : List Title) → Aside area → AllBeside (leftTitles area ts)
   left-beside area [] a = tt
   left-beside area (t ∷ ts) a =
       either-beside (isEmpty area) [] _ tt
       (λ low high. a .beside low (omega arith), left-beside (pastTitle (titleWidth t) area) ts (past-aside (titleWidth t) area a))
 
-  truncated-beside : (offset : ℕ) (area : Rect) (ts : List TextLine) → Aside area → AllBeside (truncatedTitles offset area ts)
+  truncated-beside : (offset : ℕ) (area : Rect) (ts : List Title) → Aside area → AllBeside (truncatedTitles offset area ts)
   truncated-beside offset area [] a = tt
   truncated-beside offset area (t ∷ ts) a =
       let width : ℕ = truncatedWidth offset area t in
       either-beside (isEmpty area) [] _ tt
       (λ low high. a .beside low (omega arith), truncated-beside (offset - width - 1) (pastTitle width area) ts (past-aside width area a))
 
-  untruncated-beside : (first sum end : ℕ) (area : Rect) (ts : List TextLine) → area .x ≡ first + sum → first + (spacedFrom sum ts - 1) ≤ end → end ≤ 2 ^ 15
+  untruncated-beside : (first sum end : ℕ) (area : Rect) (ts : List Title) → area .x ≡ first + sum → first + (spacedFrom sum ts - 1) ≤ end → end ≤ 2 ^ 15
       → (first ≤ column → column < end → ⊥) → AllBeside (untruncatedTitles area ts)
   untruncated-beside first sum end area [] at fits few out = tt
   untruncated-beside first sum end area (t ∷ ts) at fits few out =
@@ -128,7 +127,7 @@ module _ (column : ℕ) where
         untruncated-beside first next end (pastTitle (titleWidth t) area) ts (rw at starts) fits few out,
       )
 
-  center-beside : (area : Rect) (ts : List TextLine) → area .x + area .width ≤ 2 ^ 15 → Beside area → AllBeside (centerTitles area ts)
+  center-beside : (area : Rect) (ts : List Title) → area .x + area .width ≤ 2 ^ 15 → Beside area → AllBeside (centerTitles area ts)
   unfolding centerTitles
   center-beside area ts few out = go (leb (totalWidth ts) (area .width)) refl
     where
@@ -142,7 +141,7 @@ module _ (column : ℕ) where
           (λ low high. out (middle-low (area .x) (area .width) (totalWidth ts) column fits few low) high)
       go false e = truncated-beside (centerOffset (totalWidth ts) area) area ts (record { beside = out; few = λ some. few })
 
-  right-beside : (area : Rect) (ts : List TextLine) → Aside area → AllBeside (rightTitles area ts)
+  right-beside : (area : Rect) (ts : List Title) → Aside area → AllBeside (rightTitles area ts)
   right-beside area [] a = tt
   right-beside area (t ∷ ts) a =
       either-beside (isEmpty area) [] _ tt (
@@ -171,7 +170,7 @@ module _ (column : ℕ) where
     taken-high false true x w q low high = omega arith
     taken-high false false x w q low high = omega arith
 
-    group-beside : (position : TitlePosition) (ts : List TextLine) → AllBeside (titlesAt b position met ts)
+    group-beside : (position : TitlePosition) (ts : List Title) → AllBeside (titlesAt b position met ts)
     unfolding groupsIn
     group-beside position ts =
         let area = titlesArea b position met in
@@ -198,10 +197,9 @@ module _ (column : ℕ) where
     beside-kept row styles (p ∷ ps) clear =
         (λ here. absurd (true≢false (sym here ∙ beside-outside row (p .area) (clear .0))), beside-kept row styles ps (clear .1))
 
-    pub titles-beside : (row : ℕ) (styles records : List ℕ) → Keeps wholeCell (titlesOn styles b met records) column row
+    pub titles-beside : (row : ℕ) (styles : List ℕ) (ts : List Title) → Keeps wholeCell (titlesOn styles b met ts) column row
     unfolding titlesOn
-    titles-beside row styles records =
-        let ts = linesFrom 0 records in
+    titles-beside row styles ts =
         let placed = titlesAt b Top met ts ++ titlesAt b Bottom met ts in
         placed-keep wholeCell column row styles b placed
         (beside-kept row styles placed (both-beside (titlesAt b Top met ts) _ (group-beside Top ts) (group-beside Bottom ts)))

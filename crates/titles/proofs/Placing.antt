@@ -7,7 +7,7 @@ use borrow.Author.Tests.{lt-ltb, le-ltb, le-leb, lt-leb}
 use lib.ListN.{length}
 use Rattle.text.specs.declared.Alignment.{Alignment}
 use Rattle.text.specs.declared.Alignment.the-variants.{Left, Right}
-use Rattle.text.specs.Line.{TextLine}
+use Rattle.text.specs.Line.{Glyph}
 use Rattle.layout.specs.declared.Rect.{Rect}
 use Rattle.layout.specs.Rect.{isEmpty}
 use Rattle.buffer.specs.declared.Screen.{Screen}
@@ -17,8 +17,8 @@ use Rattle.block.specs.declared.Block.{Block}
 use Rattle.title.specs.Title.{titleLineWidth, titleIn}
 use Rattle.titles.specs.declared.Place.{Place}
 use Rattle.titles.specs.declared.Group.{Group}
-use Rattle.titles.specs.Titles.{isChosen, PlacedTitle, givenAlignment, titlesDrawn, withX, withWidth, centeredFrom, centerOffset}
-use Rattle.titles.specs.PlacingExtra.{placedWidth, placedAlignment, nextPlace, placedAt, placedTitles, centerPlace, AreaFits, titlesOf, titleOf, Moved}
+use Rattle.titles.specs.Titles.{Title, isChosen, PlacedTitle, givenAlignment, titlesDrawn, withX, withWidth, centeredFrom, centerOffset}
+use Rattle.titles.specs.PlacingExtra.{placedWidth, placedAlignment, nextPlace, placedAt, placedTitles, centerPlace, AreaFits, titlesOf, Moved}
 use Rattle.titles.proofs.Areas.{TestedArea, past-fits}
 
 -- ---- alignment, and the first centred place
@@ -55,74 +55,74 @@ pub ruleset center-places = (center-fits, center-truncates)
 -- ---- one more title
 
 -- an empty area gets no title
-pub placed-none : (p : Place) (ts : List TextLine) → isEmpty (p .area) ≡ true → placedTitles p ts ≡ []
+pub placed-none : (p : Place) (ts : List Title) → isEmpty (p .area) ≡ true → placedTitles p ts ≡ []
 placed-none p [] e = refl
 placed-none p (t ∷ ts) e = rw e
 
 -- a title drawn in its part of the area
-module _ (p : Place) (records : List ℕ) (given width : ℕ) (is-width : given ≡ titleLineWidth records) (placed : width ≡ placedWidth p given) where
-  width-placed : width ≡ placedWidth p (titleLineWidth records)
+module _ (p : Place) (glyphs : List Glyph) (given width : ℕ) (is-width : given ≡ titleLineWidth glyphs) (placed : width ≡ placedWidth p given) where
+  width-placed : width ≡ placedWidth p (titleLineWidth glyphs)
   width-placed = placed ∙ ap (placedWidth p) is-width
 
-  pub placed-next : (next : Place) → next ≡ nextPlace p width → next ≡ nextPlace p (placedWidth p (titleLineWidth records))
+  pub placed-next : (next : Place) → next ≡ nextPlace p width → next ≡ nextPlace p (placedWidth p (titleLineWidth glyphs))
   placed-next next e = e ∙ ap (nextPlace p) width-placed
 
   pub placed-drawn : (columns : ℕ) (styles : List ℕ) (style head : ℕ) (a : Alignment) (cells after : List ℕ) → a ≡ placedAlignment p head
-      → after ≡ drawn columns (titleIn styles style (withWidth width (p .area)) a records) cells
-      → after ≡ drawn columns (titleIn styles style (withWidth (placedWidth p (titleLineWidth records)) (p .area)) (placedAlignment p head) records) cells
+      → after ≡ drawn columns (titleIn styles style (withWidth width (p .area)) a glyphs) cells
+      → after ≡ drawn columns (titleIn styles style (withWidth (placedWidth p (titleLineWidth glyphs)) (p .area)) (placedAlignment p head) glyphs) cells
   placed-drawn columns styles style head a cells after e f = f ∙ rw (width-placed, e)
 
 pub ruleset placed = (placed-next, placed-drawn)
 
-module _ (s : Screen) (styles : List ℕ) (b : Block) (g : Group) (head : ℕ) (records : List ℕ) (p : Place) (cells : List ℕ) where
+module _ (s : Screen) (styles : List ℕ) (b : Block) (g : Group) (t : Title) (p : Place) (cells : List ℕ) where
   -- in an empty area neither this title nor any other is drawn
-  pub moved-full : (empty : Bool) → TestedArea s (length cells) (p .area) empty → empty ≡ true → Moved s styles b g head records p cells p cells
+  pub moved-full : (empty : Bool) → TestedArea s (length cells) (p .area) empty → empty ≡ true → Moved s styles b g t p cells p cells
   moved-full empty a e =
       let none : isEmpty (p .area) ≡ true = sym (a .tested) ∙ e in
       record {
         fits = a .fits;
         same-length = refl;
-        draws = λ number ts.
+        draws = λ ts.
             ap (λ (placed : List PlacedTitle). drawn (s .columns) (titlesDrawn styles b placed) cells)
-            (placed-none p (titlesOf b g ts) none ∙ sym (placed-none p (titlesOf b g (titleOf number head records ∷ ts)) none));
+            (placed-none p (titlesOf b g ts) none ∙ sym (placed-none p (titlesOf b g (t ∷ ts)) none));
       }
 
-  module _ (has : Bool) (chosen : has ≡ isChosen b (g .position) (g .alignment) head) where
+  module _ (has : Bool) (chosen : has ≡ isChosen b (g .position) (g .alignment) (t .head)) where
     -- a title of another group isn't drawn
-    pub moved-other : AreaFits s (length cells) (p .area) → has ≡ false → Moved s styles b g head records p cells p cells
+    pub moved-other : AreaFits s (length cells) (p .area) → has ≡ false → Moved s styles b g t p cells p cells
     moved-other fits f =
         record {
           fits = fits;
           same-length = refl;
-          draws = λ number ts. rw (← chosen, f);
+          draws = λ ts. rw (← chosen, f);
         }
 
     -- a title of the group is drawn if the area is non-empty
     module _ (next : Place) (after : List ℕ) (of-group : has ≡ true) where
       abbrev width : ℕ
-      width = placedWidth p (titleLineWidth records)
+      width = placedWidth p (titleLineWidth (t .glyphs))
 
       abbrev title : Drawing
-      title = titleIn styles (b .«titles_style») (withWidth width (p .area)) (placedAlignment p head) records
+      title = titleIn styles (b .«titles_style») (withWidth width (p .area)) (placedAlignment p (t .head)) (t .glyphs)
 
-      abbrev others : List TextLine → List PlacedTitle
+      abbrev others : List Title → List PlacedTitle
       others ts = placedTitles (nextPlace p width) (titlesOf b g ts)
 
-      first-placed : isEmpty (p .area) ≡ false → (number : ℕ) (ts : List TextLine)
-          → placedAt p (titleOf number head records) ∷ others ts ≡ placedTitles p (titlesOf b g (titleOf number head records ∷ ts))
-      first-placed some-room number ts = rw (← chosen, of-group, some-room)
+      first-placed : isEmpty (p .area) ≡ false → (ts : List Title)
+          → placedAt p t ∷ others ts ≡ placedTitles p (titlesOf b g (t ∷ ts))
+      first-placed some-room ts = rw (← chosen, of-group, some-room)
 
       pub moved-drawn : (empty : Bool) → TestedArea s (length cells) (p .area) empty → empty ≡ false
-          → next ≡ nextPlace p width → after ≡ drawn (s .columns) title cells → Moved s styles b g head records p cells next after
+          → next ≡ nextPlace p width → after ≡ drawn (s .columns) title cells → Moved s styles b g t p cells next after
       moved-drawn empty a e en ea =
           let some-room : isEmpty (p .area) ≡ false = sym (a .tested) ∙ e in
           let n : length after ≡ length cells = ap length ea ∙ drawn-length (s .columns) title cells in
           record {
             fits = rw (en, n) (past-fits s (length cells) (p .area) width (a .fits some-room));
             same-length = n;
-            draws = λ number ts.
+            draws = λ ts.
                 rw (en, ea) (drawn-then (s .columns) title (titlesDrawn styles b (others ts)) cells)
-                ∙ ap (λ (placed : List PlacedTitle). drawn (s .columns) (titlesDrawn styles b placed) cells) (first-placed some-room number ts);
+                ∙ ap (λ (placed : List PlacedTitle). drawn (s .columns) (titlesDrawn styles b placed) cells) (first-placed some-room ts);
           }
 
 pub ruleset moves = (moved-full, moved-other, moved-drawn)

@@ -10,7 +10,6 @@ use Rattle.num.specs.Held.{held}
 use Rattle.text.specs.declared.Alignment.the-variants.{Left, Center, Right}
 use Rattle.text.specs.declared.TitlePosition.{TitlePosition}
 use Rattle.text.specs.declared.TitlePosition.the-variants.{Top, Bottom}
-use Rattle.text.specs.Line.{linesFrom}
 use Rattle.text.proofs.Bools.{neither}
 use Rattle.layout.specs.declared.Rect.{Rect}
 use Rattle.layout.specs.Rect.{bottomOf, isEmpty}
@@ -20,7 +19,7 @@ use Rattle.buffer.specs.PartsExtra.{OnScreen}
 use Rattle.buffer.proofs.Drawn.{drawn-then, drawn-none}
 use Rattle.block.specs.declared.Block.{Block}
 use Rattle.block.specs.Inner.{atLeft, atRight, taken}
-use Rattle.titles.specs.Titles.{filteredTitles, PlacedTitle, titleDrawn, titlesDrawn, titlesRow, titlesArea, leftTitles, centerTitles, rightTitles, groupsIn, titlesAt, titlesOn}
+use Rattle.titles.specs.Titles.{Title, filteredTitles, PlacedTitle, titleDrawn, titlesDrawn, titlesRow, titlesArea, leftTitles, centerTitles, rightTitles, groupsIn, titlesAt, titlesOn}
 use Rattle.titles.specs.PlacingExtra.{AreaFits}
 
 -- results of `titles_row` and `titles_area`
@@ -90,29 +89,29 @@ both-drawn columns styles b (x ∷ ps) qs cells next last p q =
     (p ∙ sym (drawn-then columns (titleDrawn styles b x) (titlesDrawn styles b ps) cells)) q
     ∙ drawn-then columns (titleDrawn styles b x) (titlesDrawn styles b (ps ++ qs)) cells
 
-module _ (columns : ℕ) (styles : List ℕ) (b : Block) (met : Rect) (titles : List ℕ) (cells : List ℕ) where
+module _ (columns : ℕ) (styles : List ℕ) (b : Block) (met : Rect) (titles : List Title) (cells : List ℕ) where
   -- left, centre, right titles
   pub groups-drawn : (position : TitlePosition) (area : Rect) (first second last : List ℕ)
-      → first ≡ drawn columns (titlesDrawn styles b (leftTitles area (filteredTitles b position Left (linesFrom 0 titles)))) cells
-      → second ≡ drawn columns (titlesDrawn styles b (centerTitles area (filteredTitles b position Center (linesFrom 0 titles)))) first
-      → last ≡ drawn columns (titlesDrawn styles b (rightTitles area (reverse (filteredTitles b position Right (linesFrom 0 titles))))) second
-      → last ≡ drawn columns (titlesDrawn styles b (groupsIn b position area (linesFrom 0 titles))) cells
+      → first ≡ drawn columns (titlesDrawn styles b (leftTitles area (filteredTitles b position Left titles))) cells
+      → second ≡ drawn columns (titlesDrawn styles b (centerTitles area (filteredTitles b position Center titles))) first
+      → last ≡ drawn columns (titlesDrawn styles b (rightTitles area (reverse (filteredTitles b position Right titles)))) second
+      → last ≡ drawn columns (titlesDrawn styles b (groupsIn b position area titles)) cells
   unfolding groupsIn
   groups-drawn position area first second last p q r =
-      let left : List PlacedTitle = leftTitles area (filteredTitles b position Left (linesFrom 0 titles)) in
-      let center : List PlacedTitle = centerTitles area (filteredTitles b position Center (linesFrom 0 titles)) in
+      let left : List PlacedTitle = leftTitles area (filteredTitles b position Left titles) in
+      let center : List PlacedTitle = centerTitles area (filteredTitles b position Center titles) in
       both-drawn columns styles b (left ++ center) _ cells second last (both-drawn columns styles b left center cells first second p q) r
 
   -- in the titles area of the position
   pub position-drawn : (position : TitlePosition) (area : Rect) (last : List ℕ) → area ≡ titlesArea b position met
-      → last ≡ drawn columns (titlesDrawn styles b (groupsIn b position area (linesFrom 0 titles))) cells
-      → last ≡ drawn columns (titlesDrawn styles b (titlesAt b position met (linesFrom 0 titles))) cells
+      → last ≡ drawn columns (titlesDrawn styles b (groupsIn b position area titles)) cells
+      → last ≡ drawn columns (titlesDrawn styles b (titlesAt b position met titles)) cells
   position-drawn position area last e p = rw e at p
 
   -- top titles, bottom titles
-  pub titles-drawn : (first last : List ℕ) → first ≡ drawn columns (titlesDrawn styles b (titlesAt b Top met (linesFrom 0 titles))) cells
-      → last ≡ drawn columns (titlesDrawn styles b (titlesAt b Bottom met (linesFrom 0 titles))) first → last ≡ drawn columns (titlesOn styles b met titles) cells
+  pub titles-drawn : (first last : List ℕ) → first ≡ drawn columns (titlesDrawn styles b (titlesAt b Top met titles)) cells
+      → last ≡ drawn columns (titlesDrawn styles b (titlesAt b Bottom met titles)) first → last ≡ drawn columns (titlesOn styles b met titles) cells
   unfolding titlesOn
-  titles-drawn first last p q = both-drawn columns styles b (titlesAt b Top met (linesFrom 0 titles)) (titlesAt b Bottom met (linesFrom 0 titles)) cells first last p q
+  titles-drawn first last p q = both-drawn columns styles b (titlesAt b Top met titles) (titlesAt b Bottom met titles) cells first last p q
 
 pub ruleset positions = (groups-drawn, position-drawn, titles-drawn)

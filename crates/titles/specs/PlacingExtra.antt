@@ -6,6 +6,7 @@ use mathlib.Core.List.{List, [], _∷_, _++_}
 use lib.Dec.{leb}
 use lib.ListN.{length, getD, take, drop}
 use Rattle.text.specs.declared.Alignment.{Alignment}
+use Rattle.text.specs.declared.AmbiguousWidth.{AmbiguousWidth}
 use Rattle.text.specs.Line.{TextLine, linesFrom}
 use Rattle.layout.specs.declared.Rect.{Rect}
 use Rattle.layout.specs.Rect.{isEmpty}
@@ -15,7 +16,7 @@ use Rattle.block.specs.declared.Block.{Block}
 use Rattle.title.specs.FittingExtra.{TitleArea}
 use Rattle.titles.specs.declared.Place.{Place}
 use Rattle.titles.specs.declared.Group.{Group}
-use Rattle.titles.specs.Titles.{isChosen, filteredTitles, titleWidth, PlacedTitle, givenAlignment, setAlignment, titlesDrawn, withWidth, pastTitle, centeredFrom, centerOffset, spacedFrom, rightTitles}
+use Rattle.titles.specs.Titles.{Title, titleRead, isChosen, filteredTitles, titleWidth, PlacedTitle, givenAlignment, setAlignment, titlesDrawn, withWidth, pastTitle, centeredFrom, centerOffset, spacedFrom, rightTitles}
 
 -- width that the next title gets, given the width it needs
 abbrev pub placedWidth : Place → ℕ → ℕ
@@ -31,7 +32,7 @@ nextPlace p width =
     record { area = pastTitle width (p .area); offset = p .offset - width - 1; truncates = p .truncates }
 
 -- a title at a place
-abbrev pub placedAt : Place → TextLine → PlacedTitle
+abbrev pub placedAt : Place → Title → PlacedTitle
 placedAt p t =
     record {
       area = withWidth (placedWidth p (titleWidth t)) (p .area);
@@ -40,7 +41,7 @@ placedAt p t =
     }
 
 -- titles placed one after another: left titles, and centred titles with or without truncation
-abbrev pub placedTitles : Place → List TextLine → List PlacedTitle
+abbrev pub placedTitles : Place → List Title → List PlacedTitle
 placedTitles p [] = []
 placedTitles p (t ∷ ts) =
     cond (isEmpty (p .area)) [] (placedAt p t ∷ placedTitles (nextPlace p (placedWidth p (titleWidth t))) ts)
@@ -58,36 +59,39 @@ abbrev pub AreaFits : Screen → ℕ → Rect → Type 0
 AreaFits s cells area = isEmpty area ≡ false → TitleArea s cells area
 
 -- the titles of a group
-abbrev pub titlesOf : Block → Group → List TextLine → List TextLine
+abbrev pub titlesOf : Block → Group → List Title → List Title
 titlesOf b g ts = filteredTitles b (g .position) (g .alignment) ts
 
--- the title with this head and these records, of which the first has this number
-abbrev pub titleOf : ℕ → ℕ → List ℕ → TextLine
-titleOf number head records = record { head = head; first = number; records = records }
+-- the line with this head and these records, of which the first has this number
+abbrev pub lineOf : ℕ → ℕ → List ℕ → TextLine
+lineOf number head records = record { head = head; first = number; records = records }
+
+-- the title with this head and these records
+abbrev pub titleOf : AmbiguousWidth → ℕ → List ℕ → Title
+titleOf ambiguous head records = titleRead ambiguous (lineOf 0 head records)
 
 -- `next` is `sum` plus the spaced width of one more title, if it belongs to the group
-abbrev pub Added : Block → Group → ℕ → List ℕ → ℕ → ℕ → Type 0
-Added b g head records sum next =
-    (number : ℕ) (ts : List TextLine) → spacedFrom next (titlesOf b g ts) ≡ spacedFrom sum (titlesOf b g (titleOf number head records ∷ ts))
+abbrev pub Added : Block → Group → Title → ℕ → ℕ → Type 0
+Added b g t sum next = (ts : List Title) → spacedFrom next (titlesOf b g ts) ≡ spacedFrom sum (titlesOf b g (t ∷ ts))
 
 -- one more title is placed, if it belongs to the group: drawing the others from `next` completes the drawing of all from `p`
-pub record Moved (s : Screen) (styles : List ℕ) (b : Block) (g : Group) (head : ℕ) (records : List ℕ) (p : Place) (cells : List ℕ) (next : Place) (after : List ℕ) : Type 0 where
+pub record Moved (s : Screen) (styles : List ℕ) (b : Block) (g : Group) (t : Title) (p : Place) (cells : List ℕ) (next : Place) (after : List ℕ) : Type 0 where
   pub fits : AreaFits s (length after) (next .area)
   pub same-length : length after ≡ length cells
-  pub draws : (number : ℕ) (ts : List TextLine)
+  pub draws : (ts : List Title)
       → drawn (s .columns) (titlesDrawn styles b (placedTitles next (titlesOf b g ts))) after
-      ≡ drawn (s .columns) (titlesDrawn styles b (placedTitles p (titlesOf b g (titleOf number head records ∷ ts)))) cells
+      ≡ drawn (s .columns) (titlesDrawn styles b (placedTitles p (titlesOf b g (t ∷ ts)))) cells
 
 -- the same for right titles, the last one first
-pub record MovedBack (s : Screen) (styles : List ℕ) (b : Block) (g : Group) (head : ℕ) (records : List ℕ) (area : Rect) (cells : List ℕ) (next : Rect) (after : List ℕ) : Type 0 where
+pub record MovedBack (s : Screen) (styles : List ℕ) (b : Block) (g : Group) (t : Title) (area : Rect) (cells : List ℕ) (next : Rect) (after : List ℕ) : Type 0 where
   pub fits : AreaFits s (length after) next
   pub same-length : length after ≡ length cells
-  pub draws : (number : ℕ) (ts : List TextLine)
+  pub draws : (ts : List Title)
       → drawn (s .columns) (titlesDrawn styles b (rightTitles next ts)) after
-      ≡ drawn (s .columns) (titlesDrawn styles b (rightTitles area (cond (isChosen b (g .position) (g .alignment) head) (titleOf number head records ∷ ts) ts))) cells
+      ≡ drawn (s .columns) (titlesDrawn styles b (rightTitles area (cond (isChosen b (g .position) (g .alignment) (t .head)) (t ∷ ts) ts))) cells
 
 -- `at` is the record number of the last head before record `end`
 pub record LastHead (titles : List ℕ) (end at : ℕ) : Type 0 where
   pub before : at + 1 ≤ end
   pub is-last : linesFrom 0 (take end titles)
-      ≡ linesFrom 0 (take at titles) ++ (titleOf (at + 1) (getD titles at 0) (take (end - (at + 1)) (drop (at + 1) titles)) ∷ [])
+      ≡ linesFrom 0 (take at titles) ++ (lineOf (at + 1) (getD titles at 0) (take (end - (at + 1)) (drop (at + 1) titles)) ∷ [])

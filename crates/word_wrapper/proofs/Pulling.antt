@@ -112,7 +112,7 @@ module _ (u : Rule) (records : List ℕ) (s : WordWrapper) where
   module _ (w : WordWrapper) (p : Pulling u records s w) where
     module _ (k : w .at < length records) (o : Stepped) (e : o ≡ stepRun u records w (getD records (w .at) 0)) where
       abbrev ruled : Step
-      ruled = step u (p .sound .pending) (glyphFrom (w .at) (getD records (w .at) 0))
+      ruled = step u (p .sound .pending) (glyphFrom (u .ambiguous) (w .at) (getD records (w .at) 0))
 
       -- after one step: the invariant, `live`, the next index, and the lines remaining before it
       stepping : (WrapperInvariant u records (nextOf o)) × (nextOf o .live ≡ true) × (nextOf o .at ≡ w .at + 1) × (runs u records s ≡ emittedOf o ++ runs u records (nextOf o))

@@ -60,7 +60,7 @@ pub record Matches (u : Rule) (records : List ℕ) (s : WordWrapper) (o : Steppe
 record NextGlyph (u : Rule) (records : List ℕ) (s : WordWrapper) (t : Pending) (g : Glyph) : Type 0 where
   pub shows : Shows u records s t
   pub in-text : s .at < length records
-  pub is-next : g ≡ glyphFrom (s .at) (getD records (s .at) 0)
+  pub is-next : g ≡ glyphFrom (u .ambiguous) (s .at) (getD records (s .at) 0)
   pub fits : overWide u g ≡ false
   pub wordless : g .whitespace ≡ true → t .word ≡ []
 
@@ -106,7 +106,7 @@ module _ (u : Rule) (records : List ℕ) (s : WordWrapper) (t : Pending) (g : Gl
       (λ a. rw a (record { lines = refl; read = tt; shows = appended-shows u records s t (n .shows) g (n .in-text) (n .is-next) (n .fits) (n .wordless); follows = appended-follows s (g .width) (g .whitespace) })))
 
 module _ (u : Rule) (records : List ℕ) (s : WordWrapper) (t : Pending) (h : Shows u records s t) (k : s .at < length records) where
-  module _ (g : Glyph) (e : g ≡ glyphFrom (s .at) (getD records (s .at) 0)) where
+  module _ (g : Glyph) (e : g ≡ glyphFrom (u .ambiguous) (s .at) (getD records (s .at) 0)) where
     joining-matches : overWide u g ≡ false → Matches u records s (emitOrAppendRun u records (joinRun (u .trim) s) (g .width) (g .whitespace)) (joining u t g)
     unfolding joinRun joined
     joining-matches o =
@@ -128,10 +128,10 @@ module _ (u : Rule) (records : List ℕ) (s : WordWrapper) (t : Pending) (h : Sh
         filled-matches u records s t g
         (record { shows = h; in-text = k; is-next = e; fits = o; wordless = λ w. h .wordless (neither (t .solid) _ (rw w at j) .0) })
 
-  pub step-matches : Matches u records s (stepRun u records s (getD records (s .at) 0)) (step u t (glyphFrom (s .at) (getD records (s .at) 0)))
+  pub step-matches : Matches u records s (stepRun u records s (getD records (s .at) 0)) (step u t (glyphFrom (u .ambiguous) (s .at) (getD records (s .at) 0)))
   unfolding stepRun joinIfDueRun overWide
   step-matches =
-      let g : Glyph = glyphFrom (s .at) (getD records (s .at) 0) in
+      let g : Glyph = glyphFrom (u .ambiguous) (s .at) (getD records (s .at) 0) in
       rw (join-tests-agree u records s t h g)
       (step-ways u t g
       (λ (r : Step).

@@ -62,7 +62,7 @@ module _ (u : Rule) (records : List ℕ) (s : WordWrapper) (t : Pending) (h : Sh
       both trim (g ∷ row) spaces word = simp (run-empty (g ∷ row), run-append (g ∷ (row ++ spaces)) word, run-append (g ∷ row) spaces)
 
   -- the glyphs read so far, split after a join or at the text line's end
-  split-gathered : notOverWide u (numbered 0 (take (s .at) records)) ≡ (h .left ++ unjoined u t) ++ (gathered u t ++ [])
+  split-gathered : notOverWide u (numbered (u .ambiguous) 0 (take (s .at) records)) ≡ (h .left ++ unjoined u t) ++ (gathered u t ++ [])
   split-gathered = h .split ∙ ap (λ (x : List Glyph). h .left ++ x) (gathered-split u t) ∙ simp (append-assoc, append-nil)
 
   pub gathered-read : Read u records (gathered u t)
@@ -106,8 +106,8 @@ module _ (u : Rule) (records : List ℕ) (s : WordWrapper) (t : Pending) (h : Sh
       }
 
   -- the glyph at `at`
-  module _ (g : Glyph) (in-text : s .at < length records) (e : g ≡ glyphFrom (s .at) (getD records (s .at) 0)) where
-    read-next : notOverWide u (numbered 0 (take (s .at + 1) records)) ≡ (h .left ++ (t .row ++ (t .spaces ++ t .word))) ++ notOverWide u (g ∷ [])
+  module _ (g : Glyph) (in-text : s .at < length records) (e : g ≡ glyphFrom (u .ambiguous) (s .at) (getD records (s .at) 0)) where
+    read-next : notOverWide u (numbered (u .ambiguous) 0 (take (s .at + 1) records)) ≡ (h .left ++ (t .row ++ (t .spaces ++ t .word))) ++ notOverWide u (g ∷ [])
     read-next =
         let n : 0 + length (take (s .at) records) ≡ s .at = omega (arith, length-take-le (s .at) records (omega arith)) in
         rw (add-one (s .at), take-suc records (s .at) 0 in-text, numbered-append, narrow-append, n, h .split, ← e)

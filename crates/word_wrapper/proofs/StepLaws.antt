@@ -83,11 +83,11 @@ module _ (u : Rule) (records : List ℕ) (s r : WordWrapper) (w : ℕ) where
     unfolding emitOrAppendRun
     filled-goes q n = simp (← d, ← f, q, n)
 
-  pub step-wide : (x : ℕ) → u .limit < w → w ≡ widthOf x → r ≡ skipGlyphRun s → Continued r ≡ stepRun u records s x
+  pub step-wide : (x : ℕ) → u .limit < w → w ≡ widthOf (u .ambiguous) x → r ≡ skipGlyphRun s → Continued r ≡ stepRun u records s x
   unfolding stepRun
   step-wide x o e n = simp (← e, lt-ltb (u .limit) w o, n)
 
-  pub step-fills : (o : Stepped) (x : ℕ) (space : Bool) → w ≤ u .limit → w ≡ widthOf x → space ≡ whitespaceOf x → r ≡ joinIfDueRun u s w space → o ≡ emitOrAppendRun u records r w space
+  pub step-fills : (o : Stepped) (x : ℕ) (space : Bool) → w ≤ u .limit → w ≡ widthOf (u .ambiguous) x → space ≡ whitespaceOf x → r ≡ joinIfDueRun u s w space → o ≡ emitOrAppendRun u records r w space
       → o ≡ stepRun u records s x
   unfolding stepRun
   step-fills o x space h e f p q = simp (← e, ← f, le-ltb (u .limit) w h) (cc)

@@ -75,14 +75,14 @@ read-append u records [] b p q = q
 read-append u records (l ∷ a) b p q = (p .0, read-append u records a b (p .1) q)
 
 runs-agree : (u : Rule) (records xs : List ℕ) (s : WordWrapper) (t : Pending) → Shows u records s t → xs ≡ drop (s .at) records →
-    let ls = wrapFrom u t (numbered (s .at) xs) .lines in
+    let ls = wrapFrom u t (numbered (u .ambiguous) (s .at) xs) .lines in
     (runsFrom u records s xs ≡ map runOf (owed (s .emitted) ls)) × ReadAll u records ls
 runs-agree u records [] s t h e = (finish-lines-agree u records s t h, last-read u records s t h)
 runs-agree u records (x ∷ xs) s t h e =
     let d = drop-head (s .at) records x xs e in
     let m = step-matches u records s t h (d .0) in
     let n = nextOf (stepRun u records s (getD records (s .at) 0)) in
-    let r = step u t (glyphFrom (s .at) (getD records (s .at) 0)) in
+    let r = step u t (glyphFrom (u .ambiguous) (s .at) (getD records (s .at) 0)) in
     let i = runs-agree u records xs n (r .pending) (m .shows) (rw (m .follows .at) (d .2)) in
     let i' = rw (m .follows .at, m .follows .emitted, add-one) at i in
     rw (d .1) (rw (owed-later (s .emitted) (r .lines), map-append runOf, m .lines, i' .0), read-append u records (r .lines) _ (m .read) (i' .1))
@@ -105,7 +105,7 @@ start-shows u records =
 pub start-sound : (u : Rule) (records : List ℕ) → WrapperInvariant u records (newWrapper u)
 start-sound u records = record { pending = emptyPending; shows = start-shows u records }
 
-pub start-runs : (u : Rule) (records : List ℕ) → runs u records (newWrapper u) ≡ map runOf (wrap u (numbered 0 records) .lines)
+pub start-runs : (u : Rule) (records : List ℕ) → runs u records (newWrapper u) ≡ map runOf (wrap u (numbered (u .ambiguous) 0 records) .lines)
 unfolding runs wrap
 start-runs u records = both (eqb (u .limit) 0) _ _ (runs-agree u records records (newWrapper u) emptyPending (start-shows u records) refl .0)
   where
@@ -117,9 +117,9 @@ one-read : (u : Rule) (records : List ℕ) (ls : List (List Glyph)) → ReadAll 
 one-read u records [] r = (empty-read u records, tt)
 one-read u records (l ∷ ls) r = r
 
-pub wrap-read : (u : Rule) (records : List ℕ) → ReadAll u records (wrap u (numbered 0 records) .lines)
+pub wrap-read : (u : Rule) (records : List ℕ) → ReadAll u records (wrap u (numbered (u .ambiguous) 0 records) .lines)
 unfolding wrap
 wrap-read u records =
     cond-cases (λ (w : Wrapped). ReadAll u records (w .lines)) (eqb (u .limit) 0) _ _
     (λ _. tt)
-    (λ _. one-read u records (wrapFrom u emptyPending (numbered 0 records) .lines) (runs-agree u records records (newWrapper u) emptyPending (start-shows u records) refl .1))
+    (λ _. one-read u records (wrapFrom u emptyPending (numbered (u .ambiguous) 0 records) .lines) (runs-agree u records records (newWrapper u) emptyPending (start-shows u records) refl .1))

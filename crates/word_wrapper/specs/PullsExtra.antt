@@ -24,7 +24,7 @@ pub record Shows (u : Rule) (records : List ℕ) (s : WordWrapper) (t : Pending)
   pub is-spaces : s .spaces ≡ runOf (t .spaces)
   pub is-word : s .word ≡ runOf (t .word)
   pub is-solid : s .solid ≡ t .solid
-  pub split : notOverWide u (numbered 0 (take (s .at) records)) ≡ left ++ (t .row ++ (t .spaces ++ t .word))
+  pub split : notOverWide u (numbered (u .ambiguous) 0 (take (s .at) records)) ≡ left ++ (t .row ++ (t .spaces ++ t .word))
   pub wordless : t .solid ≡ false → t .word ≡ []
   pub within : s .at ≤ length records
 

@@ -104,8 +104,8 @@ emitOrAppendRun u records s w space =
 -- steps 1 to 4 for the glyph of the record r
 unfoldable pub stepRun : Rule → List ℕ → WordWrapper → ℕ → Stepped
 stepRun u records s r =
-    cond (ltb (u .limit) (widthOf r)) (Continued (skipGlyphRun s))
-    (emitOrAppendRun u records (joinIfDueRun u s (widthOf r) (whitespaceOf r)) (widthOf r) (whitespaceOf r))
+    cond (ltb (u .limit) (widthOf (u .ambiguous) r)) (Continued (skipGlyphRun s))
+    (emitOrAppendRun u records (joinIfDueRun u s (widthOf (u .ambiguous) r) (whitespaceOf r)) (widthOf (u .ambiguous) r) (whitespaceOf r))
 
 unfoldable pub closeRun : WordWrapper → WordWrapper
 closeRun s =

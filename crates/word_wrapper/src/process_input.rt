@@ -170,7 +170,7 @@ impl WordWrapper {
     {
         let at = self.at;
         let record = records[at];
-        let w = glyph::width(record) as usize;
+        let w = rule.width(record) as usize;
         let space = glyph::is_whitespace(record);
         if rule.limit < w {
             return Stepped::Continued(self.skip_glyph());

@@ -17,7 +17,7 @@ use Rattle.wrapping.proofs.ListRuns.{run-width}
 
 -- a run's glyphs from record i on
 unfoldable pub glyphsFrom : Rule → List ℕ → Run → ℕ → List Glyph
-glyphsFrom u records a i = notOverWide u (numbered i (slice i (a .end) records))
+glyphsFrom u records a i = notOverWide u (numbered (u .ambiguous) i (slice i (a .end) records))
 
 -- Loop invariant: before each turn, the glyphs before record i are dropped, with width room₀ - room, and dropping from the others
 -- while they fit in `room` leaves what dropping from all while they fit in room₀ leaves.
@@ -57,11 +57,11 @@ module _ (u : Rule) (records : List ℕ) (a : Run) where
         let q : afterFitting room₀ (glyphsIn u records a) ≡ [] = d .same ∙ ap (afterFitting room) (from-end i (d .within) h) in
         rw q e
 
-    module _ (w : ℕ) (h : i < a .end) (e : w ≡ widthOf (getD records i 0)) where
+    module _ (w : ℕ) (h : i < a .end) (e : w ≡ widthOf (u .ambiguous) (getD records i 0)) where
       abbrev glyph : Glyph
-      glyph = glyphFrom i (getD records i 0)
+      glyph = glyphFrom (u .ambiguous) i (getD records i 0)
 
-      next-glyph : glyphsFrom u records a i ≡ notOverWide u (glyph ∷ numbered (suc i) (slice (suc i) (a .end) records))
+      next-glyph : glyphsFrom u records a i ≡ notOverWide u (glyph ∷ numbered (u .ambiguous) (suc i) (slice (suc i) (a .end) records))
       unfolding glyphsFrom
       next-glyph = rw (slice-cons i (a .end) records 0 h (d .within))
 
@@ -98,7 +98,7 @@ module _ (u : Rule) (records : List ℕ) (a : Run) where
             let q : afterFitting room₀ (glyphsIn u records a) ≡ glyph ∷ glyphsFrom u records a (i + 1)
             = d .same ∙ ap (afterFitting room) next-kept ∙ rw (← e, lt-leb w room f) in
             let l : endFrom (i + 1) (glyphsFrom u records a (i + 1)) ≡ a .end = rw next-kept at (d .last) in
-            let v : a .width - (room₀ - room) ≡ widthOf (getD records i 0) + total (glyphsFrom u records a (i + 1)) = omega (arith, sum-later) in
+            let v : a .width - (room₀ - room) ≡ widthOf (u .ambiguous) (getD records i 0) + total (glyphsFrom u records a (i + 1)) = omega (arith, sum-later) in
             rw q (cc)
 
 pub ruleset dropping = (dropping-starts, dropping-ends, dropping-skips, dropping-enough, dropping-goes, dropping-stops)

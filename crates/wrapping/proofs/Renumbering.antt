@@ -6,6 +6,7 @@ use mathlib.Core.List.{List, [], _∷_, map, map-append}
 use native.Mathlib.Omega.{arith}
 use lib.Dec.{eqb, leb, ltb}
 use lib.ListN.{length, drop}
+use Rattle.text.specs.declared.AmbiguousWidth.{AmbiguousWidth}
 use Rattle.text.specs.Line.{Glyph, numbered, total}
 use Rattle.wrapping.specs.declared.Rule.{Rule}
 use Rattle.wrapping.specs.Wrapping.{Pending, emptyPending, empty, Step, overWide, mustJoin, takesSpaces, gathered, joined, unjoined, full, fitting, afterFitting, emptied, drops, appended, _then_, joinStep, emitStep, appendStep, step, lastLines, atLeastOne, Wrapped, wrapFrom, wrap}
@@ -146,11 +147,11 @@ module _ (f : Glyph → Glyph) (same-width : (g : Glyph) → f g .width ≡ g .w
 abbrev pub renumber : ℕ → Glyph → Glyph
 renumber k g = record { number = k + g .number; symbol = g .symbol; width = g .width; whitespace = g .whitespace; style = g .style }
 
-pub numbered-from : (k i : ℕ) (rs : List ℕ) → numbered (k + i) rs ≡ map (renumber k) (numbered i rs)
-numbered-from k i [] = refl
-numbered-from k i (r ∷ rs) =
+pub numbered-from : (a : AmbiguousWidth) (k i : ℕ) (rs : List ℕ) → numbered a (k + i) rs ≡ map (renumber k) (numbered a i rs)
+numbered-from a k i [] = refl
+numbered-from a k i (r ∷ rs) =
     let n : suc (k + i) ≡ k + suc i = omega arith in
-    rw (n, numbered-from k (suc i) rs)
+    rw (n, numbered-from a k (suc i) rs)
 
 module _ (u : Rule) (k : ℕ) (gs : List Glyph) where
   pub lines-renumbered : wrap u (map (renumber k) gs) .lines ≡ map (map (renumber k)) (wrap u gs .lines)

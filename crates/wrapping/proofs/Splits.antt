@@ -6,15 +6,16 @@ use mathlib.Core.List.{List, [], _∷_, _++_, append-assoc}
 use native.Mathlib.Omega.{arith}
 use lib.Dec.{leb}
 use lib.ListN.{length, drop}
+use Rattle.text.specs.declared.AmbiguousWidth.{AmbiguousWidth}
 use Rattle.text.specs.Line.{Glyph, numbered}
 use Rattle.wrapping.specs.declared.Rule.{Rule}
 use Rattle.wrapping.specs.Wrapping.{Pending, empty, overWide, takesSpaces, gathered, unjoined, fitting, afterFitting, notOverWide}
 
-pub numbered-append : (i : ℕ) (xs ys : List ℕ) → numbered i (xs ++ ys) ≡ numbered i xs ++ numbered (i + length xs) ys
-numbered-append i [] ys = let n : i + 0 ≡ i = omega arith in rw n
-numbered-append i (x ∷ xs) ys =
+pub numbered-append : (a : AmbiguousWidth) (i : ℕ) (xs ys : List ℕ) → numbered a i (xs ++ ys) ≡ numbered a i xs ++ numbered a (i + length xs) ys
+numbered-append a i [] ys = let n : i + 0 ≡ i = omega arith in rw n
+numbered-append a i (x ∷ xs) ys =
     let n : i + suc (length xs) ≡ suc i + length xs = omega arith in
-    rw (n, numbered-append (suc i) xs ys)
+    rw (n, numbered-append a (suc i) xs ys)
 
 pub narrow-append : (u : Rule) (a b : List Glyph) → notOverWide u (a ++ b) ≡ notOverWide u a ++ notOverWide u b
 narrow-append u [] b = refl

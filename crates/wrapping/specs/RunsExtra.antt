@@ -26,7 +26,7 @@ runOf (g ∷ gs) = record { first = g .number; end = endFrom (g .number + 1) gs;
 
 -- the glyphs of a run within a text line's records
 unfoldable pub glyphsIn : Rule → List ℕ → Run → List Glyph
-glyphsIn u records a = notOverWide u (numbered (a .first) (slice (a .first) (a .end) records))
+glyphsIn u records a = notOverWide u (numbered (u .ambiguous) (a .first) (slice (a .first) (a .end) records))
 
 unfoldable pub appendRun : Run → Run → Run
 appendRun a b =

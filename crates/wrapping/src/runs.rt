@@ -65,7 +65,7 @@ impl Run {
         let mut i = self.first;
         let mut left = room;
         while i < end {
-            let w = text::glyph::width(records[i]) as usize;
+            let w = rule.width(records[i]) as usize;
             if rule.limit < w {
                 i += 1;
                 continue;

@@ -27,6 +27,14 @@ pub enum Alignment {
     Right,
 }
 
+/// How ambiguous glyphs, those of width code 7, are read: in one cell or in two. The numbers are the
+/// header's.
+#[derive(Clone, Copy, Debug, PartialEq, Eq)]
+pub enum AmbiguousWidth {
+    Narrow = 1,
+    Wide = 2,
+}
+
 #[derive(Clone, Copy, Debug, Default, PartialEq, Eq)]
 pub enum TitlePosition {
     #[default]
@@ -110,6 +118,7 @@ pub struct Notice {
     pub text_style: u8,
     pub alignment: Alignment,
     pub wrap: Wrap,
+    pub ambiguous: AmbiguousWidth,
     pub scroll: u16,
 }
 
@@ -149,19 +158,25 @@ pub struct PageCounts {
 /// Lists a text's composed lines and returns their number.
 pub fn list_lines(
     text: &[u32],
+    ambiguous: AmbiguousWidth,
     alignment: Alignment,
     limit: u16,
     trim: bool,
     list: &mut [u64],
 ) -> Result<usize, Refusal> {
-    let answer = raw::list_lines(text, alignment as u8, limit, trim.into(), list);
+    let answer = raw::list_lines(text, ambiguous as u8, alignment as u8, limit, trim.into(), list);
     accepted(answer.number).map(|()| answer.lines)
 }
 
 /// Tallies the lines and glyphs of a text.
-pub fn tally(text: &[u32], limit: u16, trim: bool) -> Result<Counts, Refusal> {
+pub fn tally(
+    text: &[u32],
+    ambiguous: AmbiguousWidth,
+    limit: u16,
+    trim: bool,
+) -> Result<Counts, Refusal> {
     let raw::TallyAnswer { number, lines, placed, clipped, zero_width, over_wide, dropped } =
-        raw::tally(text, limit, trim.into());
+        raw::tally(text, ambiguous as u8, limit, trim.into());
     let counts = Counts { lines, placed, clipped, zero_width, over_wide, dropped };
     accepted(number).map(|()| counts)
 }
@@ -176,15 +191,26 @@ impl Block {
     }
 
     /// Draws the block with its titles.
-    pub fn draw(&self, screen: &mut Screen, titles: &[u32], area: Rect) -> Result<(), Refusal> {
+    pub fn draw(
+        &self,
+        screen: &mut Screen,
+        titles: &[u32],
+        ambiguous: AmbiguousWidth,
+        area: Rect,
+    ) -> Result<(), Refusal> {
         let Screen { columns, rows, cells, styles } = screen;
-        let size = [*columns, *rows];
-        accepted(raw::draw_block(size, cells, styles, titles, area.flat(), self.flat()))
+        let (size, area, block) = ([*columns, *rows], area.flat(), self.flat());
+        accepted(raw::draw_block(size, cells, styles, titles, ambiguous as u8, area, block))
     }
 
     /// Returns the columns that a text needs for no line to be wrapped or cut off.
-    pub fn line_width(&self, text: &[u32], titles: &[u32]) -> Result<u32, Refusal> {
-        let answer = raw::line_width(text, titles, self.flat());
+    pub fn line_width(
+        &self,
+        text: &[u32],
+        ambiguous: AmbiguousWidth,
+        titles: &[u32],
+    ) -> Result<u32, Refusal> {
+        let answer = raw::line_width(text, ambiguous as u8, titles, self.flat());
         accepted(answer.number).map(|()| answer.value)
     }
 
@@ -278,6 +304,7 @@ impl Notice {
             text_style: self.text_style,
             alignment: self.alignment as u8,
             wrap,
+            ambiguous: self.ambiguous as u8,
         }
     }
 }

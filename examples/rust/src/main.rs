@@ -1,10 +1,10 @@
 //! Draws the notice of examples/c in an area within the screen and in one that overhangs it: two pages
-//! on blank cells, then the tally.
+//! on blank cells, then the tally. Measures a text with an ambiguous glyph, read narrow and wide.
 #![forbid(unsafe_code)]
 
 use notice::{
-    Alignment, Block, BorderSet, Borders, Effect, Notice, Padding, PageCounts, Rect, Refusal,
-    Screen, Shadow, TitlePosition, Wrap, list_lines, tally,
+    Alignment, AmbiguousWidth, Block, BorderSet, Borders, Effect, Notice, Padding, PageCounts,
+    Rect, Refusal, Screen, Shadow, TitlePosition, Wrap, list_lines, tally,
 };
 
 const COLUMNS: usize = 34;
@@ -27,6 +27,9 @@ Barred since this morning: 1041, 1177, 2063 and 3310.
 
 Holders of these badges go to the desk in the lobby. \
 Doors 7 and 12 stay locked for all others until noon, and door 3 after it.";
+
+/// A text whose arrow is ambiguous (Unicode UAX 11): screens show it in one cell or in two.
+const ROUTE: &str = "7→3";
 
 const AREA: Rect = Rect { x: 1, y: 1, width: 30, height: 7 };
 const OVERHANGING: Rect = Rect { x: 0, y: 0, width: 40, height: 20 };
@@ -58,6 +61,7 @@ fn notice() -> Notice {
         text_style: PLAIN,
         alignment: Alignment::Left,
         wrap: Wrap::On { trim: true },
+        ambiguous: AmbiguousWidth::Narrow,
         scroll: 0,
     }
 }
@@ -67,8 +71,10 @@ fn style(foreground: u64, add: u64) -> u64 {
     1 << 63 | foreground << 55 | add << 37
 }
 
+/// Returns a glyph of width 1; the arrow has width code 7, ambiguous.
 fn glyph(symbol: char, style: u8) -> u32 {
-    let (width, whitespace) = (1, u32::from(symbol == ' '));
+    let width = if symbol == '→' { 7 } else { 1 };
+    let whitespace = u32::from(symbol == ' ');
     u32::from(symbol) << 10 | width << 7 | whitespace << 6 | u32::from(style)
 }
 
@@ -130,13 +136,23 @@ fn draw_pages(
         print_screen(screen.cells);
     }
     assert_eq!(read, TEXT.replace([' ', '\n'], ""), "the whole text on the pages");
-    let tally = tally(text, inner.width, true)?;
+    let tally = tally(text, notice.ambiguous, inner.width, true)?;
     print!("tally: lines {}, placed {}, ", tally.lines, tally.placed);
     print!("clipped {}, zero-width {}, ", tally.clipped, tally.zero_width);
     println!("over-wide {}, dropped {}", tally.over_wide, tally.dropped);
     assert_eq!(lines, tally.lines, "as many lines as tallied");
     assert_eq!((rows, placed), (lines, tally.placed), "every line and glyph on the pages");
     Ok(counts)
+}
+
+/// Prints the columns of a text with an ambiguous glyph, read narrow and wide.
+fn print_readings() -> Result<(), Refusal> {
+    let text = packed(TEXT_HEAD, ROUTE, PLAIN, PLAIN);
+    let columns = |ambiguous| Block::default().line_width(&text, ambiguous, &[]);
+    let (narrow, wide) = (columns(AmbiguousWidth::Narrow)?, columns(AmbiguousWidth::Wide)?);
+    println!("{ROUTE}: {narrow} columns read narrow, {wide} read wide");
+    assert_eq!((narrow, wide), (3, 4), "the arrow in one cell and in two");
+    Ok(())
 }
 
 fn main() -> Result<(), Refusal> {
@@ -150,12 +166,14 @@ fn main() -> Result<(), Refusal> {
 
     let PageCounts { inner, lines, .. } = draw_pages(notice, &mut screen, &text, &titles, AREA)?;
     let count = notice.line_count(&text, &titles, inner.width)?;
-    let width = notice.block.line_width(&text, &titles)?;
+    let width = notice.block.line_width(&text, notice.ambiguous, &titles)?;
     println!("on one page: {count} rows; unwrapped: {width} columns");
     let mut list = vec![0; lines as usize];
-    let written = list_lines(&text, Alignment::Left, inner.width, true, &mut list)?;
+    let written =
+        list_lines(&text, notice.ambiguous, Alignment::Left, inner.width, true, &mut list)?;
     let line = |entry: &u64| format!(" {}-{}", entry >> 49, entry >> 34 & 0x7FFF);
     println!("lines:{}", list[..written].iter().map(line).collect::<String>());
+    print_readings()?;
 
     let Rect { x, y, width, height } = notice.block.inner(&titles, OVERHANGING)?;
     println!("an area that overhangs the screen, its inner area: {x} {y}, {width} x {height}");
@@ -163,7 +181,7 @@ fn main() -> Result<(), Refusal> {
 
     screen.cells.fill(BLANK);
     let corner = Rect { x: 28, y: 6, width: 20, height: 20 };
-    notice.block.draw(&mut screen, &[], corner)?;
+    notice.block.draw(&mut screen, &[], notice.ambiguous, corner)?;
     println!("a block over the edge of the screen, without titles:");
     print_screen(screen.cells);
 

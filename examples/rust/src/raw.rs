@@ -50,6 +50,7 @@ pub struct Text {
     pub text_style: u8,
     pub alignment: u8,
     pub wrap: u8,
+    pub ambiguous: u8,
 }
 
 #[repr(C)]
@@ -103,15 +104,17 @@ pub struct MeasureAnswer {
     pub value: u32,
 }
 
-const _: () = assert!(size_of::<Area>() == 8 && size_of::<Block>() == 64 && size_of::<Text>() == 8);
-const _: () = assert!(size_of::<ListAnswer>() == 16 && size_of::<TallyAnswer>() == 28);
-const _: () = assert!(size_of::<AreaAnswer>() == 12 && size_of::<DrawAnswer>() == 16);
-const _: () = assert!(size_of::<PagesAnswer>() == 20 && size_of::<MeasureAnswer>() == 8);
+const _: () = assert!(size_of::<Area>() == 8 && size_of::<Block>() == 64);
+const _: () = assert!(size_of::<Text>() == 10 && size_of::<ListAnswer>() == 16);
+const _: () = assert!(size_of::<TallyAnswer>() == 28 && size_of::<AreaAnswer>() == 12);
+const _: () = assert!(size_of::<DrawAnswer>() == 16 && size_of::<PagesAnswer>() == 20);
+const _: () = assert!(size_of::<MeasureAnswer>() == 8);
 
 unsafe extern "C" {
     fn notice_list_lines(
         text: *const u32,
         text_len: usize,
+        ambiguous: u8,
         alignment: u8,
         limit: u16,
         trim: u8,
@@ -119,7 +122,13 @@ unsafe extern "C" {
         list_len: usize,
     ) -> ListAnswer;
 
-    fn notice_tally(text: *const u32, text_len: usize, limit: u16, trim: u8) -> TallyAnswer;
+    fn notice_tally(
+        text: *const u32,
+        text_len: usize,
+        ambiguous: u8,
+        limit: u16,
+        trim: u8,
+    ) -> TallyAnswer;
 
     fn notice_inner(block: Block, titles: *const u32, titles_len: usize, area: Area) -> AreaAnswer;
 
@@ -132,6 +141,7 @@ unsafe extern "C" {
         styles_len: usize,
         titles: *const u32,
         titles_len: usize,
+        ambiguous: u8,
         area: Area,
         block: Block,
     ) -> u32;
@@ -181,6 +191,7 @@ unsafe extern "C" {
     fn notice_line_width(
         text: *const u32,
         text_len: usize,
+        ambiguous: u8,
         titles: *const u32,
         titles_len: usize,
         block: Block,
@@ -193,6 +204,7 @@ unsafe extern "C" {
 
 pub fn list_lines(
     text: &[u32],
+    ambiguous: u8,
     alignment: u8,
     limit: u16,
     trim: u8,
@@ -203,6 +215,7 @@ pub fn list_lines(
         notice_list_lines(
             text.as_ptr(),
             text.len(),
+            ambiguous,
             alignment,
             limit,
             trim,
@@ -212,9 +225,9 @@ pub fn list_lines(
     }
 }
 
-pub fn tally(text: &[u32], limit: u16, trim: u8) -> TallyAnswer {
+pub fn tally(text: &[u32], ambiguous: u8, limit: u16, trim: u8) -> TallyAnswer {
     // SAFETY: above.
-    unsafe { notice_tally(text.as_ptr(), text.len(), limit, trim) }
+    unsafe { notice_tally(text.as_ptr(), text.len(), ambiguous, limit, trim) }
 }
 
 pub fn inner(block: Block, titles: &[u32], area: Area) -> AreaAnswer {
@@ -227,6 +240,7 @@ pub fn draw_block(
     cells: &mut [u64],
     styles: &[u64],
     titles: &[u32],
+    ambiguous: u8,
     area: Area,
     block: Block,
 ) -> u32 {
@@ -241,6 +255,7 @@ pub fn draw_block(
             styles.len(),
             titles.as_ptr(),
             titles.len(),
+            ambiguous,
             area,
             block,
         )
@@ -331,7 +346,16 @@ pub fn line_count(
     }
 }
 
-pub fn line_width(text: &[u32], titles: &[u32], block: Block) -> MeasureAnswer {
+pub fn line_width(text: &[u32], ambiguous: u8, titles: &[u32], block: Block) -> MeasureAnswer {
     // SAFETY: above.
-    unsafe { notice_line_width(text.as_ptr(), text.len(), titles.as_ptr(), titles.len(), block) }
+    unsafe {
+        notice_line_width(
+            text.as_ptr(),
+            text.len(),
+            ambiguous,
+            titles.as_ptr(),
+            titles.len(),
+            block,
+        )
+    }
 }

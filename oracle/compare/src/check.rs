@@ -10,7 +10,7 @@ pub fn check(call: Call, input: &Input, origin: &dyn Fn() -> String, report: &Re
     let expected = expected(call, input);
     let answer = ours::answer(call, input);
     let differ = expected.answers.iter().any(|(_, expected)| *expected != answer);
-    report.count(call, &expected, differ);
+    report.count(call, input, &expected, differ);
     if differ && report.is_first(call) {
         let smallest = shrink::smallest(input, &|smaller| differs(call, smaller));
         report.print(&format!("from {}: {}", origin(), show::difference(call, &smallest)));

@@ -1,6 +1,6 @@
 //! The expected answer of a call: the Rust's, or document 01's if the Rust has none.
 
-use oracle::{Alignment, ComposedLine, Drawn, Outcome, Tally, Wrap};
+use oracle::{Alignment, AmbiguousWidth, ComposedLine, Drawn, Notice, Outcome, Tally, Wrap};
 use rules::compose::{Composed, compose, tally};
 use rules::screen::{Area, Screen};
 use rules::{frame, lines, measure, notice, width};
@@ -63,10 +63,11 @@ fn settled<T>(
 }
 
 fn list_lines(input: &Input) -> Expected {
-    let (default_alignment, trim) =
-        (settings::alignment(input.settings.alignment), input.trim == 1);
-    let outcome = oracle::wrapped_lines(&input.text, default_alignment, input.limit, trim);
-    let rules = || listed(&input.text, default_alignment, input.limit, trim);
+    let Input { ref text, limit, trim, .. } = *input;
+    let ambiguous = settings::ambiguous(input.settings);
+    let (default_alignment, trim) = (settings::alignment(input.settings.alignment), trim == 1);
+    let outcome = oracle::wrapped_lines(text, ambiguous, default_alignment, limit, trim);
+    let rules = || listed(text, ambiguous, default_alignment, limit, trim);
     let mut short = false;
     let expected = settled(outcome, rules, |lines| {
         let mut list = input.list.clone();
@@ -79,13 +80,19 @@ fn list_lines(input: &Input) -> Expected {
     if short { refused(refusals::SHORT_LIST, Call::ListLines, input) } else { expected }
 }
 
-fn listed(text: &[u32], default_alignment: Alignment, limit: u16, trim: bool) -> Vec<ComposedLine> {
+fn listed(
+    text: &[u32],
+    ambiguous: AmbiguousWidth,
+    default_alignment: Alignment,
+    limit: u16,
+    trim: bool,
+) -> Vec<ComposedLine> {
     let line = |line: Composed| ComposedLine {
         glyphs: line.glyphs.iter().map(|glyph| glyph.number).collect(),
         width: width(&line.glyphs) as u16,
         alignment: line.alignment,
     };
-    compose(text, default_alignment, limit.into(), Wrap::On { trim })
+    compose(text, ambiguous, default_alignment, limit.into(), Wrap::On { trim })
         .lines
         .into_iter()
         .map(line)
@@ -95,12 +102,13 @@ fn listed(text: &[u32], default_alignment: Alignment, limit: u16, trim: bool) ->
 /// If a glyph is clipped, the tally must also equal document 01's.
 fn tallied(input: &Input) -> Expected {
     let (text, limit, trim) = (&input.text, input.limit, input.trim == 1);
-    let rules = || tally(text, limit.into(), trim);
+    let ambiguous = settings::ambiguous(input.settings);
+    let rules = || tally(text, ambiguous, limit.into(), trim);
     let values = |tally: Tally| {
         let Tally { lines, placed, clipped, zero_width, over_wide, dropped } = tally;
         Answer::of([lines, placed, clipped, zero_width, over_wide, dropped].map(u64::from))
     };
-    let mut expected = settled(oracle::tally(text, limit, trim), rules, values);
+    let mut expected = settled(oracle::tally(text, ambiguous, limit, trim), rules, values);
     expected.clipped = expected.answers[0].1.named(Call::Tally, "clipped") > 0;
     if expected.clipped {
         expected.answers.push((RULES, values(rules())));
@@ -113,7 +121,8 @@ fn inner(input: &Input) -> Expected {
     let outcome = oracle::inner(block, &input.titles, area)
         .map(|area| [area.x, area.y, area.width, area.height].map(u64::from));
     let rules = || {
-        let area = frame::inner(&block, &lines(&input.titles), area.into());
+        let titles = lines(&input.titles, AmbiguousWidth::Narrow);
+        let area = frame::inner(&block, &titles, area.into());
         [area.x, area.y, area.width, area.height].map(|number| number as u64)
     };
     settled(outcome, rules, Answer::of)
@@ -131,12 +140,14 @@ fn screen(input: &Input) -> Screen {
 fn draw_block(input: &Input) -> Expected {
     let Input { columns, rows, ref styles, ref titles, area, block, .. } = *input;
     let (area, block) = (settings::rect(area), settings::block(block));
+    let ambiguous = settings::ambiguous(input.settings);
     let mut cells = input.cells.clone();
-    let outcome = oracle::draw_block(columns, rows, &mut cells, styles, titles, area, block);
+    let outcome =
+        oracle::draw_block(columns, rows, &mut cells, styles, titles, ambiguous, area, block);
     let rules = || {
         let mut screen = screen(input);
         let met = frame::met(area.into(), &screen);
-        frame::draw(&mut screen, &block, &lines(titles), met);
+        frame::draw(&mut screen, &block, &lines(titles, ambiguous), met);
         screen.cells
     };
     settled(outcome.map(|()| cells), rules, |cells| Answer::drawn([], cells))
@@ -182,8 +193,9 @@ fn pages(input: &Input) -> Expected {
         .map(|(inner, lines)| (inner.into(), lines.len()));
     let rules = || {
         let met = frame::met(area.into(), &screen(input));
-        let inner = frame::inner(&settings.block, &lines(titles), met);
-        let lines = compose(text, settings.alignment, inner.width, settings.wrap).lines;
+        let inner = frame::inner(&settings.block, &lines(titles, settings.ambiguous), met);
+        let Notice { ambiguous, alignment, wrap, .. } = settings;
+        let lines = compose(text, ambiguous, alignment, inner.width, wrap).lines;
         (inner, if inner.is_empty() { 0 } else { lines.len() })
     };
     settled(outcome, rules, |(inner, lines): (Area, usize)| {
@@ -196,13 +208,13 @@ fn pages(input: &Input) -> Expected {
 
 fn measured(call: Call, input: &Input) -> Expected {
     let Input { ref text, ref titles, limit, .. } = *input;
-    let block = settings::block(input.block);
+    let (block, ambiguous) = (settings::block(input.block), settings::ambiguous(input.settings));
     let value = |value: u32| Answer::of([u64::from(value)]);
     if call == Call::LineWidth {
-        let rules = || measure::line_width(text, &block);
-        return settled(oracle::line_width(text, titles, block), rules, value);
+        let rules = || measure::line_width(text, ambiguous, &block);
+        return settled(oracle::line_width(text, ambiguous, titles, block), rules, value);
     }
     let wrap = settings::wrap(input.settings);
-    let rules = || measure::line_count(text, titles, &block, wrap, limit);
-    settled(oracle::line_count(text, titles, block, wrap, limit), rules, value)
+    let rules = || measure::line_count(text, ambiguous, titles, &block, wrap, limit);
+    settled(oracle::line_count(text, ambiguous, titles, block, wrap, limit), rules, value)
 }

@@ -6,6 +6,7 @@ mod texts;
 use crate::arguments::Arguments;
 use crate::input::{Call, Input};
 use crate::random::Random;
+use crate::records::is_ambiguous;
 use crate::{scenes, ways};
 
 pub struct Family {
@@ -50,6 +51,19 @@ pub fn all(arguments: &Arguments) -> Vec<Family> {
 }
 
 const EACH: &[Call] = &Call::ALL;
+
+/// Sets how ambiguous widths are read.
+fn read(input: &mut Input, digits: &mut Digits) {
+    input.settings.ambiguous = 1 + digits.below(2) as u8;
+}
+
+/// Returns the calls to make, none if the input only repeats that with the narrow reading: both
+/// readings are asked only if a width is ambiguous.
+fn asked(input: Input, calls: &'static [Call]) -> (Input, &'static [Call]) {
+    let mut records = input.text.iter().chain(&input.titles).copied();
+    let repeats = input.settings.ambiguous == 2 && !records.any(is_ambiguous);
+    (input, if repeats { &[] } else { calls })
+}
 
 /// Returns the random number generator of an input.
 fn random(seed: u64, number: u64) -> Random {

@@ -1,6 +1,7 @@
 //! The inputs of all calls in one struct; each call uses some of its fields.
 
 use crate::raw::{Area, Block, Text};
+use crate::records::is_ambiguous;
 
 #[derive(Clone, Copy, PartialEq, Eq)]
 pub enum Call {
@@ -54,6 +55,16 @@ impl Call {
         !matches!(self, Self::ListLines | Self::Tally)
     }
 
+    /// Whether the call reads widths, and so takes the setting for width code 7.
+    pub fn reads_widths(self) -> bool {
+        self != Self::Inner
+    }
+
+    /// Whether the call reads the widths of titles.
+    pub fn draws_titles(self) -> bool {
+        matches!(self, Self::DrawBlock | Self::DrawNotice)
+    }
+
     /// Whether the call takes the settings of a notice.
     pub fn has_settings(self) -> bool {
         matches!(self, Self::DrawNotice | Self::Pages | Self::LineCount)
@@ -70,7 +81,7 @@ pub struct Input {
     pub cells: Vec<u64>,
     pub area: Area,
     pub block: Block,
-    /// Includes the alignment of `list_lines`.
+    /// Includes the alignment of `list_lines`, and `ambiguous` of every call that reads widths.
     pub settings: Text,
     /// The limit of `list_lines` and `tally`, the width of `line_count`.
     pub limit: u16,
@@ -90,7 +101,7 @@ impl Input {
             cells: vec![crate::records::BLANK],
             area: Area { x: 0, y: 0, width: 1, height: 1 },
             block: NO_FRAME,
-            settings: Text { scroll: 0, column: 0, style: 0, text_style: 0, alignment: 0, wrap: 0 },
+            settings: PLAIN,
             limit: 1,
             trim: 0,
             list: Vec::new(),
@@ -100,7 +111,17 @@ impl Input {
         }
         input
     }
+
+    /// Whether a width that the call reads is ambiguous.
+    pub fn holds_ambiguous(&self, call: Call) -> bool {
+        call.reads_text() && self.text.iter().copied().any(is_ambiguous)
+            || call.draws_titles() && self.titles.iter().copied().any(is_ambiguous)
+    }
 }
+
+/// Unwrapped, and ambiguous widths read narrow.
+const PLAIN: Text =
+    Text { scroll: 0, column: 0, style: 0, text_style: 0, alignment: 0, wrap: 0, ambiguous: 1 };
 
 const NO_FRAME: Block = Block {
     top_left: 0,

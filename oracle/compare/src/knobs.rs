@@ -31,6 +31,9 @@ pub const SETTINGS: &[Knob] = knobs![
     settings.wrap,
 ];
 
+/// Apart from the other settings, as calls without those take it too.
+pub const AMBIGUOUS: &[Knob] = knobs![settings.ambiguous];
+
 pub const BLOCK: &[Knob] = knobs![
     block.border_top,
     block.border_right,

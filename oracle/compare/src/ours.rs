@@ -10,7 +10,7 @@ pub fn answer(call: Call, input: &Input) -> Answer {
         Call::ListLines => list_lines(input),
         Call::Tally => {
             let raw::TallyAnswer { number, lines, placed, clipped, zero_width, over_wide, dropped } =
-                raw::tally(text, *limit, *trim);
+                raw::tally(text, settings.ambiguous, *limit, *trim);
             let values = [lines, placed, clipped, zero_width, over_wide, dropped].map(u64::from);
             Answer { number, values, words: Vec::new() }
         }
@@ -20,22 +20,23 @@ pub fn answer(call: Call, input: &Input) -> Answer {
         }
         Call::DrawBlock => {
             let mut cells = input.cells.clone();
-            let size = [input.columns, input.rows];
-            let number = raw::draw_block(size, &mut cells, styles, titles, *area, *block);
+            let (size, ambiguous) = ([input.columns, input.rows], settings.ambiguous);
+            let number =
+                raw::draw_block(size, &mut cells, styles, titles, ambiguous, *area, *block);
             Answer { number, ..Answer::drawn([], cells) }
         }
         Call::DrawNotice => draw_notice(input),
         Call::Pages => pages(input),
         Call::LineCount => measured(raw::line_count(text, titles, *block, *settings, *limit)),
-        Call::LineWidth => measured(raw::line_width(text, titles, *block)),
+        Call::LineWidth => measured(raw::line_width(text, settings.ambiguous, titles, *block)),
     }
 }
 
 fn list_lines(input: &Input) -> Answer {
     let mut list = input.list.clone();
-    let alignment = input.settings.alignment;
+    let raw::Text { ambiguous, alignment, .. } = input.settings;
     let raw::ListAnswer { lines, number } =
-        raw::list_lines(&input.text, alignment, input.limit, input.trim, &mut list);
+        raw::list_lines(&input.text, ambiguous, alignment, input.limit, input.trim, &mut list);
     Answer { number, ..Answer::drawn([lines as u64], list) }
 }
 

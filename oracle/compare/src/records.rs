@@ -1,5 +1,8 @@
 //! Records, and the letters of glyphs.
 
+/// "Width code 7 now means ambiguous."
+pub const AMBIGUOUS: u32 = 7;
+
 /// "0 | symbol 21 | width 3 | whitespace 1 | style 6"
 pub const fn glyph(symbol: u32, width: u32, whitespace: u32, style: u32) -> u32 {
     symbol << 10 | width << 7 | whitespace << 6 | style
@@ -12,6 +15,11 @@ pub const fn head(alignment: u32, position: u32) -> u32 {
 
 pub const fn is_head(record: u32) -> bool {
     record >> 31 == 1
+}
+
+/// Whether a record is a glyph of width code 7.
+pub const fn is_ambiguous(record: u32) -> bool {
+    !is_head(record) && record >> 7 & 7 == AMBIGUOUS
 }
 
 /// Returns the style number of a glyph.

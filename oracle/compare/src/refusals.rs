@@ -38,11 +38,13 @@ fn unnamed(call: Call, input: &Input) -> bool {
         || block.titles_position > 1
         || block.shadow > 2;
     let wrong_settings = settings.alignment > 2 || settings.wrap > 2;
-    match call {
+    let wrong_reading = call.reads_widths() && ![1, 2].contains(&settings.ambiguous);
+    let wrong_other = match call {
         Call::ListLines => settings.alignment > 2 || *trim > 1,
         Call::Tally => *trim > 1,
         _ => wrong_block || call.has_settings() && wrong_settings,
-    }
+    };
+    wrong_reading || wrong_other
 }
 
 fn holds(cause: u32, call: Call, input: &Input) -> bool {

@@ -7,12 +7,14 @@ use std::sync::atomic::{AtomicBool, AtomicU64, Ordering};
 use std::time::Instant;
 
 use crate::expected::Expected;
-use crate::input::Call;
+use crate::input::{Call, Input};
 
 /// The columns of the table.
-const NAMES: [&str; 7] = [
+const NAMES: [&str; 9] = [
     "compared",
     "refused",
+    "hold a code 7, narrow",
+    "hold one, wide",
     "place a glyph",
     "clip one",
     "panic in the Rust",
@@ -21,7 +23,7 @@ const NAMES: [&str; 7] = [
 ];
 const COMPARED: usize = 0;
 const REFUSED: usize = 1;
-const DIFFER: usize = 6;
+const DIFFER: usize = 8;
 
 /// The counts of one call.
 #[derive(Default)]
@@ -42,10 +44,13 @@ impl Report {
         Self { rows: Default::default(), printing: Mutex::new(()), start: Instant::now() }
     }
 
-    pub fn count(&self, call: Call, expected: &Expected, differ: bool) {
+    pub fn count(&self, call: Call, input: &Input, expected: &Expected, differ: bool) {
         let Expected { refused, clipped, panicked, .. } = *expected;
         let places = expected.answers.iter().any(|(_, answer)| answer.named(call, "placed") > 0);
-        let kinds = [true, refused, places, clipped, panicked, panicked && !clipped, differ];
+        let holds = !refused && input.holds_ambiguous(call);
+        let [narrow, wide] = [1, 2].map(|number| holds && input.settings.ambiguous == number);
+        let clips_none = panicked && !clipped;
+        let kinds = [true, refused, narrow, wide, places, clipped, panicked, clips_none, differ];
         for (count, is_so) in self.rows[call as usize].counts.iter().zip(kinds) {
             count.fetch_add(is_so.into(), Ordering::Relaxed);
         }

@@ -6,7 +6,7 @@ use crate::input::Input;
 use crate::knobs::SYMBOLS;
 use crate::random::Random;
 use crate::raw::{Area, Text};
-use crate::records::head;
+use crate::records::{AMBIGUOUS, head};
 use crate::{settings, ways};
 
 /// Maximum sizes of an input.
@@ -69,16 +69,18 @@ pub fn right_titles(random: &mut Random) -> Input {
     input
 }
 
-/// Returns a title of any width up to `most`, at the right by its own alignment or the block's.
+/// Returns a title of any width up to about `most`, at the right by its own alignment or the
+/// block's.
 fn right_title(random: &mut Random, styles: u32, most: u32) -> Vec<u32> {
     let mut records = vec![head(2 + random.below(2), random.below(3))];
     let mut left = random.below(most + 1);
     while left > 0 || random.once_in(4) {
-        let width = random.below(7.min(left) + 1);
+        let ambiguous = random.once_in(3);
+        let width = if ambiguous { AMBIGUOUS } else { random.below(6.min(left) + 1) };
         let whitespace = u32::from(random.once_in(3));
         let style = random.below(styles);
         records.push(crate::records::glyph(symbol(random), width, whitespace, style));
-        left -= width;
+        left = left.saturating_sub(if ambiguous { 1 } else { width });
     }
     records
 }
@@ -115,12 +117,13 @@ fn symbol(random: &mut Random) -> u32 {
     }
 }
 
-/// Returns a glyph, mostly of width 1, occasionally of any width.
+/// Returns a glyph, mostly of width code 1 or 7, occasionally of any.
 pub fn glyph(random: &mut Random, styles: u32) -> u32 {
     let width = match random.below(10) {
         0 => 0,
         1 => 2,
         2 => random.below(8),
+        3..6 => AMBIGUOUS,
         _ => 1,
     };
     let whitespace = u32::from(random.once_in(3));
@@ -168,6 +171,7 @@ fn notice(random: &mut Random, styles: u32, rows: u32) -> Text {
         text_style: random.below(styles) as u8,
         alignment: random.below(3) as u8,
         wrap: random.below(3) as u8,
+        ambiguous: 1 + random.below(2) as u8,
     }
 }
 
@@ -201,9 +205,10 @@ fn block(random: &mut Random, input: &mut Input, styles: u32) {
 fn list(random: &mut Random, input: &mut Input) {
     let mut length = input.text.len() + 3;
     if random.once_in(8) {
+        let Input { ref text, limit, trim, .. } = *input;
         let default_alignment = settings::alignment(input.settings.alignment);
-        let lines =
-            oracle::wrapped_lines(&input.text, default_alignment, input.limit, input.trim == 1);
+        let ambiguous = settings::ambiguous(input.settings);
+        let lines = oracle::wrapped_lines(text, ambiguous, default_alignment, limit, trim == 1);
         if let Outcome::Value(lines) = lines {
             length = lines.len().saturating_sub(random.below(2) as usize);
         }

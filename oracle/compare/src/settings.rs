@@ -1,14 +1,19 @@
 //! Converts the header's flat settings to the oracle's. Invalid numbers aren't passed here.
 
 use oracle::{
-    Alignment, Block, BorderSet, Borders, Effect, Notice, Padding, Rect, Shadow, TitlePosition,
-    Wrap,
+    Alignment, AmbiguousWidth, Block, BorderSet, Borders, Effect, Notice, Padding, Rect, Shadow,
+    TitlePosition, Wrap,
 };
 
 use crate::raw;
 
 pub fn alignment(number: u8) -> Alignment {
     [Alignment::Left, Alignment::Center, Alignment::Right][usize::from(number)]
+}
+
+/// "narrow (1) or wide (2)"
+pub fn ambiguous(settings: raw::Text) -> AmbiguousWidth {
+    [AmbiguousWidth::Narrow, AmbiguousWidth::Wide][usize::from(settings.ambiguous) - 1]
 }
 
 pub fn rect(area: raw::Area) -> Rect {
@@ -29,6 +34,7 @@ pub fn notice(block: raw::Block, settings: raw::Text) -> Notice {
         text_style: settings.text_style,
         alignment: alignment(settings.alignment),
         wrap: wrap(settings),
+        ambiguous: ambiguous(settings),
         scroll: settings.scroll,
     }
 }

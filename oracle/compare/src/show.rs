@@ -48,6 +48,9 @@ fn input(call: Call, input: &Input) -> String {
     if call.has_settings() || call == Call::ListLines {
         line(&mut shown, "settings", &numbers(input, &[SETTINGS]));
     }
+    if call.reads_widths() {
+        line(&mut shown, "ambiguous", &input.settings.ambiguous.to_string());
+    }
     if call.has_screen() || call == Call::Inner {
         line(&mut shown, "area", &numbers(input, &[AREA]));
     } else if call != Call::LineWidth {

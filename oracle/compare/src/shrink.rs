@@ -3,7 +3,7 @@
 use std::time::{Duration, Instant};
 
 use crate::input::Input;
-use crate::knobs::{AREA, BLOCK, NUMBERS, SETTINGS, SYMBOLS};
+use crate::knobs::{AMBIGUOUS, AREA, BLOCK, NUMBERS, SETTINGS, SYMBOLS};
 use crate::records::{BLANK, glyph, is_head, style};
 
 /// Time limit for shrinking an input.
@@ -105,7 +105,8 @@ impl Shrinking<'_> {
     /// Sets each number to 0, or closer to it.
     fn numbers(&mut self) -> bool {
         let mut smaller = false;
-        for knob in [NUMBERS, AREA, SETTINGS, BLOCK, SYMBOLS].into_iter().flatten() {
+        let knobs = [NUMBERS, AREA, SETTINGS, AMBIGUOUS, BLOCK, SYMBOLS];
+        for knob in knobs.into_iter().flatten() {
             for closer in [|_| 0, |number| number / 2, |number: i64| number - number.signum()] {
                 while self.attempt(|input| {
                     let number = (knob.get)(input);

@@ -1,8 +1,8 @@
 //! Random notices on small screens.
 
 use oracle::{
-    Alignment, Block, BorderSet, Borders, Effect, Notice, Padding, Rect, Shadow, TitlePosition,
-    Wrap,
+    Alignment, AmbiguousWidth, Block, BorderSet, Borders, Effect, Notice, Padding, Rect, Shadow,
+    TitlePosition, Wrap,
 };
 
 use crate::random::Random;
@@ -38,6 +38,13 @@ pub fn case(random: &mut Random) -> Case {
     }
 }
 
+/// Whether records hold a glyph of width code 7.
+pub fn holds_ambiguous(records: &[u32]) -> bool {
+    records.iter().any(|record| record >> 31 == 0 && record >> 7 & 7 == 7)
+}
+
+pub const READINGS: [AmbiguousWidth; 2] = [AmbiguousWidth::Narrow, AmbiguousWidth::Wide];
+
 const ALIGNMENTS: [Alignment; 3] = [Alignment::Left, Alignment::Center, Alignment::Right];
 
 /// Returns a letter, or occasionally any symbol.
@@ -45,12 +52,13 @@ fn symbol(random: &mut Random) -> u32 {
     if random.once_in(8) { random.below(1 << 21) } else { 97 + random.below(26) }
 }
 
-/// Returns a glyph, mostly of width 1, occasionally of any width.
+/// Returns a glyph, mostly of width code 1 or 7, occasionally of any.
 fn glyph(random: &mut Random, styles: u32) -> u32 {
     let width = match random.below(10) {
         0 => 0,
         1 => 2,
         2 => random.below(8),
+        3..6 => 7,
         _ => 1,
     };
     let whitespace = u32::from(random.once_in(3));
@@ -101,6 +109,7 @@ fn notice(random: &mut Random, styles: u8) -> Notice {
         text_style: random.below(styles.into()) as u8,
         alignment: random.pick(&ALIGNMENTS),
         wrap,
+        ambiguous: random.pick(&READINGS),
         scroll: if random.once_in(4) { size(random, 4) } else { 0 },
     }
 }

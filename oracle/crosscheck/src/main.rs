@@ -1,4 +1,5 @@
-//! Compares the crate `rules`, an independent implementation of document 01, with the Rust.
+//! Compares the crate `rules`, an independent implementation of document 01 and of C-11, with the
+//! Rust. `rules` reads each width code 7 itself, the Rust is given the 1 or 2 read for it.
 //!
 //! Usage: `crosscheck [SEED]`. Short texts are tried exhaustively, long texts and whole notices at
 //! random. Prints what was compared, what was skipped and why, and the smallest input of each kind

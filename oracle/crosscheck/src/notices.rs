@@ -11,6 +11,8 @@ use crate::report::Report;
 pub fn at_random(report: &mut Report, random: &mut Random, count: u32) {
     for _ in 0..count {
         let case = cases::case(random);
+        let records = [case.text.as_slice(), &case.titles].concat();
+        report.note_reading("notices", &records, case.notice.ambiguous);
         measures(report, &case);
         inner(report, &case);
         block(report, &case);
@@ -28,18 +30,20 @@ fn screen(case: &Case) -> Screen {
 }
 
 fn measures(report: &mut Report, case: &Case) {
-    let Case { ref text, ref titles, area, notice: Notice { block, wrap, .. }, .. } = *case;
+    let Case { ref text, ref titles, area, notice, .. } = *case;
+    let Notice { block, wrap, ambiguous, .. } = notice;
     let limit = area.width.min(4_096);
-    let document = Outcome::Value(measure::line_count(text, titles, &block, wrap, limit));
-    let rust = oracle::line_count(text, titles, block, wrap, limit);
-    report.same("line_count", case, &document, &rust);
-    let document = Outcome::Value(measure::line_width(text, &block));
-    let rust = oracle::line_width(text, titles, block);
+    let document = measure::line_count(text, ambiguous, titles, &block, wrap, limit);
+    let rust = oracle::line_count(text, ambiguous, titles, block, wrap, limit);
+    report.same("line_count", case, &Outcome::Value(document), &rust);
+    let document = Outcome::Value(measure::line_width(text, ambiguous, &block));
+    let rust = oracle::line_width(text, ambiguous, titles, block);
     report.same("line_width", case, &document, &rust);
 }
 
 fn inner(report: &mut Report, case: &Case) {
-    let area = frame::inner(&case.notice.block, &lines(&case.titles), case.area.into());
+    let titles = lines(&case.titles, case.notice.ambiguous);
+    let area = frame::inner(&case.notice.block, &titles, case.area.into());
     let document = Outcome::Value([area.x, area.y, area.width, area.height]);
     let rust = oracle::inner(case.notice.block, &case.titles, case.area)
         .map(|area| [area.x, area.y, area.width, area.height].map(i64::from));
@@ -49,7 +53,8 @@ fn inner(report: &mut Report, case: &Case) {
 fn block(report: &mut Report, case: &Case) {
     let mut screen = screen(case);
     let met = frame::met(case.area.into(), &screen);
-    frame::draw(&mut screen, &case.notice.block, &lines(&case.titles), met);
+    let Notice { block, ambiguous, .. } = case.notice;
+    frame::draw(&mut screen, &block, &lines(&case.titles, ambiguous), met);
 
     let mut cells = case.cells.clone();
     let outcome = oracle::draw_block(
@@ -58,8 +63,9 @@ fn block(report: &mut Report, case: &Case) {
         &mut cells,
         &case.styles,
         &case.titles,
+        ambiguous,
         case.area,
-        case.notice.block,
+        block,
     );
     report.same("cells of a block", case, &Outcome::Value(screen.cells), &outcome.map(|()| cells));
 }

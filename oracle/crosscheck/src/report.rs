@@ -4,6 +4,10 @@ use std::collections::BTreeMap;
 use std::fmt::Debug;
 use std::process::ExitCode;
 
+use oracle::AmbiguousWidth;
+
+use crate::cases::holds_ambiguous;
+
 #[derive(Default)]
 struct Topic {
     compared: u64,
@@ -14,7 +18,7 @@ struct Topic {
 #[derive(Default)]
 pub struct Report {
     topics: BTreeMap<&'static str, Topic>,
-    notes: BTreeMap<&'static str, u64>,
+    notes: BTreeMap<String, u64>,
 }
 
 impl Report {
@@ -40,8 +44,19 @@ impl Report {
     }
 
     /// Counts an input of a kind that is reported.
-    pub fn note(&mut self, kind: &'static str) {
-        *self.notes.entry(kind).or_default() += 1;
+    pub fn note(&mut self, kind: &str) {
+        *self.notes.entry(kind.to_owned()).or_default() += 1;
+    }
+
+    /// Counts an input whose records hold a glyph of width code 7.
+    pub fn note_reading(&mut self, what: &str, records: &[u32], ambiguous: AmbiguousWidth) {
+        let reading = match ambiguous {
+            AmbiguousWidth::Narrow => "narrow",
+            AmbiguousWidth::Wide => "wide",
+        };
+        if holds_ambiguous(records) {
+            self.note(&format!("{what} with a code 7 read {reading}"));
+        }
     }
 
     pub fn finish(&self) -> ExitCode {

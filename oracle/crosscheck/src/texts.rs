@@ -1,35 +1,48 @@
 //! Composed lines and tallies.
 
-use oracle::{Alignment, ComposedLine, Outcome, Wrap};
+use oracle::{Alignment, AmbiguousWidth, ComposedLine, Outcome, Wrap};
 use rules::compose::{Composed, compose, tally};
-use rules::width;
+use rules::{glyph, width};
 
-use crate::cases;
+use crate::cases::{self, READINGS, holds_ambiguous};
 use crate::random::Random;
 use crate::report::Report;
 
-/// Solid glyphs of width 0 to 3 and spaces of width 0 to 2, as (width, whitespace).
-const KINDS: [(u32, u32); 7] = [(0, 0), (1, 0), (2, 0), (3, 0), (0, 1), (1, 1), (2, 1)];
+/// Solid glyphs of width 0 to 3, spaces of width 0 to 2, and an ambiguous glyph of each kind, as
+/// (width code, whitespace).
+const KINDS: [(u32, u32); 9] =
+    [(0, 0), (1, 0), (2, 0), (3, 0), (0, 1), (1, 1), (2, 1), (7, 0), (7, 1)];
 
-/// Compares every text line of up to five glyphs of the seven kinds at limits 1 to 5.
+/// Compares every text line of up to five glyphs of the nine kinds at limits 1 to 5. One without an
+/// ambiguous glyph is read narrow only.
 pub fn exhaustive(report: &mut Report) {
     for length in 0..=5 {
         for index in 0..KINDS.len().pow(length) {
+            let kind = |place| KINDS[index / KINDS.len().pow(place) % KINDS.len()];
             let glyph = |place| {
-                let (width, whitespace) = KINDS[index / KINDS.len().pow(place) % KINDS.len()];
+                let (width, whitespace) = kind(place);
                 (97 + place) << 10 | width << 7 | whitespace << 6
             };
             let glyphs = (0..length).map(glyph);
             let text: Vec<u32> = std::iter::once(3 << 29 | 1 << 31).chain(glyphs).collect();
-            for limit in 1..=5 {
-                for trim in [true, false] {
-                    compare(report, &text, Alignment::Left, limit, Wrap::On { trim });
-                }
-                for column in 0..=5 {
-                    for default_alignment in [Alignment::Left, Alignment::Right] {
-                        compare(report, &text, default_alignment, limit, Wrap::Off { column });
-                    }
-                }
+            let readings = if holds_ambiguous(&text) { &READINGS[..] } else { &READINGS[..1] };
+            for &ambiguous in readings {
+                at_limits(report, &text, ambiguous);
+            }
+        }
+    }
+}
+
+/// Compares a text at limits 1 to 5, wrapped and unwrapped.
+fn at_limits(report: &mut Report, text: &[u32], ambiguous: AmbiguousWidth) {
+    report.note_reading("short texts", text, ambiguous);
+    for limit in 1..=5 {
+        for trim in [true, false] {
+            compare(report, text, ambiguous, Alignment::Left, limit, Wrap::On { trim });
+        }
+        for column in 0..=5 {
+            for default_alignment in [Alignment::Left, Alignment::Right] {
+                compare(report, text, ambiguous, default_alignment, limit, Wrap::Off { column });
             }
         }
     }
@@ -39,6 +52,8 @@ pub fn exhaustive(report: &mut Report) {
 pub fn at_random(report: &mut Report, random: &mut Random, count: u32) {
     for _ in 0..count {
         let text = cases::text(random, 64, 60);
+        let ambiguous = random.pick(&READINGS);
+        report.note_reading("random texts", &text, ambiguous);
         let default_alignment =
             random.pick(&[Alignment::Left, Alignment::Center, Alignment::Right]);
         let limit = random.pick(&[0, 1, 2, 3, 4, 5, 7, 10, 20, 4_096]);
@@ -47,7 +62,7 @@ pub fn at_random(report: &mut Report, random: &mut Random, count: u32) {
             Wrap::On { trim: false },
             Wrap::Off { column: random.below16(30) },
         ] {
-            compare(report, &text, default_alignment, limit, wrap);
+            compare(report, &text, ambiguous, default_alignment, limit, wrap);
         }
     }
 }
@@ -56,25 +71,26 @@ pub fn at_random(report: &mut Report, random: &mut Random, count: u32) {
 fn compare(
     report: &mut Report,
     text: &[u32],
+    ambiguous: AmbiguousWidth,
     default_alignment: Alignment,
     limit: u16,
     wrap: Wrap,
 ) {
-    let input = (text, default_alignment, limit, wrap);
-    let composed = compose(text, default_alignment, i64::from(limit), wrap).lines;
+    let input = (text, ambiguous, default_alignment, limit, wrap);
+    let composed = compose(text, ambiguous, default_alignment, i64::from(limit), wrap).lines;
     let document = Outcome::Value(composed.iter().map(listed).collect());
     match wrap {
         Wrap::Off { column } => {
-            let rust = oracle::truncated_lines(text, default_alignment, limit, column);
+            let rust = oracle::truncated_lines(text, ambiguous, default_alignment, limit, column);
             report.same("truncated lines", &input, &document, &rust);
         }
         Wrap::On { trim } => {
-            let rust = oracle::wrapped_lines(text, default_alignment, limit, trim);
+            let rust = oracle::wrapped_lines(text, ambiguous, default_alignment, limit, trim);
             report.same("wrapped lines", &input, &document, &rust);
-            let spanned = rust.clone().map(|lines| respanned(text, limit, lines));
+            let spanned = rust.clone().map(|lines| respanned(text, ambiguous, limit, lines));
             report.same("glyphs from first to end", &input, &spanned, &rust);
-            let document = Outcome::Value(tally(text, i64::from(limit), trim));
-            let rust = oracle::tally(text, limit, trim);
+            let document = Outcome::Value(tally(text, ambiguous, i64::from(limit), trim));
+            let rust = oracle::tally(text, ambiguous, limit, trim);
             report.same("tallies", &input, &document, &rust);
         }
     }
@@ -88,11 +104,18 @@ fn listed(line: &Composed) -> ComposedLine {
     }
 }
 
-/// "Its glyphs are those from first to end that are no wider than the limit."
-fn respanned(text: &[u32], limit: u16, mut lines: Vec<ComposedLine>) -> Vec<ComposedLine> {
+/// "Its glyphs are those from first to end that are no wider than the limit." An entry doesn't have
+/// the setting, so its glyphs are read by the same one.
+fn respanned(
+    text: &[u32],
+    ambiguous: AmbiguousWidth,
+    limit: u16,
+    mut lines: Vec<ComposedLine>,
+) -> Vec<ComposedLine> {
+    let cells = |number: u32| glyph(number, text[number as usize], ambiguous).width;
     for line in &mut lines {
-        let fits = |number: &u32| text[*number as usize] / 128 % 8 <= u32::from(limit);
-        line.glyphs = (line.first()..line.end()).filter(fits).collect();
+        let span = line.first()..line.end();
+        line.glyphs = span.filter(|number| cells(*number) <= i64::from(limit)).collect();
     }
     lines
 }

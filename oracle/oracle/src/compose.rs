@@ -8,6 +8,7 @@ use ratatui_widgets::reflow::{LineComposer, LineTruncator, WordWrapper};
 
 use crate::outcome::{Outcome, ask};
 use crate::records::{HeadedLine, Records};
+use crate::settings::AmbiguousWidth;
 
 /// A composed line: the record numbers of its glyphs, and the width and alignment from the crate.
 #[derive(Debug, Clone, PartialEq, Eq)]
@@ -49,13 +50,22 @@ impl ComposedLine {
 /// Returns the wrapped lines of a text: `WordWrapper::next_line` until `None`.
 pub fn wrapped_lines(
     text: &[u32],
+    ambiguous: AmbiguousWidth,
+    default_alignment: Alignment,
+    limit: u16,
+    trim: bool,
+) -> Outcome<Vec<ComposedLine>> {
+    wrapped(&Records::new(text, ambiguous), default_alignment, limit, trim)
+}
+
+pub fn wrapped(
+    text: &Records,
     default_alignment: Alignment,
     limit: u16,
     trim: bool,
 ) -> Outcome<Vec<ComposedLine>> {
     ask(|| {
-        let records = Records::new(text);
-        let lines = records.lines(None);
+        let lines = text.lines(None);
         pulled(WordWrapper::new(styled(&lines, default_alignment), limit, trim))
     })
 }
@@ -64,13 +74,22 @@ pub fn wrapped_lines(
 /// until `None`. A line's glyphs don't include swallowed ones.
 pub fn truncated_lines(
     text: &[u32],
+    ambiguous: AmbiguousWidth,
+    default_alignment: Alignment,
+    limit: u16,
+    column: u16,
+) -> Outcome<Vec<ComposedLine>> {
+    truncated(&Records::new(text, ambiguous), default_alignment, limit, column)
+}
+
+pub fn truncated(
+    text: &Records,
     default_alignment: Alignment,
     limit: u16,
     column: u16,
 ) -> Outcome<Vec<ComposedLine>> {
     ask(|| {
-        let records = Records::new(text);
-        let lines = records.lines(None);
+        let lines = text.lines(None);
         let mut truncator = LineTruncator::new(styled(&lines, default_alignment), limit);
         truncator.set_horizontal_offset(column);
         pulled(truncator)

@@ -3,11 +3,11 @@
 use ratatui_core::buffer::Buffer;
 use ratatui_core::widgets::Widget;
 
-use crate::compose::{ComposedLine, truncated_lines, wrapped_lines};
+use crate::compose::{ComposedLine, truncated, wrapped};
 use crate::measure::inner;
 use crate::outcome::{Outcome, ask};
 use crate::records::Records;
-use crate::settings::{Alignment, Block, Notice, Rect, Wrap};
+use crate::settings::{Alignment, AmbiguousWidth, Block, Notice, Rect, Wrap};
 use crate::tally::glyph_counts;
 use crate::widgets::{block, paragraph};
 
@@ -20,17 +20,19 @@ pub struct Drawn {
 }
 
 /// Draws a block. If the Rust panics, the cells are unchanged.
+#[expect(clippy::too_many_arguments, reason = "the call of document 02 has these")]
 pub fn draw_block(
     columns: u32,
     rows: u32,
     cells: &mut [u64],
     styles: &[u64],
     titles: &[u32],
+    ambiguous: AmbiguousWidth,
     area: Rect,
     settings: Block,
 ) -> Outcome<()> {
     drawn(columns, rows, cells, |buf| {
-        block(settings, &Records::new(titles), Some(styles)).render(area, buf);
+        block(settings, &Records::new(titles, ambiguous), Some(styles)).render(area, buf);
     })
 }
 
@@ -49,7 +51,8 @@ pub fn draw_notice(
     settings: Notice,
 ) -> Outcome<Drawn> {
     let outcome = drawn(columns, rows, cells, |buf| {
-        let (text, titles) = (Records::new(text), Records::new(titles));
+        let [text, titles] =
+            [text, titles].map(|records| Records::new(records, settings.ambiguous));
         let block = block(settings.block, &titles, Some(styles));
         paragraph(settings, &text, Some(styles)).block(block).render(area, buf);
     });
@@ -66,7 +69,8 @@ pub fn notice_counts(
     area: Rect,
     settings: Notice,
 ) -> Outcome<Drawn> {
-    notice_lines(columns, rows, text, titles, area, settings).map(|(inner, lines)| {
+    let text = &Records::new(text, settings.ambiguous);
+    composed(columns, rows, text, titles, area, settings).map(|(inner, lines)| {
         let mut counts = Drawn::default();
         let from_scroll = lines.iter().skip(usize::from(settings.scroll));
         for line in from_scroll.take(usize::from(inner.height)) {
@@ -89,18 +93,29 @@ pub fn notice_lines(
     area: Rect,
     settings: Notice,
 ) -> Outcome<(Rect, Vec<ComposedLine>)> {
+    composed(columns, rows, &Records::new(text, settings.ambiguous), titles, area, settings)
+}
+
+fn composed(
+    columns: u32,
+    rows: u32,
+    text: &Records,
+    titles: &[u32],
+    area: Rect,
+    settings: Notice,
+) -> Outcome<(Rect, Vec<ComposedLine>)> {
     ask(|| area.intersection(screen(columns, rows)))
         .and_then(|met| inner(settings.block, titles, met))
         .and_then(|inner| lines_in(inner, text, settings).map(|lines| (inner, lines)))
 }
 
-fn lines_in(inner: Rect, text: &[u32], settings: Notice) -> Outcome<Vec<ComposedLine>> {
+fn lines_in(inner: Rect, text: &Records, settings: Notice) -> Outcome<Vec<ComposedLine>> {
     if inner.is_empty() {
         return Outcome::Value(Vec::new());
     }
     match settings.wrap {
-        Wrap::Off { column } => truncated_lines(text, settings.alignment, inner.width, column),
-        Wrap::On { trim } => wrapped_lines(text, settings.alignment, inner.width, trim),
+        Wrap::Off { column } => truncated(text, settings.alignment, inner.width, column),
+        Wrap::On { trim } => wrapped(text, settings.alignment, inner.width, trim),
     }
 }
 

@@ -1,9 +1,10 @@
 //! The answers of ratatui-widgets 0.3.2 to the inputs of document 01.
 //!
 //! Every function takes packed input as document 01 defines it, runs the unchanged Rust files over
-//! the stand-ins and packs their result. The oracle has no refusals: its answers to inputs that
-//! document 01 refuses are meaningless. A panic of the Rust is an answer as well,
-//! [`Outcome::Panicked`].
+//! the stand-ins and packs their result. Where widths are read it also takes document 02's setting
+//! for width code 7, and gives the Rust the 1 or 2 read for it. The oracle has no refusals: its
+//! answers to inputs that document 01 refuses are meaningless. A panic of the Rust is an answer as
+//! well, [`Outcome::Panicked`].
 
 mod compose;
 mod draw;
@@ -21,7 +22,7 @@ pub use measure::{
 };
 pub use outcome::Outcome;
 pub use settings::{
-    Alignment, Block, BorderSet, Borders, Effect, Notice, Padding, Rect, Shadow, TitlePosition,
-    Wrap,
+    Alignment, AmbiguousWidth, Block, BorderSet, Borders, Effect, Notice, Padding, Rect, Shadow,
+    TitlePosition, Wrap,
 };
 pub use tally::{Tally, tally};

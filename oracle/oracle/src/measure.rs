@@ -4,39 +4,47 @@ use ratatui_widgets::paragraph::Paragraph;
 
 use crate::outcome::{Outcome, ask};
 use crate::records::Records;
-use crate::settings::{Alignment, Block, Notice, Padding, Rect, Wrap};
+use crate::settings::{Alignment, AmbiguousWidth, Block, Notice, Padding, Rect, Wrap};
 use crate::widgets::{block, paragraph};
 
 /// `Block::inner` of any rectangle.
 pub fn inner(settings: Block, titles: &[u32], area: Rect) -> Outcome<Rect> {
-    ask(|| block(settings, &Records::new(titles), None).inner(area))
+    ask(|| block(settings, &Records::of_any_width(titles), None).inner(area))
 }
 
 /// `Block::horizontal_space`: left and right.
 pub fn horizontal_space(settings: Block, titles: &[u32]) -> Outcome<(u16, u16)> {
-    ask(|| ratatui_widgets::horizontal_space(&block(settings, &Records::new(titles), None)))
+    let titles = Records::of_any_width(titles);
+    ask(|| ratatui_widgets::horizontal_space(&block(settings, &titles, None)))
 }
 
 /// `Block::vertical_space`: top and bottom.
 pub fn vertical_space(settings: Block, titles: &[u32]) -> Outcome<(u16, u16)> {
-    ask(|| ratatui_widgets::vertical_space(&block(settings, &Records::new(titles), None)))
+    let titles = Records::of_any_width(titles);
+    ask(|| ratatui_widgets::vertical_space(&block(settings, &titles, None)))
 }
 
 /// `Paragraph::line_count` at a width.
 pub fn line_count(
     text: &[u32],
+    ambiguous: AmbiguousWidth,
     titles: &[u32],
     settings: Block,
     wrap: Wrap,
     width: u16,
 ) -> Outcome<u32> {
-    measured(text, titles, settings, wrap, |framed| framed.line_count(width))
+    measured(text, ambiguous, titles, settings, wrap, |framed| framed.line_count(width))
 }
 
 /// `Paragraph::line_width`.
-pub fn line_width(text: &[u32], titles: &[u32], settings: Block) -> Outcome<u32> {
+pub fn line_width(
+    text: &[u32],
+    ambiguous: AmbiguousWidth,
+    titles: &[u32],
+    settings: Block,
+) -> Outcome<u32> {
     let wrap = Wrap::Off { column: 0 };
-    measured(text, titles, settings, wrap, |framed| framed.line_width())
+    measured(text, ambiguous, titles, settings, wrap, |framed| framed.line_width())
 }
 
 /// `Padding::proportional`, which overflows above 32,767.
@@ -47,6 +55,7 @@ pub fn proportional_padding(value: u16) -> Outcome<Padding> {
 /// Measures a notice whose styles and alignment don't matter.
 fn measured(
     text: &[u32],
+    ambiguous: AmbiguousWidth,
     titles: &[u32],
     settings: Block,
     wrap: Wrap,
@@ -58,10 +67,11 @@ fn measured(
         text_style: 0,
         alignment: Alignment::Left,
         wrap,
+        ambiguous,
         scroll: 0,
     };
     ask(|| {
-        let (text, titles) = (Records::new(text), Records::new(titles));
+        let (text, titles) = (Records::new(text, ambiguous), Records::new(titles, ambiguous));
         let framed = paragraph(notice, &text, None).block(block(settings, &titles, None));
         u32::try_from(measure(&framed)).expect("sizes of accepted texts fit 32 bits")
     })

@@ -6,6 +6,8 @@ use ratatui_core::style::Style;
 use ratatui_core::text::{Line, Span};
 use ratatui_widgets::block::TitlePosition;
 
+use crate::settings::AmbiguousWidth;
+
 /// The styles passed to a call. A call without styles draws nothing, so any style will do.
 pub type Styles<'a> = Option<&'a [u64]>;
 
@@ -19,12 +21,21 @@ pub fn is_head(record: u32) -> bool {
     record >> 31 == 1
 }
 
-/// Returns the glyphs among records, with their record numbers.
-pub fn glyphs(records: &[u32]) -> impl Iterator<Item = Glyph> {
-    (0..)
-        .zip(records)
-        .filter(|(_, record)| !is_head(**record))
-        .map(|(number, &record)| Glyph { record, number })
+/// The width code of an ambiguous glyph.
+const AMBIGUOUS: u16 = 7;
+
+/// Returns the records that the crate is given. Document 02, C-11: "The crate is given each code 7
+/// as the 1 or 2 read for it." Heads are left alone.
+fn read(records: &[u32], ambiguous: AmbiguousWidth) -> Vec<u32> {
+    let width = match ambiguous {
+        AmbiguousWidth::Narrow => 1,
+        AmbiguousWidth::Wide => 2,
+    };
+    let read = |&record: &u32| match (Glyph { record, number: 0 }).width() {
+        AMBIGUOUS if !is_head(record) => record & !(0b111 << 7) | width << 7,
+        _ => record,
+    };
+    records.iter().map(read).collect()
 }
 
 /// A line with the position in its head, for titles.
@@ -33,18 +44,36 @@ pub struct HeadedLine<'a> {
     pub line: Line<'a>,
 }
 
-/// The records of a text or of titles, with their symbol strings concatenated. Lines borrow from
-/// it.
-pub struct Records<'r> {
-    records: &'r [u32],
+/// The records of a text or of titles as the crate is given them, with their symbol strings
+/// concatenated. Lines borrow from it.
+pub struct Records {
+    records: Vec<u32>,
     symbols: String,
 }
 
-impl<'r> Records<'r> {
-    pub fn new(records: &'r [u32]) -> Self {
-        let numbered = (0..).zip(records);
-        let symbols = numbered.map(|(number, &record)| Glyph { record, number }.encode());
-        Self { records, symbols: symbols.collect() }
+impl Records {
+    pub fn new(records: &[u32], ambiguous: AmbiguousWidth) -> Self {
+        let records = read(records, ambiguous);
+        let mut symbols = String::with_capacity(records.len() * SYMBOL_LENGTH);
+        for (number, &record) in (0..).zip(&records) {
+            Glyph { record, number }.append_to(&mut symbols);
+        }
+        Self { records, symbols }
+    }
+
+    /// Returns the records where widths don't matter.
+    pub fn of_any_width(records: &[u32]) -> Self {
+        Self::new(records, AmbiguousWidth::Narrow)
+    }
+
+    /// Returns the glyph with a record number.
+    pub fn glyph(&self, number: u32) -> Glyph {
+        Glyph { record: self.records[number as usize], number }
+    }
+
+    pub fn glyphs(&self) -> impl Iterator<Item = Glyph> {
+        let all = (0..).zip(&self.records).map(|(number, &record)| Glyph { record, number });
+        all.filter(|glyph| !is_head(glyph.record))
     }
 
     fn symbol(&self, number: usize) -> &str {

@@ -68,6 +68,13 @@ pub enum Wrap {
     On { trim: bool },
 }
 
+/// How width code 7, ambiguous, is read: as 1 cell or as 2.
+#[derive(Debug, Clone, Copy, PartialEq, Eq)]
+pub enum AmbiguousWidth {
+    Narrow,
+    Wide,
+}
+
 /// A framed notice without its text, which is separate records.
 #[derive(Debug, Clone, Copy, PartialEq, Eq)]
 pub struct Notice {
@@ -76,5 +83,6 @@ pub struct Notice {
     pub text_style: u8,
     pub alignment: Alignment,
     pub wrap: Wrap,
+    pub ambiguous: AmbiguousWidth,
     pub scroll: u16,
 }

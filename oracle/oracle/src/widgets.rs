@@ -15,7 +15,7 @@ use crate::records::{Records, Styles, style};
 use crate::settings::{Block, BorderSet, Borders, Effect, Notice, Shadow, TitlePosition, Wrap};
 
 /// Returns the crate's block, with titles.
-pub fn block<'a>(settings: Block, titles: &'a Records<'_>, styles: Styles<'_>) -> block::Block<'a> {
+pub fn block<'a>(settings: Block, titles: &'a Records, styles: Styles<'_>) -> block::Block<'a> {
     let mut block = block::Block::new()
         .borders(borders(settings.borders))
         .border_set(border_set(settings.border_set))
@@ -39,7 +39,7 @@ pub fn block<'a>(settings: Block, titles: &'a Records<'_>, styles: Styles<'_>) -
 }
 
 /// Returns the crate's paragraph, without its block.
-pub fn paragraph<'a>(settings: Notice, text: &'a Records<'_>, styles: Styles<'_>) -> Paragraph<'a> {
+pub fn paragraph<'a>(settings: Notice, text: &'a Records, styles: Styles<'_>) -> Paragraph<'a> {
     let paragraph = Paragraph::new(Text {
         lines: text.lines(styles).into_iter().map(|headed| headed.line).collect(),
         style: style(styles, settings.text_style),

@@ -1,6 +1,6 @@
 //! 'Wrapping', the tally, and `LineTruncator` of 'After the pages'.
 
-use oracle::{Alignment, Tally, Wrap};
+use oracle::{Alignment, AmbiguousWidth, Tally, Wrap};
 
 use crate::{Glyph, Line, lines, width};
 
@@ -19,12 +19,18 @@ pub struct Text {
     pub dropped: Vec<Glyph>,
 }
 
-pub fn compose(records: &[u32], default_alignment: Alignment, limit: i64, wrap: Wrap) -> Text {
+pub fn compose(
+    records: &[u32],
+    ambiguous: AmbiguousWidth,
+    default_alignment: Alignment,
+    limit: i64,
+    wrap: Wrap,
+) -> Text {
     let mut text = Text::default();
     if limit == 0 {
         return text;
     }
-    for line in lines(records) {
+    for line in lines(records, ambiguous) {
         let alignment = [Alignment::Left, Alignment::Center, Alignment::Right, default_alignment]
             [line.alignment as usize];
         let composed = match wrap {
@@ -116,8 +122,8 @@ fn truncated(line: &Line, limit: i64, mut offset: i64, alignment: Alignment) -> 
     shown
 }
 
-pub fn tally(records: &[u32], limit: i64, trim: bool) -> Tally {
-    let text = compose(records, Alignment::Left, limit, Wrap::On { trim });
+pub fn tally(records: &[u32], ambiguous: AmbiguousWidth, limit: i64, trim: bool) -> Tally {
+    let text = compose(records, ambiguous, Alignment::Left, limit, Wrap::On { trim });
     let mut tally = Tally {
         lines: text.lines.len() as u32,
         over_wide: text.over_wide.len() as u32,

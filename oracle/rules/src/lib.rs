@@ -1,6 +1,7 @@
-//! A second implementation of document 01, sentence by sentence, on plain numbers and lists. It
-//! shares nothing with the stand-ins; only the types of settings and counts are the oracle's.
-//! `crosscheck` compares it with the Rust, and `vectors` uses its answer if a glyph is clipped.
+//! A second implementation of document 01 and of document 02's C-11, sentence by sentence, on plain
+//! numbers and lists. It shares nothing with the stand-ins, and reads width code 7 itself; only the
+//! types of settings and counts are the oracle's. `crosscheck` compares it with the Rust, and
+//! `vectors` uses its answer if a glyph is clipped.
 
 pub mod compose;
 pub mod frame;
@@ -9,7 +10,10 @@ pub mod notice;
 pub mod screen;
 pub mod titles;
 
-/// A glyph with its record number: "0 | symbol 21 | width 3 | whitespace 1 | style 6".
+use oracle::AmbiguousWidth;
+
+/// A glyph with its record number: "0 | symbol 21 | width 3 | whitespace 1 | style 6". Its width is
+/// the one read, in cells.
 #[derive(Debug, Clone, Copy, PartialEq)]
 pub struct Glyph {
     pub number: u32,
@@ -27,7 +31,7 @@ pub struct Line {
 }
 
 /// Splits records into lines; "a head opens a line".
-pub fn lines(records: &[u32]) -> Vec<Line> {
+pub fn lines(records: &[u32], ambiguous: AmbiguousWidth) -> Vec<Line> {
     let mut lines: Vec<Line> = Vec::new();
     for (number, &record) in (0..).zip(records) {
         if record / (1 << 31) == 1 {
@@ -37,16 +41,27 @@ pub fn lines(records: &[u32]) -> Vec<Line> {
                 glyphs: Vec::new(),
             });
         } else if let Some(line) = lines.last_mut() {
-            line.glyphs.push(Glyph {
-                number,
-                symbol: u64::from(record / 1024),
-                width: i64::from(record / 128 % 8),
-                space: record / 64 % 2 == 1,
-                style: (record % 64) as usize,
-            });
+            line.glyphs.push(glyph(number, record, ambiguous));
         }
     }
     lines
+}
+
+/// Decodes a glyph. C-11: "Width code 7 now means ambiguous, and each call that reads widths takes
+/// an enum setting, narrow (1) or wide (2)."
+pub fn glyph(number: u32, record: u32, ambiguous: AmbiguousWidth) -> Glyph {
+    let width = match (record / 128 % 8, ambiguous) {
+        (7, AmbiguousWidth::Narrow) => 1,
+        (7, AmbiguousWidth::Wide) => 2,
+        (code, _) => i64::from(code),
+    };
+    Glyph {
+        number,
+        symbol: u64::from(record / 1024),
+        width,
+        space: record / 64 % 2 == 1,
+        style: (record % 64) as usize,
+    }
 }
 
 /// "A list's width is its sum."

@@ -1,5 +1,6 @@
 //! Inner areas, borders, titles and shadows.
 
+use oracle::AmbiguousWidth::{self, Narrow};
 use oracle::{
     Alignment, Block, BorderSet, Borders, Effect, Outcome, Padding, Rect, Shadow, horizontal_space,
     inner, proportional_padding, vertical_space,
@@ -58,7 +59,7 @@ fn inner_areas(report: &mut Report) {
 
 fn borders(report: &mut Report) {
     let mut screen = Screen::blank(5, 4);
-    let outcome = screen.draw_block(&[], Rect::new(1, 1, 9, 9), bordered());
+    let outcome = screen.draw_block(&[], Narrow, Rect::new(1, 1, 9, 9), bordered());
     let got = outcome.map(|()| screen.symbols());
     let expected = "_____|_1tt2|_l__r|_3bb4".to_owned();
     report.same("borders around the met area", Outcome::Value(expected), got);
@@ -66,23 +67,28 @@ fn borders(report: &mut Report) {
     let top_left = Borders { right: false, bottom: false, ..ALL };
     let mut screen = Screen::blank(3, 3);
     let block = Block { borders: top_left, ..bordered() };
-    let outcome = screen.draw_block(&[], Rect::new(0, 0, 3, 3), block);
+    let outcome = screen.draw_block(&[], Narrow, Rect::new(0, 0, 3, 3), block);
     let got = outcome.map(|()| screen.symbols());
     let name = "two borders: a corner where both stand";
     report.same(name, Outcome::Value("1tt|l__|l__".to_owned()), got);
 
     let mut screen = Screen::blank(1, 1);
-    let outcome = screen.draw_block(&[], Rect::new(0, 0, 1, 1), bordered());
+    let outcome = screen.draw_block(&[], Narrow, Rect::new(0, 0, 1, 1), bordered());
     let got = outcome.map(|()| screen.symbols());
     report.same("one cell: the top left corner is last", Outcome::Value("1".to_owned()), got);
 }
 
 /// Returns the row that titles draw on a block without borders.
-fn title_row(columns: u16, titles: &[Vec<u32>], titles_alignment: Alignment) -> Outcome<String> {
+pub fn title_row(
+    columns: u16,
+    titles: &[Vec<u32>],
+    ambiguous: AmbiguousWidth,
+    titles_alignment: Alignment,
+) -> Outcome<String> {
     let mut screen = Screen::blank(u32::from(columns), 1);
     let area = Rect::new(0, 0, columns, 1);
     let block = Block { titles_alignment, ..Block::default() };
-    let outcome = screen.draw_block(&titles.concat(), area, block);
+    let outcome = screen.draw_block(&titles.concat(), ambiguous, area, block);
     outcome.map(|()| screen.symbols())
 }
 
@@ -97,10 +103,10 @@ fn titles(report: &mut Report) {
         ("zero width isn't drawn", 3, vec![line(0, "aZ")], "a__"),
     ];
     for (name, columns, titles, expected) in examples {
-        let got = title_row(columns, &titles, Alignment::Left);
+        let got = title_row(columns, &titles, Narrow, Alignment::Left);
         report.same(&format!("titles: {name}"), Outcome::Value(expected.to_owned()), got);
     }
-    let got = title_row(3, &[line(3, "abcd")], Alignment::Right);
+    let got = title_row(3, &[line(3, "abcd")], Narrow, Alignment::Right);
     let name = "titles: right by default, none given: drawn left";
     report.same(name, Outcome::Value("abc".to_owned()), got);
 }
@@ -111,7 +117,7 @@ fn shadow_of(x: i32, y: i32, area: Rect) -> Outcome<String> {
         shadow: Shadow::Present { effect: Effect::Symbol(u32::from('s')), style: 0, x, y },
         ..bordered()
     };
-    let outcome = screen.draw_block(&[], area, block);
+    let outcome = screen.draw_block(&[], Narrow, area, block);
     outcome.map(|()| screen.symbols())
 }
 
@@ -136,7 +142,7 @@ fn overlay(report: &mut Report) {
     let mut screen = Screen::blank(3, 1).with_styles(&[0, background]);
     let shadow = Shadow::Present { effect: Effect::Overlay, style: 1, x: 1, y: 0 };
     let block = Block { shadow, ..Block::default() };
-    let outcome = screen.draw_block(&[], Rect::new(0, 0, 2, 1), block);
+    let outcome = screen.draw_block(&[], Narrow, Rect::new(0, 0, 2, 1), block);
     let got = outcome.map(|()| screen.cells.clone());
     let expected = vec![BLANK_CELL, BLANK_CELL, BLANK_CELL | 100 << 27];
     report.same("shadow: an overlay only styles", Outcome::Value(expected), got);

@@ -1,19 +1,24 @@
-//! Document 01's example of the program `listlines`, to the byte.
+//! Document 01's example of the program `listlines`, to the byte, and one with ambiguous glyphs:
+//! "`listlines` reads narrow."
 
 use std::fmt::Write;
 
-use oracle::{Alignment, Outcome, wrapped_lines};
+use oracle::{Alignment, AmbiguousWidth, Outcome, wrapped_lines};
 
 use crate::notation::line;
 use crate::report::Report;
 
 pub fn run(report: &mut Report) {
-    let mut input = vec![0, 5, 1];
-    for record in line(0, "___abc") {
-        input.extend(record.to_be_bytes());
+    let examples =
+        [("___abc", 5, "0 0 0 0\n4 7 3 0\nlines 2\n"), ("AbA", 2, "1 3 2 0\n3 4 1 0\nlines 2\n")];
+    for (letters, limit, expected) in examples {
+        let mut input = vec![0, limit, 1];
+        for record in line(0, letters) {
+            input.extend(record.to_be_bytes());
+        }
+        let name = format!("listlines of {letters:?}");
+        report.same(&name, Outcome::Value(expected.to_owned()), listed(&input));
     }
-    let expected = "0 0 0 0\n4 7 3 0\nlines 2\n".to_owned();
-    report.same("listlines of \"___abc\"", Outcome::Value(expected), listed(&input));
 }
 
 /// Returns what `listlines` prints for an accepted input: "high byte first, limit (2 bytes), trim
@@ -24,7 +29,7 @@ fn listed(input: &[u8]) -> Outcome<String> {
     let records = input[3..].chunks_exact(4);
     let text: Vec<u32> =
         records.map(|bytes| u32::from_be_bytes(bytes.try_into().expect("four bytes"))).collect();
-    wrapped_lines(&text, Alignment::Left, limit, trim).map(|lines| {
+    wrapped_lines(&text, AmbiguousWidth::Narrow, Alignment::Left, limit, trim).map(|lines| {
         let mut output = String::new();
         for line in &lines {
             let (first, end, alignment) = (line.first(), line.end(), line.alignment_number());

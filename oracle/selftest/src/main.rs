@@ -1,8 +1,9 @@
-//! Checks the oracle on the worked examples of document 01.
+//! Checks the oracle on the worked examples of document 01, and of C-11 in document 02.
 //!
 //! Prints `ok NAME` or `FAILED NAME: expected .. got ..` for each, then `N passed, M failed`; the
 //! exit status is 1 if one failed.
 
+mod ambiguous;
 mod frame;
 mod listlines;
 mod notation;
@@ -23,5 +24,6 @@ fn main() -> ExitCode {
     notices::run(&mut report);
     styles::run(&mut report);
     listlines::run(&mut report);
+    ambiguous::run(&mut report);
     report.finish()
 }

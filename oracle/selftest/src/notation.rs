@@ -1,5 +1,5 @@
 //! Document 01's notation for small texts: "`_` space, W width 2, Z zero-width solid, z zero-width
-//! space, other letters one cell, bar between lines."
+//! space, other letters one cell, bar between lines." A is ambiguous: width code 7.
 
 use oracle::ComposedLine;
 
@@ -18,6 +18,7 @@ pub const fn glyph(letter: char) -> u32 {
         'W' => ('W' as u32, 2, 0),
         'Z' => ('Z' as u32, 0, 0),
         'z' => ('z' as u32, 0, 1),
+        'A' => ('A' as u32, 7, 0),
         other => (other as u32, 1, 0),
     };
     symbol << 10 | width << 7 | whitespace << 6

@@ -1,5 +1,6 @@
 //! Whole notices: centring, scrolling, clipping, measuring.
 
+use oracle::AmbiguousWidth::Narrow;
 use oracle::{
     Alignment, Block, Drawn, Notice, Outcome, Rect, Wrap, line_count, line_width, notice_counts,
 };
@@ -26,6 +27,7 @@ pub fn plain() -> Notice {
         text_style: 0,
         alignment: Alignment::Left,
         wrap: Wrap::On { trim: true },
+        ambiguous: Narrow,
         scroll: 0,
     }
 }
@@ -113,15 +115,15 @@ fn low_bits(report: &mut Report) {
 fn measuring(report: &mut Report) {
     let text = [line(0, "___abc"), line(0, "aWb")].concat();
     let trim = Wrap::On { trim: true };
-    let got = line_count(&text, &[], bordered(), trim, 5);
+    let got = line_count(&text, Narrow, &[], bordered(), trim, 5);
     report.same("line_count: 3 lines and 2 borders", Outcome::Value(5), got);
-    let got = line_count(&text, &[], bordered(), Wrap::Off { column: 0 }, 5);
+    let got = line_count(&text, Narrow, &[], bordered(), Wrap::Off { column: 0 }, 5);
     report.same("line_count, unwrapped: 2 lines and 2 borders", Outcome::Value(4), got);
-    let got = line_count(&text, &[], bordered(), trim, 0);
+    let got = line_count(&text, Narrow, &[], bordered(), trim, 0);
     report.same("line_count at width 0", Outcome::Value(0), got);
-    let got = line_width(&text, &[], bordered());
+    let got = line_width(&text, Narrow, &[], bordered());
     report.same("line_width: 6 and 2 borders", Outcome::Value(8), got);
-    let widest = [line(0, ""), vec![glyph('a') | 7 << 7]].concat();
-    let got = line_width(&widest, &[], Block::default());
-    report.same("line_width of a glyph of 7 cells", Outcome::Value(7), got);
+    let widest = [line(0, ""), vec![glyph('Z') | 6 << 7]].concat();
+    let got = line_width(&widest, Narrow, &[], Block::default());
+    report.same("line_width of a glyph of 6 cells", Outcome::Value(6), got);
 }

@@ -1,6 +1,6 @@
 //! A screen of packed cells to draw on.
 
-use oracle::{Block, Notice, Outcome, Rect};
+use oracle::{AmbiguousWidth, Block, Notice, Outcome, Rect};
 
 use crate::notation::letter;
 
@@ -33,13 +33,20 @@ impl Screen {
         self
     }
 
-    pub fn draw_block(&mut self, titles: &[u32], area: Rect, block: Block) -> Outcome<()> {
+    pub fn draw_block(
+        &mut self,
+        titles: &[u32],
+        ambiguous: AmbiguousWidth,
+        area: Rect,
+        block: Block,
+    ) -> Outcome<()> {
         oracle::draw_block(
             self.columns,
             self.rows,
             &mut self.cells,
             &self.styles,
             titles,
+            ambiguous,
             area,
             block,
         )

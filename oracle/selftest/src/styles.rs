@@ -1,6 +1,7 @@
 //! "Applying it sets the given colours, then sets the add bits, then clears the remove bits", and
 //! the order in which styles are applied.
 
+use oracle::AmbiguousWidth::Narrow;
 use oracle::{Block, Notice, Outcome, Rect};
 
 use crate::notation::{glyph, head};
@@ -26,7 +27,7 @@ fn modifiers_of(cell: u64) -> u64 {
 fn added_and_removed(report: &mut Report) {
     let mut screen = Screen::filled(1, 1, BLANK_CELL | 0b1_0000_0101 << 18)
         .with_styles(&[modifiers(0b11, 0b01)]);
-    let outcome = screen.draw_block(&[], Rect::new(0, 0, 1, 1), Block::default());
+    let outcome = screen.draw_block(&[], Narrow, Rect::new(0, 0, 1, 1), Block::default());
     let got = outcome.map(|()| modifiers_of(screen.cells[0]));
     report.same("a bit added and removed ends cleared", Outcome::Value(0b1_0000_0110), got);
 }
@@ -41,7 +42,7 @@ fn colours(report: &mut Report) {
     ];
     for (name, style, expected) in examples {
         let mut screen = Screen::filled(1, 1, found).with_styles(&[style]);
-        let outcome = screen.draw_block(&[], Rect::new(0, 0, 1, 1), Block::default());
+        let outcome = screen.draw_block(&[], Narrow, Rect::new(0, 0, 1, 1), Block::default());
         let got = outcome.map(|()| screen.cells[0]);
         report.same(&format!("colours: {name}"), Outcome::Value(expected), got);
     }

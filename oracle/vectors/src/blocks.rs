@@ -10,16 +10,17 @@ mod titled;
 mod titles;
 pub mod words;
 
-use oracle::{Block, Outcome, Rect};
+use oracle::{AmbiguousWidth, Block, Outcome, Rect};
 
 use crate::sums::{sum_entries, sum_numbers};
 use crate::{Part, Question};
 
-/// A test case. One for the inner area has no screen.
+/// A test case. One for the inner area has no screen, and reads no width.
 pub struct Case {
     pub block: Block,
     pub area: Rect,
     pub titles: Vec<u32>,
+    pub ambiguous: AmbiguousWidth,
     pub columns: u16,
     pub rows: u16,
     pub styles: Vec<u64>,
@@ -61,8 +62,8 @@ fn inner_area(case: &Case) -> Outcome<u32> {
 /// Draws the block and returns the checksum of all cells.
 fn drawn_cells(case: &Case) -> Outcome<u32> {
     let (columns, rows) = (u32::from(case.columns), u32::from(case.rows));
-    let Case { block, area, ref titles, ref styles, .. } = *case;
+    let Case { block, area, ref titles, ambiguous, ref styles, .. } = *case;
     let mut cells = case.cells.clone();
-    oracle::draw_block(columns, rows, &mut cells, styles, titles, area, block)
+    oracle::draw_block(columns, rows, &mut cells, styles, titles, ambiguous, area, block)
         .map(|()| sum_entries(cells.into_iter()))
 }

@@ -3,7 +3,7 @@
 pub mod case;
 mod long;
 mod questions;
-mod records;
+pub mod records;
 mod several;
 mod short;
 

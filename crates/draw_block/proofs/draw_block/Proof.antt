@@ -8,11 +8,11 @@ use Rattle.draw_block.proofs.draw_block.Tie as tie
 returns : tie.Need-returns
 returns c = block-refused _ _ (c .before .before .before .draw-block-verdict .ensures) _ (search needs)
 
-cast-t13 : tie.Need-cast-t13
-cast-t13 c = record { fits = few-columns _ _ (c .before .before .draw-block-verdict .ensures) (search needs) }
-
 cast-t14 : tie.Need-cast-t14
-cast-t14 c = record { fits = few-rows _ _ (c .before .before .draw-block-verdict .ensures) (search needs) }
+cast-t14 c = record { fits = few-columns _ _ (c .before .before .draw-block-verdict .ensures) (search needs) }
+
+cast-t15 : tie.Need-cast-t15
+cast-t15 c = record { fits = few-rows _ _ (c .before .before .draw-block-verdict .ensures) (search needs) }
 
 render-requires : tie.Need-render-requires
 render-requires c κs = drawable _ _ (c .before .before .before .draw-block-verdict .ensures) (search needs)
@@ -31,8 +31,8 @@ draw-block-spec =
     (λ c. search needs)
     returns
     (λ c. search needs)
-    cast-t13
     cast-t14
+    cast-t15
     render-requires
     (λ c. search needs)
     returns-2)

@@ -30,8 +30,8 @@ lines-at-requires c κs =
     let sound = count-sound _ _ (checked .line-count-verdict .ensures) (search needs) in
     (sound .few, sound .opens)
 
-cast-t10 : tie.Need-cast-t10
-cast-t10 c =
+cast-t11 : tie.Need-cast-t11
+cast-t11 c =
     let checked = c .before .before .before .before in
     let sound = count-sound _ _ (checked .line-count-verdict .ensures) (search needs) in
     search count-fits
@@ -42,8 +42,8 @@ vertical-space-requires c κs = search needs
 both-requires : tie.Need-both-requires
 both-requires c κs = search needs
 
-add-t13 : tie.Need-add-t13
-add-t13 c =
+add-t14 : tie.Need-add-t14
+add-t14 c =
     let checked = c .before .before .before .before .before .before in
     let sound = count-sound _ _ (checked .line-count-verdict .ensures) (search needs) in
     search count-sum-fits
@@ -63,8 +63,8 @@ line-count-spec =
     enum-told
     returns-2
     lines-at-requires
-    cast-t10
+    cast-t11
     vertical-space-requires
     both-requires
-    add-t13
+    add-t14
     returns-3)

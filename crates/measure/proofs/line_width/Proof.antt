@@ -32,8 +32,8 @@ horizontal-space-requires c κs = search needs
 both-requires : tie.Need-both-requires
 both-requires c κs = search needs
 
-add-t9 : tie.Need-add-t9
-add-t9 c =
+add-sum : tie.Need-add-sum
+add-sum c =
     let checked = c .before .before .before .before .before in
     let sound = width-sound _ _ (checked .line-width-verdict .ensures) (search needs) in
     search width-sum-fits
@@ -54,5 +54,5 @@ line-width-spec =
     widest-line-requires
     horizontal-space-requires
     both-requires
-    add-t9
+    add-sum
     returns-2)

@@ -10,10 +10,10 @@ use Rattle.measure_text.proofs.widest_line.Statement.{statement}
 use Rattle.measure_text.proofs.widest_line.Tie as tie
 
 abbrev Inv-loop : tie.InvT-loop
-Inv-loop text widest₀ width₀ i₀ widest width i = Widening text widest width i
+Inv-loop text ambiguous widest₀ width₀ i₀ widest width i = Widening ambiguous text widest width i
 
 abbrev μ-loop : tie.MeasureT-loop
-μ-loop text widest₀ width₀ i₀ widest width i = length text - i
+μ-loop text ambiguous widest₀ width₀ i₀ widest width i = length text - i
 
 loop-holds : tie.Need-loop-holds Inv-loop μ-loop
 loop-holds c = search widening

@@ -5,11 +5,14 @@ use borrow.Author.Needs.{needs}
 use Rattle.notice_c.proofs.notice_draw_block.Statement.{statement}
 use Rattle.notice_c.proofs.notice_draw_block.Tie as tie
 
-is-known-requires : tie.Need-is-known-requires
-is-known-requires c κs = search needs
+titled-known-requires : tie.Need-titled-known-requires
+titled-known-requires c κs = search needs
 
 returns : tie.Need-returns
-returns c = (answered-unknown _ _ (c .before .is-known .ensures) _ _ (c .if1 .taken), answered-unknown _ _ (c .before .is-known .ensures) _ _ (c .if1 .taken))
+returns c = (answered-unknown _ _ (c .before .titled-known .ensures) _ _ (c .if1 .taken), answered-unknown _ _ (c .before .titled-known .ensures) _ _ (c .if1 .taken))
+
+ambiguous-named-requires : tie.Need-ambiguous-named-requires
+ambiguous-named-requires c κs = search needs
 
 block-requires : tie.Need-block-requires
 block-requires c κs = search needs
@@ -28,20 +31,22 @@ same-length c = search needs
 
 returns-2 : tie.Need-returns-2
 returns-2 c =
-    let known = c .before .before .before .before .before .before .before .before .is-known .ensures in
-    let test = c .before .before .before .before .before .before .before .if1 .left in
+    let known = c .before .before .before .before .before .before .before .before .before .titled-known .ensures in
+    let test = c .before .before .before .before .before .before .before .before .if1 .left in
+    let reading = c .before .before .before .before .before .before .before .ambiguous-named .ensures in
     let settings = c .before .before .before .before .before .before .block .ensures in
     let call = c .before .before .before .draw-block .ensures in (
-      answered-known _ _ known _ _ test _ (rw (call .0, settings, c .before .before .before .before .area .ensures) at (c .framed-number .ensures)),
-      answered-known _ _ known _ _ test _ (rw (settings, c .before .before .before .before .area .ensures) at (call .1)),
+      answered-known _ _ known _ _ test _ (rw (call .0, reading, settings, c .before .before .before .before .area .ensures) at (c .framed-number .ensures)),
+      answered-known _ _ known _ _ test _ (rw (reading, settings, c .before .before .before .before .area .ensures) at (call .1)),
     )
 
 pub notice-draw-block-spec : {M : Type 1} → statement M
 notice-draw-block-spec =
     tie.close
     (tie.spec
-    is-known-requires
+    titled-known-requires
     returns
+    ambiguous-named-requires
     block-requires
     area-requires
     draw-block-requires

@@ -13,6 +13,9 @@ returns c = answered-unknown _ _ (c .before .all-known .ensures) _ _ (c .if1 .ta
 named-wrap-requires : tie.Need-named-wrap-requires
 named-wrap-requires c κs = search needs
 
+ambiguous-named-requires : tie.Need-ambiguous-named-requires
+ambiguous-named-requires c κs = search needs
+
 block-requires : tie.Need-block-requires
 block-requires c κs = search needs
 
@@ -23,7 +26,10 @@ measure-answer-requires : tie.Need-measure-answer-requires
 measure-answer-requires c κs = search needs
 
 returns-2 : tie.Need-returns-2
-returns-2 c = answered-known _ _ (c .before .before .before .before .before .all-known .ensures) _ _ (c .before .before .before .before .if1 .left) _ (rw (c .before .line-count .ensures, c .before .before .block .ensures, c .before .before .before .named-wrap .ensures) at (c .measure-answer .ensures))
+returns-2 c =
+    let named = c .before .before .before in
+    answered-known _ _ (named .before .before .before .all-known .ensures) _ _ (named .before .before .if1 .left) _
+    (rw (c .before .line-count .ensures, c .before .before .block .ensures, named .ambiguous-named .ensures, named .before .named-wrap .ensures) at (c .measure-answer .ensures))
 
 pub notice-line-count-spec : {M : Type 1} → statement M
 notice-line-count-spec =
@@ -32,6 +38,7 @@ notice-line-count-spec =
     all-known-requires
     returns
     named-wrap-requires
+    ambiguous-named-requires
     block-requires
     line-count-requires
     measure-answer-requires

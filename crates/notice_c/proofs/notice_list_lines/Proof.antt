@@ -1,14 +1,17 @@
 -- `notice_c::notice_list_lines` meets its contract.
-use Rattle.notice_c.proofs.Known.{alignment-unknown, trim-unknown, list-known}
+use Rattle.notice_c.proofs.Known.{answered-unknown, answered-known}
 use borrow.Author.Needs.{needs}
 use Rattle.notice_c.proofs.notice_list_lines.Statement.{statement}
 use Rattle.notice_c.proofs.notice_list_lines.Tie as tie
 
-returns : tie.Need-returns
-returns c = let unknown = alignment-unknown _ (c .before .before .before .args .trim) (c .if1 .taken) in (rw unknown, rw unknown)
+list-known-requires : tie.Need-list-known-requires
+list-known-requires c κs = search needs
 
-returns-2 : tie.Need-returns-2
-returns-2 c = let unknown = trim-unknown (c .before .before .before .before .args .alignment) _ (c .if2 .taken) in (rw unknown, rw unknown)
+returns : tie.Need-returns
+returns c = (answered-unknown _ _ (c .before .list-known .ensures) _ _ (c .if1 .taken), answered-unknown _ _ (c .before .list-known .ensures) _ _ (c .if1 .taken))
+
+ambiguous-named-requires : tie.Need-ambiguous-named-requires
+ambiguous-named-requires c κs = search needs
 
 alignment-named-requires : tie.Need-alignment-named-requires
 alignment-named-requires c κs = search needs
@@ -22,24 +25,26 @@ list-answer-requires c κs = search needs
 same-length : tie.Need-same-length
 same-length c = search needs
 
-returns-3 : tie.Need-returns-3
-returns-3 c =
-    let alignment = c .before .before .before .before .before .before .before .if1 .left in
-    let trim = c .before .before .before .before .before .before .if2 .left in
+returns-2 : tie.Need-returns-2
+returns-2 c =
+    let known = c .before .before .before .before .before .before .before .before .list-known .ensures in
+    let test = c .before .before .before .before .before .before .before .if1 .left in
+    let reading = c .before .before .before .before .before .before .ambiguous-named .ensures in
     let default = c .before .before .before .before .before .alignment-named .ensures in
     let call = c .before .before .before .list-lines .ensures in (
-      list-known _ _ _ _ alignment trim _ (rw (call .0, default) at (c .list-answer .ensures)),
-      list-known _ _ _ _ alignment trim _ (rw default at (call .1)),
+      answered-known _ _ known _ _ test _ (rw (call .0, reading, default) at (c .list-answer .ensures)),
+      answered-known _ _ known _ _ test _ (rw (reading, default) at (call .1)),
     )
 
 pub notice-list-lines-spec : {M : Type 1} → statement M
 notice-list-lines-spec =
     tie.close
     (tie.spec
+    list-known-requires
     returns
-    returns-2
+    ambiguous-named-requires
     alignment-named-requires
     list-lines-requires
     list-answer-requires
     same-length
-    returns-3)
+    returns-2)

@@ -16,6 +16,9 @@ inner-requires c κs = search needs
 enum-known-inside : tie.Need-enum-known-inside
 enum-known-inside c = search needs
 
+ambiguous-named-requires : tie.Need-ambiguous-named-requires
+ambiguous-named-requires c κs = search needs
+
 named-wrap-requires : tie.Need-named-wrap-requires
 named-wrap-requires c κs = search needs
 
@@ -42,6 +45,7 @@ measured-spec =
     block-requires
     inner-requires
     enum-known-inside
+    ambiguous-named-requires
     named-wrap-requires
     lines-in-requires
     enum-known-why

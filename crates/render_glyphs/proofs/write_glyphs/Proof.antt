@@ -64,7 +64,7 @@ loop-again-3 c =
     let inv = turn .before .before .before .loop .inv in
     ⊎-elim
     (λ t.
-    writing-places _ _ _ _ _ _ _ _ _ _ inv (search needs) _ (turn .width .ensures) (c .before .before .if1 .left) (c .before .if2 .left) _ _ _ _
+    writing-places _ _ _ _ _ _ _ _ _ _ inv (search needs) _ (turn .width .ensures .0) (c .before .before .if1 .left) (c .before .if2 .left) _ _ _ _
     (t .0 .taken) (t .2 .ensures) (t .5) (t .6) (t .7))
     (λ t. search writing)
     (c .if3 .came)

@@ -10,10 +10,10 @@ use Rattle.render_left_center_titles.proofs.render_titles_forward.State
 use Rattle.render_left_center_titles.proofs.render_titles_forward.Tie as tie
 
 abbrev Inv-loop : tie.InvT-loop
-Inv-loop screen cells₀ styles titles block group place₀ at₀ cells place at = Walking screen styles block group titles place₀ cells₀ cells place at
+Inv-loop screen cells₀ styles titles ambiguous block group place₀ at₀ cells place at = Walking ambiguous screen styles block group titles place₀ cells₀ cells place at
 
 abbrev μ-loop : tie.MeasureT-loop
-μ-loop screen cells₀ styles titles block group place₀ at₀ cells place at = length titles - at
+μ-loop screen cells₀ styles titles ambiguous block group place₀ at₀ cells place at = length titles - at
 
 loop-holds : tie.Need-loop-holds Inv-loop μ-loop
 loop-holds c = search walking

@@ -10,10 +10,10 @@ use Rattle.render_left_center_titles.proofs.spaced_width.Statement.{sta
 use Rattle.render_left_center_titles.proofs.spaced_width.Tie as tie
 
 abbrev Inv-loop : tie.InvT-loop
-Inv-loop titles block group sum₀ at₀ sum at = Summing block group titles sum at
+Inv-loop titles ambiguous block group sum₀ at₀ sum at = Summing ambiguous block group titles sum at
 
 abbrev μ-loop : tie.MeasureT-loop
-μ-loop titles block group sum₀ at₀ sum at = length titles - at
+μ-loop titles ambiguous block group sum₀ at₀ sum at = length titles - at
 
 loop-holds : tie.Need-loop-holds Inv-loop μ-loop
 loop-holds c = search summing

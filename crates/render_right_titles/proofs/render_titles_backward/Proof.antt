@@ -6,10 +6,10 @@ use Rattle.render_right_titles.proofs.render_titles_backward.Statement.
 use Rattle.render_right_titles.proofs.render_titles_backward.Tie as tie
 
 abbrev Inv-loop : tie.InvT-loop
-Inv-loop screen cells₀ styles titles block group first left₀ end₀ cells left end = WalkingBack screen styles block group titles left₀ cells₀ cells left end
+Inv-loop screen cells₀ styles titles ambiguous block group first left₀ end₀ cells left end = WalkingBack ambiguous screen styles block group titles left₀ cells₀ cells left end
 
 abbrev μ-loop : tie.MeasureT-loop
-μ-loop screen cells₀ styles titles block group first left₀ end₀ cells left end = end
+μ-loop screen cells₀ styles titles ambiguous block group first left₀ end₀ cells left end = end
 
 line-length-requires : tie.Need-line-length-requires Inv-loop μ-loop
 line-length-requires c κs = search needs

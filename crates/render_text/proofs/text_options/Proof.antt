@@ -10,8 +10,8 @@ enum-known-wrap c = search needs
 enum-known-wrap-2 : tie.Need-enum-known-wrap-2
 enum-known-wrap-2 c = search needs
 
-cast-t14 : tie.Need-cast-t14
-cast-t14 c = search needs
+cast-t15 : tie.Need-cast-t15
+cast-t15 c = search needs
 
 returns : tie.Need-returns
 returns c = search settings
@@ -20,4 +20,4 @@ returns-2 : tie.Need-returns-2
 returns-2 c = search settings
 
 pub text-options-spec : {M : Type 1} → statement M
-text-options-spec = tie.close (tie.spec enum-known-wrap enum-known-wrap-2 cast-t14 returns returns-2)
+text-options-spec = tie.close (tie.spec enum-known-wrap enum-known-wrap-2 cast-t15 returns returns-2)

@@ -7,10 +7,10 @@ use Rattle.title.proofs.line_width_u16.Statement.{statement}
 use Rattle.title.proofs.line_width_u16.Tie as tie
 
 abbrev Inv-loop : tie.InvT-loop
-Inv-loop glyphs width₀ i₀ width i = AddingWidths glyphs width i
+Inv-loop glyphs ambiguous width₀ i₀ width i = AddingWidths ambiguous glyphs width i
 
 abbrev μ-loop : tie.MeasureT-loop
-μ-loop glyphs width₀ i₀ width i = length glyphs - i
+μ-loop glyphs ambiguous width₀ i₀ width i = length glyphs - i
 
 loop-holds : tie.Need-loop-holds Inv-loop μ-loop
 loop-holds c = search adding

@@ -7,10 +7,10 @@ use Rattle.title_glyphs.proofs.write_glyphs.Statement.{statement}
 use Rattle.title_glyphs.proofs.write_glyphs.Tie as tie
 
 abbrev Inv-loop : tie.InvT-loop
-Inv-loop row₀ styles hidden glyphs end column₀ i₀ row column i = Writing styles hidden glyphs row₀ row column i
+Inv-loop row₀ styles hidden glyphs ambiguous end column₀ i₀ row column i = Writing ambiguous styles hidden glyphs row₀ row column i
 
 abbrev μ-loop : tie.MeasureT-loop
-μ-loop row₀ styles hidden glyphs end column₀ i₀ row column i = length glyphs - i
+μ-loop row₀ styles hidden glyphs ambiguous end column₀ i₀ row column i = length glyphs - i
 
 add-end : tie.Need-add-end Inv-loop μ-loop
 add-end c = search needs

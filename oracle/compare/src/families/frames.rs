@@ -1,10 +1,10 @@
 //! Every set of borders with small rectangles and with those at the end of the 16-bit range; pairs
 //! of titles.
 
-use super::{Digits, cells};
+use super::{Digits, asked, cells, read};
 use crate::input::{Call, Input};
 use crate::raw::Area;
-use crate::records::{glyph, head};
+use crate::records::{AMBIGUOUS, glyph, head};
 
 /// No title, one at the top, one at the bottom, or one at the block's position, the bottom.
 fn one_title(digits: &mut Digits) -> Vec<u32> {
@@ -85,8 +85,8 @@ pub fn block(number: u64) -> (Input, &'static [Call]) {
     (input, &[Call::DrawBlock])
 }
 
-/// Titles as letters with their widths.
-const TITLES: [&[(u8, u32)]; 7] = [
+/// Titles as letters with their width codes.
+const TITLES: [&[(u8, u32)]; 9] = [
     &[],
     &[(b'a', 1)],
     &[(b'a', 1), (b'b', 1)],
@@ -94,14 +94,18 @@ const TITLES: [&[(u8, u32)]; 7] = [
     &[(b'a', 1), (b'W', 2)],
     &[(b'Z', 0), (b'a', 1), (b'b', 1), (b'c', 1)],
     &[(b'T', 3)],
+    &[(b'A', AMBIGUOUS)],
+    &[(b'a', 1), (b'A', AMBIGUOUS), (b'B', AMBIGUOUS)],
 ];
 
-pub const PAIRS: u64 = (4 * 7) * (4 * 7) * 3 * 8 * 4;
+pub const PAIRS: u64 = 2 * (4 * 9) * (4 * 9) * 3 * 8 * 4;
 
-/// Two titles of every alignment in up to seven columns, with and without side borders.
+/// Two titles of every alignment in up to seven columns, with and without side borders, each
+/// ambiguous width read narrow and wide.
 pub fn pair(number: u64) -> (Input, &'static [Call]) {
     let mut digits = Digits(number);
     let mut input = on_screen(8, 2);
+    read(&mut input, &mut digits);
     for _ in 0..2 {
         input.titles.push(head(digits.below(4) as u32, 2));
         let glyphs = digits.of(&TITLES);
@@ -111,7 +115,7 @@ pub fn pair(number: u64) -> (Input, &'static [Call]) {
     input.block.border_left = digits.below(2) as u8;
     input.block.border_right = digits.below(2) as u8;
     input.area = Area { x: 0, y: 0, width: digits.below(8) as u16, height: 2 };
-    (input, &[Call::DrawBlock])
+    asked(input, &[Call::DrawBlock])
 }
 
 /// A screen whose cells all differ, five styles, and a distinct symbol for each part.

@@ -1,13 +1,14 @@
 //! Every text of a few glyphs.
 
-use super::{Digits, cells};
+use super::{Digits, asked, cells, read};
 use crate::input::{Call, Input};
 use crate::raw::Area;
-use crate::records::{glyph, head};
+use crate::records::{AMBIGUOUS, glyph, head};
 
-/// Width 1, space, width 2, width 3, zero-width solid, zero-width space, space of width 2, as
-/// (width, whitespace); one more kind is a centred head.
-const KINDS: [(u32, u32); 7] = [(1, 0), (1, 1), (2, 0), (3, 0), (0, 0), (0, 1), (2, 1)];
+/// Width 1, space, width 2, width 3, zero-width solid, zero-width space, space of width 2,
+/// ambiguous, as (width code, whitespace); one more kind is a centred head.
+const KINDS: [(u32, u32); 8] =
+    [(1, 0), (1, 1), (2, 0), (3, 0), (0, 0), (0, 1), (2, 1), (AMBIGUOUS, 0)];
 const ALL_KINDS: u64 = KINDS.len() as u64 + 1;
 
 /// Returns the number of texts with up to `most` records after the first head.
@@ -36,17 +37,19 @@ fn records(mut number: u64) -> Vec<u32> {
     records
 }
 
+const READINGS: u64 = 2;
 const LIMITS: u64 = 6;
 const WRAPS: u64 = 3;
 
 pub fn count(most: u32) -> u64 {
-    texts(most) * LIMITS * WRAPS
+    texts(most) * READINGS * LIMITS * WRAPS
 }
 
 /// A text at a limit of 0 to 5, unwrapped, wrapped and trimmed, with a list longer than its lines.
 pub fn text(number: u64) -> (Input, &'static [Call]) {
     let mut digits = Digits(number);
     let mut input = Input::plain();
+    read(&mut input, &mut digits);
     input.limit = digits.below(LIMITS) as u16;
     input.settings.wrap = digits.below(WRAPS) as u8;
     input.settings.alignment = (digits.0 % 3) as u8;
@@ -58,7 +61,7 @@ pub fn text(number: u64) -> (Input, &'static [Call]) {
     } else {
         &[Call::ListLines, Call::Tally, Call::LineCount]
     };
-    (input, calls)
+    asked(input, calls)
 }
 
 /// Unwrapped at a column, wrapped, trimmed.
@@ -68,13 +71,14 @@ const HEIGHTS: u64 = 2;
 const SCROLLS: u64 = 3;
 
 pub fn notice_count(most: u32) -> u64 {
-    texts(most) * 3 * METHODS.len() as u64 * WIDTHS * HEIGHTS * SCROLLS * 2
+    texts(most) * READINGS * 3 * METHODS.len() as u64 * WIDTHS * HEIGHTS * SCROLLS * 2
 }
 
 /// A text without a frame, in an area with free columns on its right on the screen, or without.
 pub fn notice(number: u64) -> (Input, &'static [Call]) {
     let mut digits = Digits(number);
     let mut input = Input::plain();
+    read(&mut input, &mut digits);
     input.settings.alignment = digits.below(3) as u8;
     (input.settings.wrap, input.settings.column) = digits.of(&METHODS);
     let [width, height] = [1 + digits.below(WIDTHS), 1 + digits.below(HEIGHTS)];
@@ -85,5 +89,5 @@ pub fn notice(number: u64) -> (Input, &'static [Call]) {
     input.cells = cells(input.columns * input.rows);
     input.styles = vec![0, 1 << 63 | 5 << 55 | 3 << 37 | 4 << 28, 1 << 54 | 6 << 46];
     (input.settings.style, input.settings.text_style) = (2, 1);
-    (input, &[Call::DrawNotice, Call::Pages])
+    asked(input, &[Call::DrawNotice, Call::Pages])
 }

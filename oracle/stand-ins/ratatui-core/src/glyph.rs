@@ -46,7 +46,17 @@ impl Glyph {
 
     /// Returns the symbol string of this glyph.
     pub fn encode(self) -> String {
-        format!("{:08x}{:08x}", self.record, self.number)
+        let mut symbol = String::with_capacity(SYMBOL_LENGTH);
+        self.append_to(&mut symbol);
+        symbol
+    }
+
+    /// Appends the symbol string of this glyph.
+    pub fn append_to(self, symbols: &mut String) {
+        for number in [self.record, self.number] {
+            let digits = (0..8).rev().map(|place| number >> (4 * place) & 15);
+            symbols.extend(digits.filter_map(|digit| char::from_digit(digit, 16)));
+        }
     }
 
     /// Returns the glyph of a symbol string. The empty string, which `LineTruncator` substitutes

@@ -8,6 +8,7 @@ use super::settings::{alignment, borders, framed, position};
 use super::shadows::shadow;
 use super::words::{four_on, words};
 use crate::random::{below, next, seed};
+use crate::texts::case::ambiguous_of;
 
 /// Returns the case with a number on a screen of up to 8 × 6 cells.
 pub fn small(number: u32) -> Case {
@@ -29,6 +30,7 @@ fn case(number: u32, columns: u16, rows: u16, reach: u32, x: u32) -> Case {
         block: block(number, styles, reach, Padding::uniform(1), four_on(four_on(y))),
         area: area(y, columns, rows),
         titles: Vec::new(),
+        ambiguous: ambiguous_of(below(x, 2)),
         columns,
         rows,
         styles: words(styles, 28, seed(x)),

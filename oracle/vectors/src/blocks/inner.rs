@@ -1,7 +1,7 @@
 //! Inner areas: every vertical axis with every kind of titles. Horizontal axes are random, and each
 //! occurs.
 
-use oracle::{Block, Borders, Padding, Rect};
+use oracle::{AmbiguousWidth, Block, Borders, Padding, Rect};
 
 use super::Case;
 use super::settings::{framed, position};
@@ -47,6 +47,7 @@ pub fn case(number: u32) -> Case {
         block: block(number / 5, &across, &down, x),
         area: Rect::new(across.place, down.place, across.size, down.size),
         titles: titles(number % 5, x),
+        ambiguous: AmbiguousWidth::Narrow,
         columns: 0,
         rows: 0,
         styles: Vec::new(),

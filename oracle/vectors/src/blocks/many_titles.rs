@@ -3,6 +3,7 @@
 use super::titles::{head, right_head};
 use super::words::four_on;
 use crate::random::{below, next, seed};
+use crate::texts::records::AMBIGUOUS;
 
 /// Returns `count` titles of up to `most` glyphs, whose style numbers are below `styles`, made from
 /// x and the random numbers after it, all of them right titles if `right` is set. About half of the
@@ -53,11 +54,12 @@ fn glyph(x: u32, styles: u32) -> u32 {
     x >> 11 << 10 | width(y) << 7 | below(z, 2) << 6 | below(z, styles)
 }
 
-/// Returns a glyph width: mostly 0 to 3, any width once in sixteen.
+/// Returns a width code: mostly 0 to 3 or ambiguous, any code once in sixteen.
 fn width(x: u32) -> u32 {
     match below(x, 16) {
         0..2 => 0,
-        2..10 => 1,
+        2..8 => 1,
+        8..10 => AMBIGUOUS,
         10..13 => 2,
         13..15 => 3,
         _ => below(next(x), 8),

@@ -8,6 +8,7 @@ use super::drawn::block;
 use super::many_titles::many_titles;
 use super::words::{four_on, words};
 use crate::random::{below, next, seed};
+use crate::texts::case::ambiguous_of;
 
 /// Returns the case with a number on a screen of up to 40 × 5 cells, with titles of up to 16
 /// glyphs, all right titles if `right` is set.
@@ -44,6 +45,7 @@ fn case(number: u32, columns: u16, rows: u16, most: u32, right: bool, x: u32) ->
         block: block(number, styles, 4, Padding::uniform(1), four_on(four_on(y))),
         area: titled_area(number / 384, y, columns, rows),
         titles: many_titles(count(z), glyphs, right, styles, four_on(z)),
+        ambiguous: ambiguous_of(below(x, 2)),
         columns,
         rows,
         styles: words(styles, 28, seed(x)),

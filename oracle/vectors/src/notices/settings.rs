@@ -5,6 +5,7 @@ use oracle::{Block, Notice, Padding, Wrap};
 use crate::blocks::settings::alignment;
 use crate::blocks::words::four_on;
 use crate::random::{below, next};
+use crate::texts::case::ambiguous_of;
 
 /// Returns a notice with a block, made from x and the random numbers after it.
 pub fn notice(block: Block, x: u32) -> Notice {
@@ -17,6 +18,7 @@ pub fn notice(block: Block, x: u32) -> Notice {
         text_style: below(b, 64) as u8,
         alignment: alignment(below(c, 3)),
         wrap: wrap(d),
+        ambiguous: ambiguous_of(below(four_on(four_on(d)), 2)),
         scroll: scrolled(four_on(d), 4),
     }
 }

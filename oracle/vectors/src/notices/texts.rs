@@ -14,7 +14,7 @@ pub fn text(most: u32, x: u32) -> Vec<u32> {
     case::text(length(d, most), &manner, next(next(d)))
 }
 
-/// Returns the exclusive bound of glyph widths: mostly widths up to 3, any width once in eight.
+/// Returns the exclusive bound of width codes: mostly codes up to 3, any code once in eight.
 fn widths(x: u32) -> u32 {
     match below(x, 8) {
         0..2 => 2,

@@ -1,6 +1,6 @@
 //! Test cases and random texts.
 
-use oracle::Alignment;
+use oracle::{Alignment, AmbiguousWidth};
 
 use super::records;
 use crate::random::{below, next};
@@ -10,14 +10,15 @@ use crate::random::{below, next};
 pub struct Case {
     pub number: u32,
     pub text: Vec<u32>,
+    pub ambiguous: AmbiguousWidth,
     pub default_alignment: Alignment,
     pub limit: u16,
     pub trim: bool,
     pub column: u16,
 }
 
-/// Distribution of a random text: one record in `heads` is a head, widths are below `widths`, and
-/// one glyph in `spaces` is whitespace.
+/// Distribution of a random text: one record in `heads` is a head, widths are below `widths` or
+/// ambiguous, each as often, and one glyph in `spaces` is whitespace.
 pub struct Manner {
     pub heads: u32,
     pub widths: u32,
@@ -31,6 +32,11 @@ pub fn alignment(number: u32) -> Alignment {
         1 => Alignment::Center,
         _ => Alignment::Right,
     }
+}
+
+/// Returns a reading of ambiguous widths: even numbers are narrow, odd ones wide.
+pub fn ambiguous_of(number: u32) -> AmbiguousWidth {
+    if number.is_multiple_of(2) { AmbiguousWidth::Narrow } else { AmbiguousWidth::Wide }
 }
 
 /// Returns a text of `length` random records.
@@ -53,5 +59,11 @@ fn any_record(place: u32, x: u32, manner: &Manner) -> u32 {
         return records::head(below(second, 4));
     }
     let space = u32::from(below(third, manner.spaces) == 0);
-    records::glyph(below(second, manner.widths), space, third)
+    records::glyph(width(second, manner.widths), space, third)
+}
+
+/// Returns a width code: below `widths`, or ambiguous.
+fn width(x: u32, widths: u32) -> u32 {
+    let width = below(x, widths + 1);
+    if width == widths { records::AMBIGUOUS } else { width }
 }

@@ -1,6 +1,6 @@
 //! Random texts of up to 16,384 records, at limits 1 to 20, 80 and 4,096, and columns below 8,192.
 
-use super::case::{Case, Manner, alignment, text};
+use super::case::{Case, Manner, alignment, ambiguous_of, text};
 use crate::random::{below, next, seed};
 
 /// One record in this many is a head.
@@ -22,6 +22,7 @@ pub fn case(number: u32) -> Case {
     Case {
         number,
         text: text(length(number, d), &manner, f),
+        ambiguous: ambiguous_of(number / 6),
         default_alignment: alignment(number % 3),
         limit: limit(below(e, 26)),
         trim: number.is_multiple_of(2),

@@ -15,16 +15,18 @@ pub const QUESTIONS: [Question<Case>; 4] = [
 ];
 
 fn wrapped_lines(case: &Case) -> Outcome<u32> {
-    oracle::wrapped_lines(&case.text, case.default_alignment, case.limit, case.trim)
+    let Case { ref text, ambiguous, default_alignment, limit, trim, .. } = *case;
+    oracle::wrapped_lines(text, ambiguous, default_alignment, limit, trim)
         .map(|lines| sums::sum_entries(lines.iter().map(ComposedLine::packed)))
 }
 
 fn counts(case: &Case) -> Outcome<u32> {
-    oracle::tally(&case.text, case.limit, case.trim).map(sums::sum_counts)
+    oracle::tally(&case.text, case.ambiguous, case.limit, case.trim).map(sums::sum_counts)
 }
 
 fn truncated_lines(case: &Case) -> Outcome<u32> {
-    oracle::truncated_lines(&case.text, case.default_alignment, case.limit, case.column)
+    let Case { ref text, ambiguous, default_alignment, limit, column, .. } = *case;
+    oracle::truncated_lines(text, ambiguous, default_alignment, limit, column)
         .map(|lines| sums::sum_lines(&lines))
 }
 
@@ -32,11 +34,12 @@ fn truncated_lines(case: &Case) -> Outcome<u32> {
 /// the inner-area case with the same number.
 fn measures(case: &Case) -> Outcome<u32> {
     let blocks::Case { block, titles, .. } = blocks::inner::case(case.number);
+    let Case { ref text, ambiguous, limit, .. } = *case;
     let (wrapped, unwrapped) = (Wrap::On { trim: case.trim }, Wrap::Off { column: case.column });
-    let rows = |wrap| oracle::line_count(&case.text, &titles, block, wrap, case.limit);
+    let rows = |wrap| oracle::line_count(text, ambiguous, &titles, block, wrap, limit);
     rows(wrapped).and_then(|wrapped| {
         rows(unwrapped).and_then(|unwrapped| {
-            oracle::line_width(&case.text, &titles, block)
+            oracle::line_width(text, ambiguous, &titles, block)
                 .map(|width| sums::sum_numbers([wrapped, unwrapped, width]))
         })
     })

@@ -1,5 +1,8 @@
 //! Records of the test texts.
 
+/// The width code of an ambiguous glyph.
+pub const AMBIGUOUS: u32 = 7;
+
 /// Returns a head with an alignment.
 pub fn head(alignment: u32) -> u32 {
     1 << 31 | alignment << 29

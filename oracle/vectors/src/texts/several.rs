@@ -1,6 +1,6 @@
 //! Random texts of several short text lines, at limits 0 to 8 and columns 0 to 9.
 
-use super::case::{Case, Manner, alignment, text};
+use super::case::{Case, Manner, alignment, ambiguous_of, text};
 use crate::random::{below, next, seed};
 
 /// Returns the case with a number.
@@ -16,6 +16,7 @@ pub fn case(number: u32) -> Case {
     Case {
         number,
         text: text(below(d, 25), &manner, f),
+        ambiguous: ambiguous_of(number / 6),
         default_alignment: alignment(number % 3),
         limit: below(e, 9) as u16,
         trim: number.is_multiple_of(2),

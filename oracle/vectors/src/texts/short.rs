@@ -2,7 +2,7 @@
 
 use oracle::Alignment;
 
-use super::case::Case;
+use super::case::{Case, ambiguous_of};
 use super::records;
 
 /// Returns the case with a number. Each text line has ten cases, at columns 0 to 9.
@@ -10,6 +10,7 @@ pub fn case(number: u32) -> Case {
     Case {
         number,
         text: line(number / 10),
+        ambiguous: ambiguous_of(number / 10),
         default_alignment: Alignment::Left,
         limit: (1 + number % 10 / 2) as u16,
         trim: number.is_multiple_of(2),
@@ -29,7 +30,9 @@ fn line(number: u32) -> Vec<u32> {
     text
 }
 
-/// Returns the glyph of a kind: 0 to 3 are solid of that width, 4 to 6 whitespace of width 0 to 2.
+/// Returns the glyph of a kind: 0, 1 and 3 are solid of that width, 2 is solid and ambiguous, 4 to
+/// 6 are whitespace of width 0 to 2.
 fn glyph(kind: u32, x: u32) -> u32 {
-    records::glyph(kind % 4, kind / 4, x)
+    let width = if kind == 2 { records::AMBIGUOUS } else { kind % 4 };
+    records::glyph(width, kind / 4, x)
 }

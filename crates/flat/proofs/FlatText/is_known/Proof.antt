@@ -13,9 +13,12 @@ any-unnamed-requires c κs = search needs
 returns : tie.Need-returns
 returns c = search texts
 
+ambiguous-known-requires : tie.Need-ambiguous-known-requires
+ambiguous-known-requires c κs = search needs
+
 returns-2 : tie.Need-returns-2
 returns-2 c = search texts
 
 pub is-known-spec : {M : Type 1} → statement M
 is-known-spec =
-    tie.close (tie.spec slice-aggregate-any-unnamed any-unnamed-requires returns returns-2)
+    tie.close (tie.spec slice-aggregate-any-unnamed any-unnamed-requires returns ambiguous-known-requires returns-2)

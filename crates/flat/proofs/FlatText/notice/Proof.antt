@@ -10,12 +10,16 @@ alignment-named-requires c κs = search needs
 named-wrap-requires : tie.Need-named-wrap-requires
 named-wrap-requires c κs = search needs
 
+ambiguous-named-requires : tie.Need-ambiguous-named-requires
+ambiguous-named-requires c κs = search needs
+
 block-requires : tie.Need-block-requires
 block-requires c κs = search needs
 
 returns : tie.Need-returns
-returns c = notice-from _ _ _ _ _ (c .block .ensures) (c .before .before .alignment-named .ensures) (c .before .named-wrap .ensures)
+returns c = notice-from _ _ _ _ _ _ (c .block .ensures) (c .before .before .before .alignment-named .ensures) (c .before .before .named-wrap .ensures)
+    (c .before .ambiguous-named .ensures)
 
 pub notice-spec : {M : Type 1} → statement M
 notice-spec =
-    tie.close (tie.spec alignment-named-requires named-wrap-requires block-requires returns)
+    tie.close (tie.spec alignment-named-requires named-wrap-requires ambiguous-named-requires block-requires returns)

@@ -4,6 +4,9 @@ use borrow.Author.Needs.{needs}
 use Rattle.preview_run.proofs.showing.show_widened.Statement.{statement}
 use Rattle.preview_run.proofs.showing.show_widened.Tie as tie
 
+ambiguous-named-requires : tie.Need-ambiguous-named-requires
+ambiguous-named-requires c κs = search needs
+
 widen-requires : tie.Need-widen-requires
 widen-requires c κs = search needs
 
@@ -44,6 +47,7 @@ pub show-widened-spec : {M : Type 1} → statement M
 show-widened-spec =
     tie.close
     (tie.spec
+    ambiguous-named-requires
     widen-requires
     widen-requires-2
     least-requires

@@ -8,10 +8,10 @@ use Rattle.preview_sheet.proofs.widths.widen.Statement.{statement}
 use Rattle.preview_sheet.proofs.widths.widen.Tie as tie
 
 abbrev Inv-loop : tie.InvT-loop
-Inv-loop records wide₀ i₀ wide i = Changing (λ old word. widened word) wide₀ records wide i
+Inv-loop records ambiguous wide₀ i₀ wide i = Changing (λ old word. widened ambiguous word) wide₀ records wide i
 
 abbrev μ-loop : tie.MeasureT-loop
-μ-loop records wide₀ i₀ wide i = length records - i
+μ-loop records ambiguous wide₀ i₀ wide i = length records - i
 
 loop-holds : tie.Need-loop-holds Inv-loop μ-loop
 loop-holds c = search (changing, needs)

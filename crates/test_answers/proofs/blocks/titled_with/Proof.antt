@@ -23,6 +23,12 @@ manner-requires c κs = search needs
 write-many-requires : tie.Need-write-many-requires
 write-many-requires c κs = search needs
 
+below-requires : tie.Need-below-requires
+below-requires c κs = search needs
+
+ambiguous-of-requires : tie.Need-ambiguous-of-requires
+ambiguous-of-requires c κs = search needs
+
 slice-reshare-prefix-sum-drawn : tie.Need-slice-reshare-prefix-sum-drawn
 slice-reshare-prefix-sum-drawn c = search needs
 
@@ -51,6 +57,8 @@ titled-with-spec =
     four-on-requires
     manner-requires
     write-many-requires
+    below-requires
+    ambiguous-of-requires
     slice-reshare-prefix-sum-drawn
     slice-aggregate-sum-drawn
     sum-drawn-requires

@@ -1,0 +1,45 @@
+-- Document 02, C-11: "The crate is given each code 7 as the 1 or 2 read for it." For each call that reads widths: read by setting
+-- a, it answers and leaves cells and list as it does on the same records with each code 7 replaced by the 1 or 2 that a reads,
+-- whatever setting b these are read by.
+use Prim.Native.Nat.{ℕ}
+use mathlib.Core.Path.{_≡_}
+use mathlib.Core.Bool.{Bool}
+use mathlib.Core.List.{List}
+use Rattle.text.specs.declared.Alignment.{Alignment}
+use Rattle.text.specs.declared.AmbiguousWidth.{AmbiguousWidth}
+use Rattle.layout.specs.declared.Rect.{Rect}
+use Rattle.line_composer.specs.declared.Wrap.{Wrap}
+use Rattle.block.specs.declared.Block.{Block}
+use Rattle.paragraph.specs.declared.Notice.{Notice}
+use Rattle.list_lines.specs.Call as list
+use Rattle.tally.specs.Call as tally
+use Rattle.measure.specs.LineCount as count
+use Rattle.measure.specs.LineWidth as width
+use Rattle.draw_block.specs.Call as block
+use Rattle.draw_notice.specs.Call as notice
+use Rattle.count_pages.specs.Call as pages
+use Rattle.ambiguous_resolved.specs.Replaced.{replaced, readAs}
+
+pub record AmbiguousResolved (a b : AmbiguousWidth) : Type 0 where
+  -- a list call writes the same entries
+  pub listed : (text : List ℕ) (default : Alignment) (limit : ℕ) (trim : Bool) (entries : List ℕ) →
+      let old = list.callOf text a default limit trim entries in
+      let new = list.callOf (replaced a text) b default limit trim entries in
+      (list.answerOf new ≡ list.answerOf old) × (list.listAfter new ≡ list.listAfter old)
+  pub tallied : (text : List ℕ) (limit : ℕ) (trim : Bool) →
+      tally.answerOf (tally.callOf (replaced a text) b limit trim) ≡ tally.answerOf (tally.callOf text a limit trim)
+  -- `line_count` and `line_width`, which read no width of a title
+  pub counted : (text titles : List ℕ) (framed : Block) (wrap : Wrap) (columns : ℕ) →
+      count.answerOf (count.callOf (replaced a text) b titles framed wrap columns) ≡ count.answerOf (count.callOf text a titles framed wrap columns)
+  pub measured : (text titles : List ℕ) (framed : Block) →
+      width.answerOf (width.callOf (replaced a text) b titles framed) ≡ width.answerOf (width.callOf text a titles framed)
+  -- a block is drawn alike, with the codes of its titles replaced
+  pub framed : (columns rows : ℕ) (cells styles titles : List ℕ) (area : Rect) (framed : Block) →
+      let old = block.callOf columns rows cells styles titles a area framed in
+      let new = block.callOf columns rows cells styles (replaced a titles) b area framed in
+      (block.answerOf new ≡ block.answerOf old) × (block.cellsAfter new ≡ block.cellsAfter old)
+  -- a notice, with the codes of its text and titles replaced; so are its pages
+  pub drawn : (columns rows : ℕ) (cells styles text titles : List ℕ) (area : Rect) (n : Notice) →
+      let old = notice.callOf columns rows cells styles text titles area (readAs a n) in
+      let new = notice.callOf columns rows cells styles (replaced a text) (replaced a titles) area (readAs b n) in
+      (notice.answerOf new ≡ notice.answerOf old) × (notice.cellsAfter new ≡ notice.cellsAfter old) × (pages.answerOf new ≡ pages.answerOf old)
