@@ -8,6 +8,7 @@ use text::head;
 use text::line;
 ghost use mathlib.Core.Path.{_≡_};
 ghost use Rattle.text.specs.Line.{notOpening, Opens};
+ghost use Rattle.text.specs.Lists.{countOf};
 ghost use Rattle.refuse.specs.Refusal.{firstCause};
 ghost use Rattle.refuse.specs.Causes.{textTooLong, textHeadWrong, textHeadsWrong, textCauses, lineCauses, titlesWrong, styleNumbersWrong, glyphStyles};
 ghost use Rattle.refuse.specs.ScanExtra.{titleWrong, scanWrong, glyphNoStyle};
@@ -39,6 +40,21 @@ fn head_wrong(word: u32) -> bool
     false
 }
 
+// Counts the wrong heads of a text. It doesn't stop at the first: so the compiler can take several records at a time.
+fn wrong_heads(text: &[u32]) -> usize
+    ensures { λ r. ⌜ r ≡ countOf textHeadWrong (now (text .entry)) ⌝ }
+{
+    let mut count = 0;
+    let mut i = 0;
+    while i < text.len() {
+        if head_wrong(text[i]) {
+            count += 1;
+        }
+        i += 1;
+    }
+    count
+}
+
 // Cause 4: whether a non-empty text doesn't open with a head, or a head's zeros or position aren't 0.
 pub fn text_heads_wrong(text: &[u32]) -> bool
     ensures { λ r. ⌜ r ≡ textHeadsWrong (now (text .entry)) ⌝ }
@@ -46,14 +62,7 @@ pub fn text_heads_wrong(text: &[u32]) -> bool
     if opens_without_head(text) {
         return true;
     }
-    let mut i = 0;
-    while i < text.len() {
-        if head_wrong(text[i]) {
-            return true;
-        }
-        i += 1;
-    }
-    false
+    0 < wrong_heads(text)
 }
 
 // Returns the verdict of causes 3 and 4, for calls with a text.
@@ -135,16 +144,24 @@ fn glyph_has_no_style(count: usize, word: u32) -> bool
     count <= glyph::style(word) as usize
 }
 
+// Counts the glyphs whose style number isn't below the count of styles; like `wrong_heads`, it doesn't stop at the first.
+fn glyphs_without_style(count: usize, records: &[u32]) -> usize
+    ensures { λ r. ⌜ r ≡ countOf (glyphNoStyle count) (now (records .entry)) ⌝ }
+{
+    let mut wrong = 0;
+    let mut i = 0;
+    while i < records.len() {
+        if glyph_has_no_style(count, records[i]) {
+            wrong += 1;
+        }
+        i += 1;
+    }
+    wrong
+}
+
 // Cause 6 for a text or for titles: whether a glyph's style number isn't below the count of styles.
 pub fn glyph_styles_wrong(count: usize, records: &[u32]) -> bool
     ensures { λ r. ⌜ r ≡ styleNumbersWrong count (glyphStyles (now (records .entry))) ⌝ }
 {
-    let mut i = 0;
-    while i < records.len() {
-        if glyph_has_no_style(count, records[i]) {
-            return true;
-        }
-        i += 1;
-    }
-    false
+    0 < glyphs_without_style(count, records)
 }

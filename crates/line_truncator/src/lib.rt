@@ -2,6 +2,7 @@
 
 use text::Alignment;
 use text::glyph;
+use wrapping::GlyphWidth;
 use wrapping::Rule;
 use wrapping::Run;
 ghost use mathlib.Core.Path.{_≡_};
@@ -31,19 +32,20 @@ fn shown_run(rule: Rule, offset: usize, records: &[u32]) -> Run
     let mut i = 0;
     while i < records.len() {
         let at = i;
-        let w = rule.width(records[at]) as usize;
         i += 1;
-        if rule.limit < w {
+        let GlyphWidth::Fits(w) = rule.fitting(records[at]) else {
             continue;
-        }
+        };
         if rule.limit < run.width + w {
             return run;
         }
-        if 0 < offset && w <= offset {
-            offset -= w;
-            continue;
+        if 0 < offset {
+            if w <= offset {
+                offset -= w;
+                continue;
+            }
+            offset = 0;
         }
-        offset = 0;
         run = run.push(at, w);
     }
     run

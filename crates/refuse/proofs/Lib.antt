@@ -5,3 +5,4 @@ pub mod Calls
 pub mod Accepted
 pub mod Lowest
 pub mod Bounds
+pub mod Counts

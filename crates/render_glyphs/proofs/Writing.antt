@@ -1,11 +1,13 @@
 -- The loop of `write_glyphs`: the glyphs of a line written on its row in turn.
-use Prim.Native.Nat.{ℕ, _+_, _*_, _≤_, _<_}
+use Prim.Native.Nat.{ℕ, _+_, _*_, _≤_, _<_, _^_}
 use mathlib.Core.Path.{_≡_, refl, sym, ap, _∙_}
 use mathlib.Core.Bool.{Bool, true, false, cond}
 use mathlib.Core.List.{List, [], _∷_}
 use native.Mathlib.Nat.{add-zero, add-assoc}
 use native.Mathlib.Numerals.{add-one}
 use native.Mathlib.Omega.{arith}
+use mir.Syntax.{w64}
+use mir.Val.{Fits as Holds}
 use borrow.Author.Tests.{lt-ltb, le-ltb, le-leb, lt-leb}
 use lib.Dec.{ltb}
 use lib.ListN.{length, getD, set, drop, drop-of-length-le}
@@ -16,9 +18,13 @@ use Rattle.text.specs.Line.{Start, numbered, startsFrom}
 use Rattle.text.specs.Lists.{countOf}
 use Rattle.text.proofs.Reading.{width-most}
 use Rattle.wrapping.specs.declared.Rule.{Rule}
+use Rattle.wrapping.specs.declared.GlyphWidth.{GlyphWidth}
+use Rattle.wrapping.specs.declared.GlyphWidth.the-variants.{Fits, OverWide}
+use Rattle.wrapping.specs.RunsExtra.{fittingOf}
 use Rattle.wrapping.specs.Wrapping.{overWide, notOverWide}
 use Rattle.buffer.specs.Drawing.{changed}
 use Rattle.buffer.proofs.Changed.{length-changed, changed-same, changed-none, changed-then}
+use Rattle.wrapping.proofs.Fittings.{fits-read-as, fits-limit, fits-most, over-limit}
 use Rattle.line_composer.specs.Places.{isPlaced, isClipped}
 use Rattle.render_glyphs.specs.RenderGlyphs.{glyphOn, glyphsOn}
 use Rattle.render_glyphs.specs.WritingExtra.{glyphCell, startsOf, Wrote}
@@ -95,7 +101,7 @@ module _ (styles : List ℕ) (style : ℕ) (u : Rule) (records old : List ℕ) w
           let t : ltb (u .limit) (widthOf (u .ambiguous) (getD records i 0)) ≡ false = le-ltb (u .limit) (widthOf (u .ambiguous) (getD records i 0)) (omega arith) in
           rw (e, add-one i, drop-cons records i 0 h, t)
 
-      pub writing-skips : u .limit < width → Writing styles style u records old row column placed-count clipped-count (i + 1)
+      writing-skips : u .limit < width → Writing styles style u records old row column placed-count clipped-count (i + 1)
       writing-skips o =
           record {
             reached = omega arith;
@@ -130,9 +136,9 @@ module _ (styles : List ℕ) (style : ℕ) (u : Rule) (records old : List ℕ) w
           }
 
       -- a glyph of width 0 is neither placed nor clipped, and takes no column
-      pub writing-passes : width ≤ u .limit → width ≡ 0 → Writing styles style u records old row column placed-count clipped-count (i + 1)
+      width-passes : width ≤ u .limit → width ≡ 0 → Writing styles style u records old row column placed-count clipped-count (i + 1)
       unfolding isPlaced isClipped
-      writing-passes f z =
+      width-passes f z =
           let none : ltb 0 (widthOf (u .ambiguous) (getD records i 0)) ≡ false = le-ltb 0 (widthOf (u .ambiguous) (getD records i 0)) (omega arith) in
           let out : isPlaced (length old) (startOf (u .ambiguous) 0 column (getD records i 0)) ≡ false = rw none in
           rw (z, add-zero) at
@@ -145,24 +151,51 @@ module _ (styles : List ℕ) (style : ℕ) (u : Rule) (records old : List ℕ) w
 
         module _ (next : List ℕ) (m k : ℕ) where
           -- a glyph that starts left of the edge is placed
-          pub writing-places : (written : List ℕ) → column < length row
+          width-places : (written : List ℕ) → column < length row
               → written ≡ set row column (glyphCell styles style (getD records i 0) (getD row column 0))
               → next ≡ written → m ≡ placed-count + 1 → k ≡ clipped-count
               → Writing styles style u records old next (column + width) m k (i + 1)
           unfolding isPlaced isClipped
-          writing-places written b d g p q =
+          width-places written b d g p q =
               let c : column < length old = omega (arith, w .same-length) in
               turned next true false m k f (rw some (lt-ltb _ _ c)) (rw some (lt-leb _ _ c)) (omega arith) (omega arith) (omega arith)
               (g ∙ d ∙ (rw (w .same-length) at (glyph-placed (u .ambiguous) styles style column (getD records i 0) row b (omega (arith, e, n)))))
 
           -- any other is clipped
-          pub writing-clips : length row ≤ column → next ≡ row → m ≡ placed-count → k ≡ clipped-count + 1
+          width-clips : length row ≤ column → next ≡ row → m ≡ placed-count → k ≡ clipped-count + 1
               → Writing styles style u records old next (column + width) m k (i + 1)
           unfolding isPlaced isClipped
-          writing-clips b g p q =
+          width-clips b g p q =
               let c : length old ≤ column = omega (arith, w .same-length) in
               let out : isPlaced (length old) (startOf (u .ambiguous) 0 column (getD records i 0)) ≡ false = rw some (le-ltb _ _ c) in
               turned next false true m k f (rw some (le-ltb _ _ c)) (rw some (le-leb _ _ c)) (omega arith) (omega arith) (omega arith)
               (g ∙ unplaced styles style (length old) (startOf (u .ambiguous) 0 column (getD records i 0)) row out)
 
-pub ruleset writing = (writing-starts, writing-done, writing-skips, writing-passes, writing-places, writing-clips)
+    -- what `fitting` answers of record i
+    module _ (g : GlyphWidth) (h : i < length records) (d : g ≡ fittingOf u (getD records i 0)) where
+      pub writing-over : g ≡ OverWide → Writing styles style u records old row column placed-count clipped-count (i + 1)
+      writing-over k = writing-skips h (widthOf (u .ambiguous) (getD records i 0)) refl (over-limit u (getD records i 0) g d k)
+
+      module _ (width : ℕ) (k : g ≡ Fits width) where
+        reads : width ≡ widthOf (u .ambiguous) (getD records i 0)
+        reads = fits-read-as u (getD records i 0) g d width k
+
+        in-limit : width ≤ u .limit
+        in-limit = fits-limit u (getD records i 0) g d width k
+
+        pub writing-sum : length records < 2 ^ 28 → Holds w64 (column + width)
+        writing-sum few = record { fits = omega (arith, fits-most u (getD records i 0) g d width k, w .near, w .reached) }
+
+        pub writing-passes : width ≡ 0 → Writing styles style u records old row column placed-count clipped-count (i + 1)
+        writing-passes = width-passes h width reads in-limit
+
+        module _ (some : width ≡ 0 → ⊥) (next : List ℕ) (m n : ℕ) where
+          pub writing-places : (written : List ℕ) → column < length row → written ≡ set row column (glyphCell styles style (getD records i 0) (getD row column 0))
+              → next ≡ written → m ≡ placed-count + 1 → n ≡ clipped-count → Writing styles style u records old next (column + width) m n (i + 1)
+          writing-places = width-places h width reads in-limit some next m n
+
+          pub writing-clips : length row ≤ column → next ≡ row → m ≡ placed-count → n ≡ clipped-count + 1
+              → Writing styles style u records old next (column + width) m n (i + 1)
+          writing-clips = width-clips h width reads in-limit some next m n
+
+pub ruleset writing = (writing-starts, writing-done, writing-over, writing-passes, writing-places, writing-clips)

@@ -1,5 +1,6 @@
 // Writing of a composed line's glyphs on a row: the loop of paragraph.rs: `render_line`.
 use text::glyph;
+use wrapping::GlyphWidth;
 use wrapping::Rule;
 ghost use mathlib.Core.Path.{_≡_};
 ghost use Prim.Native.Nat.{_<_};
@@ -45,11 +46,10 @@ pub fn write_glyphs(
     let mut i = 0;
     while i < records.len() {
         let word = records[i];
-        let width = rule.width(word) as usize;
         i += 1;
-        if rule.limit < width {
+        let GlyphWidth::Fits(width) = rule.fitting(word) else {
             continue;
-        }
+        };
         if width == 0 {
             continue;
         }

@@ -3,3 +3,4 @@ pub mod Accounted
 pub mod Glyphs
 pub mod EveryGlyph
 pub mod Rest
+pub mod Unread

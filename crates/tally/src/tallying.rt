@@ -2,6 +2,7 @@
 use crate::TallyCounts;
 use crate::TextGlyphCounts;
 use text::head;
+use text::line;
 use wrapping::Rule;
 ghost use mathlib.Core.Path.{_≡_};
 ghost use Rattle.text.specs.Line.{Opens, FewRecords};
@@ -30,6 +31,23 @@ fn glyph_counts(rule: Rule, text: &[u32]) -> TextGlyphCounts
     TextGlyphCounts { glyphs, over_wide }
 }
 
+// Counts the same without reading a width if no glyph can be over-wide.
+fn all_glyph_counts(rule: Rule, text: &[u32]) -> TextGlyphCounts
+    requires { ⌜ FewRecords (now text) ⌝ }
+    ensures { λ r. ⌜ r ≡ glyphCounts rule (now (text .entry)) ⌝ }
+{
+    if rule.limit < 6 {
+        return glyph_counts(rule, text);
+    }
+    let heads = line::count_text_lines(text);
+    let count = text.len() - heads;
+    let glyphs = count as u32;
+    TextGlyphCounts {
+        glyphs,
+        over_wide: 0,
+    }
+}
+
 // Returns the tally of a text. Every glyph is emitted, over-wide or dropped, so the dropped ones are the remainder.
 pub fn text_counts(rule: Rule, text: &[u32]) -> TallyCounts
     requires { ⌜ FewRecords (now text) × Opens (now text) ⌝ }
@@ -46,7 +64,7 @@ pub fn text_counts(rule: Rule, text: &[u32]) -> TallyCounts
         };
     }
     let lines = tally_lines::line_counts(rule, text);
-    let glyphs = glyph_counts(rule, text);
+    let glyphs = all_glyph_counts(rule, text);
     TallyCounts {
         lines: lines.lines,
         placed: lines.placed,

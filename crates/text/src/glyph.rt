@@ -12,7 +12,7 @@ const WIDTHS: u32 = 1 << 3;
 
 pub const STYLES: u32 = 1 << 6;
 
-// Width code of an ambiguous glyph.
+// Width code of an ambiguous glyph; those below it are widths.
 const AMBIGUOUS: u32 = 7;
 
 // Place value of a field's lowest bit.
@@ -29,7 +29,7 @@ pub fn symbol(glyph: u32) -> u32
 }
 
 // The width field as it is packed; `width` reads it.
-fn width_code(glyph: u32) -> u32
+pub fn width_code(glyph: u32) -> u32
     ensures { λ r. ⌜ r ≡ widthCodeOf glyph ⌝ }
 {
     glyph / WIDTH_PLACE % WIDTHS

@@ -11,13 +11,16 @@ use lib.Seq.{drop-cons}
 use Rattle.text.specs.Line.{Glyph, glyphFrom}
 use Rattle.wrapping.specs.declared.Run.{Run}
 use Rattle.wrapping.specs.declared.Rule.{Rule}
+use Rattle.wrapping.specs.declared.GlyphWidth.{GlyphWidth}
+use Rattle.wrapping.specs.declared.GlyphWidth.the-variants.{Fits}
+use Rattle.wrapping.proofs.Fittings.{fits-most}
 use Rattle.word_wrapper.specs.declared.WordWrapper.{WordWrapper}
 use Rattle.word_wrapper.specs.declared.Stepped.{Stepped}
 use Rattle.word_wrapper.specs.declared.Stepped.the-variants.{Emitted, Continued}
 use Rattle.word_wrapper.specs.declared.NextRun.{NextRun}
 use Rattle.word_wrapper.specs.declared.NextRun.the-variants.{OneRun, Done}
 use Rattle.wrapping.specs.Wrapping.{Step, emptied, step}
-use Rattle.wrapping.specs.RunsExtra.{emptyRun, runOf, glyphsIn, Spans}
+use Rattle.wrapping.specs.RunsExtra.{fittingOf, emptyRun, runOf, glyphsIn, Spans}
 use Rattle.pending.specs.declared.LastRun.{LastRun}
 use Rattle.pending.specs.declared.LastRun.the-variants.{Emit}
 use Rattle.pending.specs.TestsExtra.{gatherRun, joins, lastRun}
@@ -70,6 +73,15 @@ pub joined-at : (u : Rule) (s r : WordWrapper) (w : ℕ) (space : Bool) → r �
 unfolding joinIfDueRun joinRun
 joined-at u s r w space e =
     ap (λ (x : WordWrapper). x .at) e ∙ cond-cases (λ (x : WordWrapper). x .at ≡ s .at) (joins u (pendingOf s) w space) (joinRun (u .trim) s) s (λ _. refl) (λ _. refl)
+
+-- before a step, adding a width that fits can't overflow, and the width has three bits
+module _ (u : Rule) (g : GlyphWidth) (x w : ℕ) (d : g ≡ fittingOf u x) (k : g ≡ Fits w) where
+  pub join-fits : (records : List ℕ) (s : WordWrapper) → WrapperInvariant u records s → length records < 2 ^ 28
+      → s .row .width + s .spaces .width + s .word .width + w < 2 ^ 32
+  join-fits records s h few = omega (arith, fits-most u x g d w k, sound-sum u records s h, sound-within u records s h)
+
+  pub fits-eight : w < 8
+  fits-eight = omega (arith, fits-most u x g d w k)
 
 -- after an emit, adding the glyph's width and advancing can't overflow
 module _ (u : Rule) (records : List ℕ) (s r : WordWrapper) (h : WrapperInvariant u records s) (k : length records < 2 ^ 28) (e : r ≡ emitRowRun u records s) where

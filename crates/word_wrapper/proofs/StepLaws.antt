@@ -11,7 +11,10 @@ use Rattle.word_wrapper.specs.declared.WordWrapper.{WordWrapper}
 use Rattle.word_wrapper.specs.declared.Stepped.{Stepped}
 use Rattle.word_wrapper.specs.declared.Stepped.the-variants.{Emitted, Continued}
 use Rattle.word_wrapper.specs.declared.NextRun.the-variants.{OneRun, Done}
-use Rattle.wrapping.specs.RunsExtra.{emptyRun, pushRun, dropRun}
+use Rattle.wrapping.specs.declared.GlyphWidth.{GlyphWidth}
+use Rattle.wrapping.specs.declared.GlyphWidth.the-variants.{Fits, OverWide}
+use Rattle.wrapping.specs.RunsExtra.{fittingOf, emptyRun, pushRun, dropRun}
+use Rattle.wrapping.proofs.Fittings.{fits-read-as, fits-limit, over-limit}
 use Rattle.pending.specs.declared.Pending.{Pending}
 use Rattle.pending.specs.declared.LastRun.{LastRun}
 use Rattle.pending.specs.declared.LastRun.the-variants.{Emit, Nothing}
@@ -83,14 +86,17 @@ module _ (u : Rule) (records : List ℕ) (s r : WordWrapper) (w : ℕ) where
     unfolding emitOrAppendRun
     filled-goes q n = simp (← d, ← f, q, n)
 
-  pub step-wide : (x : ℕ) → u .limit < w → w ≡ widthOf (u .ambiguous) x → r ≡ skipGlyphRun s → Continued r ≡ stepRun u records s x
+  pub step-fills : (g : GlyphWidth) (o : Stepped) (x : ℕ) (space : Bool) → g ≡ fittingOf u x → g ≡ Fits w → space ≡ whitespaceOf x → r ≡ joinIfDueRun u s w space
+      → o ≡ emitOrAppendRun u records r w space → o ≡ stepRun u records s x
   unfolding stepRun
-  step-wide x o e n = simp (← e, lt-ltb (u .limit) w o, n)
+  step-fills g o x space d k f p q =
+      let e : w ≡ widthOf (u .ambiguous) x = fits-read-as u x g d w k in
+      simp (← e, ← f, le-ltb (u .limit) w (fits-limit u x g d w k)) (cc)
 
-  pub step-fills : (o : Stepped) (x : ℕ) (space : Bool) → w ≤ u .limit → w ≡ widthOf (u .ambiguous) x → space ≡ whitespaceOf x → r ≡ joinIfDueRun u s w space → o ≡ emitOrAppendRun u records r w space
-      → o ≡ stepRun u records s x
-  unfolding stepRun
-  step-fills o x space h e f p q = simp (← e, ← f, le-ltb (u .limit) w h) (cc)
+pub step-wide : (u : Rule) (records : List ℕ) (s r : WordWrapper) (g : GlyphWidth) (x : ℕ) → g ≡ fittingOf u x → g ≡ OverWide → r ≡ skipGlyphRun s
+    → Continued r ≡ stepRun u records s x
+unfolding stepRun
+step-wide u records s r g x d k n = simp (lt-ltb (u .limit) (widthOf (u .ambiguous) x) (over-limit u x g d k), n)
 
 -- ---- the text line's end
 

@@ -6,6 +6,7 @@ use num::saturating_sub_usize;
 use pending::LastRun;
 use pending::Pending;
 use text::glyph;
+use wrapping::GlyphWidth;
 use wrapping::Rule;
 use wrapping::Run;
 ghost use mathlib.Core.Path.{_≡_};
@@ -57,15 +58,11 @@ impl WordWrapper {
     {
         let row = self.pending().gather(trim);
         let none = Run::empty();
-        WordWrapper {
-            row,
-            spaces: none,
-            word: none,
-            solid: self.solid,
-            emitted: self.emitted,
-            live: self.live,
-            at: self.at,
-        }
+        let mut next = self;
+        next.row = row;
+        next.spaces = none;
+        next.word = none;
+        next
     }
 
     // Step 2: joins spaces and word to row if the glyph requires it.
@@ -86,19 +83,14 @@ impl WordWrapper {
     {
         let row = self.row;
         let spaces = self.spaces;
-        let word = self.word;
         let room = saturating_sub_usize(rule.limit, row.width);
         let left = spaces.after_fitting(records, rule, room);
         let none = Run::empty();
-        WordWrapper {
-            row: none,
-            spaces: left,
-            word,
-            solid: self.solid,
-            emitted: true,
-            live: self.live,
-            at: self.at,
-        }
+        let mut next = self;
+        next.row = none;
+        next.spaces = left;
+        next.emitted = true;
+        next
     }
 
     // Skips the glyph.
@@ -170,11 +162,10 @@ impl WordWrapper {
     {
         let at = self.at;
         let record = records[at];
-        let w = rule.width(record) as usize;
         let space = glyph::is_whitespace(record);
-        if rule.limit < w {
+        let GlyphWidth::Fits(w) = rule.fitting(record) else {
             return Stepped::Continued(self.skip_glyph());
-        }
+        };
         self.join_if_due(rule, w, space)
             .emit_or_append(rule, records, w, space)
     }

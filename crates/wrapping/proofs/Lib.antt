@@ -5,3 +5,4 @@ pub mod Splits
 pub mod Ways
 pub mod LastLines
 pub mod Renumbering
+pub mod Fittings

@@ -3,13 +3,20 @@ use Prim.Native.Nat.{ℕ, _+_, _≤_}
 use mathlib.Core.Path.{_≡_}
 use mathlib.Core.Bool.{cond}
 use mathlib.Core.List.{List, [], _∷_}
-use lib.Dec.{eqb}
+use lib.Dec.{eqb, ltb}
 use lib.ListN.{length}
 use lib.Seq.{slice}
+use Rattle.text.specs.Record.{widthOf}
 use Rattle.text.specs.Line.{Glyph, numbered, total}
 use Rattle.wrapping.specs.declared.Run.{Run}
 use Rattle.wrapping.specs.declared.Rule.{Rule}
+use Rattle.wrapping.specs.declared.GlyphWidth.{GlyphWidth}
+use Rattle.wrapping.specs.declared.GlyphWidth.the-variants.{Fits, OverWide}
 use Rattle.wrapping.specs.Wrapping.{notOverWide, afterFitting}
+
+-- what a rule reads of a glyph's record
+unfoldable pub fittingOf : Rule → ℕ → GlyphWidth
+fittingOf u r = cond (ltb (u .limit) (widthOf (u .ambiguous) r)) OverWide (Fits (widthOf (u .ambiguous) r))
 
 abbrev pub emptyRun : Run
 emptyRun = record { first = 0; end = 0; width = 0 }

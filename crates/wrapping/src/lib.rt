@@ -4,14 +4,21 @@ mod runs;
 use text::AmbiguousWidth;
 use text::glyph;
 ghost use mathlib.Core.Path.{_≡_};
-ghost use Prim.Native.Nat.{_≤_};
+ghost use Prim.Native.Nat.{_≤_, min};
 ghost use Rattle.text.specs.Record.{widthOf};
+ghost use Rattle.wrapping.specs.RunsExtra.{fittingOf};
 
 // Line width limit, whether lines are trimmed, and how ambiguous glyphs are read.
 pub struct Rule {
     pub limit: usize,
     pub trim: bool,
     pub ambiguous: AmbiguousWidth,
+}
+
+// What a rule reads of a glyph: its width, no more than the limit, or that it is over-wide.
+pub enum GlyphWidth {
+    Fits(usize),
+    OverWide,
 }
 
 impl Rule {
@@ -21,6 +28,32 @@ impl Rule {
     {
         let ambiguous = self.ambiguous;
         glyph::width(word, ambiguous)
+    }
+
+    // Returns the largest width code that is a width and within the limit.
+    fn widest_plain(self) -> usize
+        ensures { λ r. ⌜ r ≡ min (self .limit) 6 ⌝ }
+    {
+        if self.limit < 6 {
+            return self.limit;
+        }
+        6
+    }
+
+    // Returns the width of a glyph as the rule reads it, or that it is over-wide. For most glyphs that takes one comparison: the
+    // setting is read only if the code is ambiguous or exceeds the limit.
+    pub fn fitting(self, word: u32) -> GlyphWidth
+        ensures { λ r. ⌜ r ≡ fittingOf self word ⌝ }
+    {
+        let code = glyph::width_code(word) as usize;
+        if code <= self.widest_plain() {
+            return GlyphWidth::Fits(code);
+        }
+        let w = self.width(word) as usize;
+        if self.limit < w {
+            return GlyphWidth::OverWide;
+        }
+        GlyphWidth::Fits(w)
     }
 }
 

@@ -2,7 +2,7 @@
 use Prim.Native.Nat.{_-_}
 use mathlib.Core.Logic.{⊎-elim}
 use lib.ListN.{length}
-use Rattle.render_glyphs.proofs.Writing.{Writing, writing, writing-places}
+use Rattle.render_glyphs.proofs.Writing.{Writing, writing, writing-sum}
 use borrow.Author.Needs.{needs}
 use Rattle.render_glyphs.proofs.write_glyphs.Statement.{statement}
 use Rattle.render_glyphs.proofs.write_glyphs.Tie as tie
@@ -22,14 +22,17 @@ mul-word c = search needs
 shared-slice-read-word : tie.Need-shared-slice-read-word Inv-loop μ-loop
 shared-slice-read-word c = search needs
 
-width-requires : tie.Need-width-requires Inv-loop μ-loop
-width-requires c κs = search needs
-
-cast-width : tie.Need-cast-width Inv-loop μ-loop
-cast-width c = search needs
-
 add-i : tie.Need-add-i Inv-loop μ-loop
 add-i c = search needs
+
+fitting-requires : tie.Need-fitting-requires Inv-loop μ-loop
+fitting-requires c κs = search needs
+
+enum-known-width : tie.Need-enum-known-width Inv-loop μ-loop
+enum-known-width c = search needs
+
+enum-told : tie.Need-enum-told Inv-loop μ-loop
+enum-told c = search needs
 
 loop-less : tie.Need-loop-less Inv-loop μ-loop
 loop-less c = search needs
@@ -53,21 +56,13 @@ add-clipped : tie.Need-add-clipped Inv-loop μ-loop
 add-clipped c = search needs
 
 add-column : tie.Need-add-column Inv-loop μ-loop
-add-column c = search needs
+add-column c = search writing-sum
 
 loop-less-3 : tie.Need-loop-less-3 Inv-loop μ-loop
 loop-less-3 c = search needs
 
 loop-again-3 : tie.Need-loop-again-3 Inv-loop μ-loop
-loop-again-3 c =
-    let turn = c .before .before .before .before in
-    let inv = turn .before .before .before .loop .inv in
-    ⊎-elim
-    (λ t.
-    writing-places _ _ _ _ _ _ _ _ _ _ inv (search needs) _ (turn .width .ensures .0) (c .before .before .if1 .left) (c .before .if2 .left) _ _ _ _
-    (t .0 .taken) (t .2 .ensures) (t .5) (t .6) (t .7))
-    (λ t. search writing)
-    (c .if3 .came)
+loop-again-3 c = ⊎-elim (λ t. search writing) (λ t. search writing) (c .if2 .came)
 
 same-length : tie.Need-same-length Inv-loop μ-loop
 same-length c = search needs
@@ -84,9 +79,10 @@ write-glyphs-spec =
     loop-holds
     mul-word
     shared-slice-read-word
-    width-requires
-    cast-width
     add-i
+    fitting-requires
+    enum-known-width
+    enum-told
     loop-less
     loop-again
     loop-less-2

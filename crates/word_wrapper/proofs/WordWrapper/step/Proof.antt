@@ -1,6 +1,6 @@
 -- `word_wrapper::WordWrapper::step` meets its contract.
 use Rattle.word_wrapper.proofs.StepLaws.{step-wide, step-fills}
-use Rattle.word_wrapper.proofs.Pulling.{sound-sum, sound-joined, joined-at}
+use Rattle.word_wrapper.proofs.Pulling.{sound-joined, joined-at, join-fits, fits-eight}
 use native.Mathlib.Omega.{arith}
 use borrow.Author.Needs.{needs}
 use Rattle.word_wrapper.proofs.WordWrapper.step.Statement.{statement}
@@ -12,14 +12,17 @@ mul-record c = search needs
 shared-slice-read-record : tie.Need-shared-slice-read-record
 shared-slice-read-record c = search needs
 
-width-requires : tie.Need-width-requires
-width-requires c κs = search needs
-
-cast-w : tie.Need-cast-w
-cast-w c = search needs
-
 is-whitespace-requires : tie.Need-is-whitespace-requires
 is-whitespace-requires c κs = search needs
+
+fitting-requires : tie.Need-fitting-requires
+fitting-requires c κs = search needs
+
+enum-known-w : tie.Need-enum-known-w
+enum-known-w c = search needs
+
+enum-told : tie.Need-enum-told
+enum-told c = search needs
 
 skip-glyph-requires : tie.Need-skip-glyph-requires
 skip-glyph-requires c κs = search needs
@@ -28,10 +31,10 @@ returns : tie.Need-returns
 returns c = search step-wide
 
 join-if-due-requires : tie.Need-join-if-due-requires
-join-if-due-requires c κs = omega (arith, sound-sum)
+join-if-due-requires c κs = search join-fits
 
 emit-or-append-requires : tie.Need-emit-or-append-requires
-emit-or-append-requires c κs = (search sound-joined, omega (arith, joined-at))
+emit-or-append-requires c κs = (search sound-joined, (search needs, omega (arith, joined-at), search fits-eight))
 
 returns-2 : tie.Need-returns-2
 returns-2 c = search step-fills
@@ -42,9 +45,10 @@ step-spec =
     (tie.spec
     mul-record
     shared-slice-read-record
-    width-requires
-    cast-w
     is-whitespace-requires
+    fitting-requires
+    enum-known-w
+    enum-told
     skip-glyph-requires
     returns
     join-if-due-requires
