@@ -1,14 +1,11 @@
 -- Laws of the loop of `shown_run`: it shows a text line's glyphs until one passes the limit.
-use Prim.Native.Nat.{ℕ, _+_, _-_, _*_, _≤_, _<_, _^_}
-use mathlib.Core.Path.{_≡_, refl, sym, ap, _∙_, subst}
-use mathlib.Core.Bool.{true, false}
+use Prim.Native.Nat.{ℕ, _+_, _-_, _*_, _≤_, _<_}
+use mathlib.Core.Path.{_≡_, refl, ap, _∙_}
+use mathlib.Core.Bool.{false}
 use mathlib.Core.List.{List, [], _∷_, _++_, append-assoc, append-nil}
 use native.Mathlib.Omega.{arith}
-use mir.Syntax.{w64}
-use mir.Val.{Fits as Holds}
 use native.Mathlib.Numerals.{add-one}
 use borrow.Author.Tests.{lt-ltb, le-ltb, le-leb, lt-leb}
-use lib.Dec.{leb}
 use lib.ListN.{length, getD, drop, drop-of-length-le}
 use lib.Seq.{drop-cons}
 use Rattle.text.specs.Record.{widthOf}
@@ -16,11 +13,8 @@ use Rattle.text.specs.Line.{Glyph, glyphFrom, numbered}
 use Rattle.text.proofs.Reading.{width-most}
 use Rattle.wrapping.specs.declared.Run.{Run}
 use Rattle.wrapping.specs.declared.Rule.{Rule}
-use Rattle.wrapping.specs.declared.GlyphWidth.{GlyphWidth}
-use Rattle.wrapping.specs.declared.GlyphWidth.the-variants.{Fits, OverWide}
 use Rattle.wrapping.specs.Wrapping.{overWide}
-use Rattle.wrapping.specs.RunsExtra.{fittingOf, emptyRun, runOf, pushRun}
-use Rattle.wrapping.proofs.Fittings.{fits-read-as, fits-limit, fits-most, over-limit}
+use Rattle.wrapping.specs.RunsExtra.{emptyRun, runOf, pushRun}
 use Rattle.line_truncator.specs.Truncation.{ends, swallows, shownFrom}
 use Rattle.wrapping.proofs.ListRuns.{run-push}
 
@@ -70,84 +64,50 @@ module _ (u : Rule) (records : List ℕ) (offset₀ : ℕ) where
           }
 
       -- the glyph is over-wide
-      showing-skips : u .limit < w → Showing u records offset₀ offset run (i + 1)
+      pub showing-skips : u .limit < w → Showing u records offset₀ offset run (i + 1)
       unfolding overWide
       showing-skips o = unshown-keeps offset (rw (← e, lt-ltb (u .limit) w o))
 
-      module _ (o : w ≤ u .limit) where
-        -- the glyph passes the limit
-        width-stops : u .limit < run .width + w → run ≡ runOf (shownFrom u offset₀ 0 (numbered (u .ambiguous) 0 records))
-        unfolding overWide ends
-        width-stops f = all-shown (next-glyph ∙ rw (← e, le-ltb (u .limit) w o, lt-ltb (u .limit) (run .width + w) f))
+      -- the glyph passes the limit
+      pub showing-stops : w ≤ u .limit → u .limit < run .width + w → run ≡ runOf (shownFrom u offset₀ 0 (numbered (u .ambiguous) 0 records))
+      unfolding overWide ends
+      showing-stops o f = all-shown (next-glyph ∙ rw (← e, le-ltb (u .limit) w o, lt-ltb (u .limit) (run .width + w) f))
 
-        module _ (f : run .width + w ≤ u .limit) where
-          -- the offset swallows the glyph
-          width-swallows : 0 < offset → leb w offset ≡ true → Showing u records offset₀ (offset - w) run (i + 1)
-          unfolding overWide ends swallows
-          width-swallows p q =
-              unshown-keeps (offset - w) (rw (← e, le-ltb (u .limit) w o, le-ltb (u .limit) (run .width + w) f, lt-ltb 0 offset p, q))
+      -- the glyph fits, so it isn't over-wide
+      module _ (f : run .width + w ≤ u .limit) where
+        fits : w ≤ u .limit
+        fits = omega arith
 
-          module _ (next : Run) (push : next ≡ pushRun run i w) where
-            -- the glyph is shown
-            shown-keeps : swallows offset glyph ≡ false → Showing u records offset₀ 0 next (i + 1)
-            unfolding overWide ends pushRun
-            shown-keeps p =
-                let n : shownFrom u offset (run .width) (glyph ∷ later) ≡ glyph ∷ shownFrom u 0 (run .width + w) later
-                = rw (p, ← e, le-ltb (u .limit) w o, le-ltb (u .limit) (run .width + w) f) in
-                let v : next .width ≡ run .width + w = ap (λ (r : Run). r .width) push in
-                record {
-                  glyphs = s .glyphs ++ (glyph ∷ []);
-                  is-run = rw (run-push (s .glyphs) glyph) (cc);
-                  same = s .same ∙ ap (λ (l : List Glyph). s .glyphs ++ l) (next-glyph ∙ n) ∙ rw (append-assoc, v);
-                  within = omega arith;
-                  narrow = omega (arith, s .narrow, width-most (u .ambiguous) (getD records i 0));
-                }
+        -- the offset swallows the glyph
+        pub showing-swallows : 0 < offset → w ≤ offset → Showing u records offset₀ (offset - w) run (i + 1)
+        unfolding overWide ends swallows
+        showing-swallows p q =
+            unshown-keeps (offset - w) (rw (← e, le-ltb (u .limit) w fits, le-ltb (u .limit) (run .width + w) f, lt-ltb 0 offset p, le-leb w offset q))
 
-            -- no offset remains
-            width-past : offset ≤ 0 → Showing u records offset₀ 0 next (i + 1)
-            unfolding swallows
-            width-past p = shown-keeps (rw (le-ltb 0 offset p))
+        module _ (next : Run) (push : next ≡ pushRun run i w) where
+          -- the glyph is shown, and no offset remains
+          shown-keeps : (left : ℕ) → left ≡ 0 → swallows offset glyph ≡ false → Showing u records offset₀ left next (i + 1)
+          unfolding overWide ends pushRun
+          shown-keeps left z p =
+              let n : shownFrom u offset (run .width) (glyph ∷ later) ≡ glyph ∷ shownFrom u 0 (run .width + w) later
+              = rw (p, ← e, le-ltb (u .limit) w fits, le-ltb (u .limit) (run .width + w) f) in
+              let v : next .width ≡ run .width + w = ap (λ (r : Run). r .width) push in
+              record {
+                glyphs = s .glyphs ++ (glyph ∷ []);
+                is-run = rw (run-push (s .glyphs) glyph) (cc);
+                same = s .same ∙ ap (λ (l : List Glyph). s .glyphs ++ l) (next-glyph ∙ n) ∙ rw (append-assoc, v, z);
+                within = omega arith;
+                narrow = omega (arith, s .narrow, width-most (u .ambiguous) (getD records i 0));
+              }
 
-            -- the glyph is wider than the remaining offset
-            width-half : 0 < offset → leb w offset ≡ false → Showing u records offset₀ 0 next (i + 1)
-            unfolding swallows
-            width-half p q = shown-keeps (rw (← e, lt-ltb 0 offset p, q))
+          -- no offset remained
+          pub showing-past : (left : ℕ) → offset ≤ 0 → left ≡ offset → Showing u records offset₀ left next (i + 1)
+          unfolding swallows
+          showing-past left p q = shown-keeps left (omega arith) (rw (le-ltb 0 offset p))
 
-    -- what `fitting` answers of record i
-    module _ (g : GlyphWidth) (h : i < length records) (d : g ≡ fittingOf u (getD records i 0)) where
-      pub showing-over : g ≡ OverWide → Showing u records offset₀ offset run (i + 1)
-      showing-over k = showing-skips (widthOf (u .ambiguous) (getD records i 0)) h refl (over-limit u (getD records i 0) g d k)
+          -- the glyph is wider than the remaining offset
+          pub showing-half : (left : ℕ) → 0 < offset → offset < w → left ≡ 0 → Showing u records offset₀ left next (i + 1)
+          unfolding swallows
+          showing-half left p q z = shown-keeps left z (rw (← e, lt-ltb 0 offset p, lt-leb w offset q))
 
-      module _ (w : ℕ) (k : g ≡ Fits w) where
-        reads : w ≡ widthOf (u .ambiguous) (getD records i 0)
-        reads = fits-read-as u (getD records i 0) g d w k
-
-        in-limit : w ≤ u .limit
-        in-limit = fits-limit u (getD records i 0) g d w k
-
-        pub showing-adds : length records < 2 ^ 28 → run .width + w < 2 ^ 32
-        showing-adds few = omega (arith, fits-most u (getD records i 0) g d w k, s .narrow, s .within)
-
-        pub showing-sum : length records < 2 ^ 28 → Holds w64 (run .width + w)
-        showing-sum few = record { fits = omega (arith, showing-adds few) }
-
-        pub showing-stops : u .limit < run .width + w → run ≡ runOf (shownFrom u offset₀ 0 (numbered (u .ambiguous) 0 records))
-        showing-stops = width-stops w h reads in-limit
-
-        module _ (f : run .width + w ≤ u .limit) where
-          pub showing-swallows : 0 < offset → w ≤ offset → Showing u records offset₀ (offset - w) run (i + 1)
-          showing-swallows p q = width-swallows w h reads in-limit f p (le-leb w offset q)
-
-          module _ (next : Run) (push : next ≡ pushRun run i w) where
-            -- `left` is the offset that remains
-            module _ (left : ℕ) where
-              keeps : left ≡ 0 → Showing u records offset₀ 0 next (i + 1) → Showing u records offset₀ left next (i + 1)
-              keeps e = subst (λ (n : ℕ). Showing u records offset₀ n next (i + 1)) (sym e)
-
-              pub showing-past : offset ≤ 0 → left ≡ offset → Showing u records offset₀ left next (i + 1)
-              showing-past p q = keeps (omega arith) (width-past w h reads in-limit f next push p)
-
-              pub showing-half : 0 < offset → offset < w → left ≡ 0 → Showing u records offset₀ left next (i + 1)
-              showing-half p q r = keeps r (width-half w h reads in-limit f next push p (lt-leb w offset q))
-
-pub ruleset showing = (showing-starts, showing-ends, showing-over, showing-stops, showing-swallows, showing-past, showing-half)
+pub ruleset showing = (showing-starts, showing-ends, showing-skips, showing-stops, showing-swallows, showing-past, showing-half)

@@ -2,7 +2,6 @@
 
 use text::Alignment;
 use text::glyph;
-use wrapping::GlyphWidth;
 use wrapping::Rule;
 use wrapping::Run;
 ghost use mathlib.Core.Path.{_≡_};
@@ -23,6 +22,7 @@ fn horizontal_offset(column: u32, alignment: Alignment) -> u32
 }
 
 // Returns the run of the glyphs shown, after those that the offset swallows (reflow.rs: the loop of `LineTruncator::next_line`).
+// Whether a glyph is over-wide is asked only if it passes the limit.
 fn shown_run(rule: Rule, offset: usize, records: &[u32]) -> Run
     requires { ⌜ FewRecords (now records) ⌝ }
     ensures { λ r. ⌜ r ≡ runOf (shownFrom rule offset 0 (numbered (rule .ambiguous) 0 (now (records .entry)))) ⌝ }
@@ -32,11 +32,12 @@ fn shown_run(rule: Rule, offset: usize, records: &[u32]) -> Run
     let mut i = 0;
     while i < records.len() {
         let at = i;
+        let w = rule.width(records[at]) as usize;
         i += 1;
-        let GlyphWidth::Fits(w) = rule.fitting(records[at]) else {
-            continue;
-        };
         if rule.limit < run.width + w {
+            if rule.limit < w {
+                continue;
+            }
             return run;
         }
         if 0 < offset {

@@ -21,19 +21,18 @@ abbrev pub startOf : AmbiguousWidth → ℕ → ℕ → ℕ → Start
 startOf a number column word = record { start = column; glyph = glyphFrom a number word }
 
 -- its cell gets the symbol, then the text style, then its own style
-pub glyph-written : (styles : List ℕ) (style column word : ℕ) (row : List ℕ) (symbol text-style number own-style with-symbol with-text-style cell : ℕ)
-    → symbol ≡ symbolOf word → text-style ≡ styleAt styles style
-    → number ≡ styleOf word → own-style ≡ styleAt styles number → with-symbol ≡ withSymbol symbol (getD row column 0)
+pub glyph-written : (styles : List ℕ) (text-style column word : ℕ) (row : List ℕ) (symbol number own-style with-symbol with-text-style cell : ℕ)
+    → symbol ≡ symbolOf word → number ≡ styleOf word → own-style ≡ styleAt styles number → with-symbol ≡ withSymbol symbol (getD row column 0)
     → with-text-style ≡ styled text-style with-symbol → cell ≡ styled own-style with-text-style
-    → set row column cell ≡ set row column (glyphCell styles style word (getD row column 0))
+    → set row column cell ≡ set row column (glyphCell styles text-style word (getD row column 0))
 unfolding glyphCell
-glyph-written styles style column word row symbol text-style number own-style with-symbol with-text-style cell p q n r s t e = rw (e, t, s, r, n, q, p)
+glyph-written styles text-style column word row symbol number own-style with-symbol with-text-style cell p n r s t e = rw (e, t, s, r, n, p)
 
 -- which places it on the row, if it is read as wider than 0
 pub glyph-placed : (a : AmbiguousWidth) (styles : List ℕ) (style column word : ℕ) (row : List ℕ) → column < length row → 0 < widthOf a word
-    → set row column (glyphCell styles style word (getD row column 0)) ≡ changed (glyphOn styles style (length row) (startOf a 0 column word)) row
+    → set row column (glyphCell styles (styleAt styles style) word (getD row column 0)) ≡ changed (glyphOn styles style (length row) (startOf a 0 column word)) row
 unfolding glyphOn isPlaced glyphCell
 glyph-placed a styles style column word row h some =
-    changed-one (glyphCell styles style word) column row
-    ∙ changed-same (λ i c. cond (eqb i column) (glyphCell styles style word c) c) _ row
+    changed-one (glyphCell styles (styleAt styles style) word) column row
+    ∙ changed-same (λ i c. cond (eqb i column) (glyphCell styles (styleAt styles style) word c) c) _ row
     (λ i c _. simp (lt-ltb 0 (widthOf a word) some, lt-ltb column (length row) h))

@@ -22,7 +22,7 @@ use Rattle.wrapping.specs.declared.GlyphWidth.{GlyphWidth}
 use Rattle.wrapping.specs.declared.GlyphWidth.the-variants.{Fits, OverWide}
 use Rattle.wrapping.specs.RunsExtra.{fittingOf}
 use Rattle.wrapping.specs.Wrapping.{overWide, notOverWide}
-use Rattle.buffer.specs.Drawing.{changed}
+use Rattle.buffer.specs.Drawing.{changed, styleAt}
 use Rattle.buffer.proofs.Changed.{length-changed, changed-same, changed-none, changed-then}
 use Rattle.wrapping.proofs.Fittings.{fits-read-as, fits-limit, fits-most, over-limit}
 use Rattle.line_composer.specs.Places.{isPlaced, isClipped}
@@ -36,7 +36,8 @@ startsLeft u records column i = startsFrom column (notOverWide u (numbered (u .a
 
 -- Invariant of `write_glyphs`: the glyphs before record i are written. Writing the others on the row gives the same cells as
 -- writing all on the old row, and the counts so far plus those of the others are those of all.
-pub record Writing (styles : List ℕ) (style : ℕ) (u : Rule) (records old row : List ℕ) (column placed-count clipped-count i : ℕ) : Type 0 where
+pub record Writing (styles : List ℕ) (style text-style : ℕ) (u : Rule) (records old row : List ℕ) (column placed-count clipped-count i : ℕ) : Type 0 where
+  pub style-read : text-style ≡ styleAt styles style
   pub reached : i ≤ length records
   pub same-length : length row ≡ length old
   pub near : column ≤ 7 * i
@@ -61,10 +62,11 @@ unplaced styles style area s row e = sym (changed-same _ (λ i cell. cell) row (
 counted : (test : Start → Bool) (n : ℕ) (b : Bool) (s : Start) (ss : List Start) → test s ≡ b → n + cond b 1 0 + countOf test ss ≡ n + countOf test (s ∷ ss)
 counted test n b s ss e = rw e (add-assoc n (cond b 1 0) (countOf test ss))
 
-module _ (styles : List ℕ) (style : ℕ) (u : Rule) (records old : List ℕ) where
-  pub writing-starts : Writing styles style u records old old 0 0 0 0
-  writing-starts =
+module _ (styles : List ℕ) (style text-style : ℕ) (u : Rule) (records old : List ℕ) where
+  pub writing-starts : text-style ≡ styleAt styles style → Writing styles style text-style u records old old 0 0 0 0
+  writing-starts t =
       record {
+        style-read = t;
         reached = omega arith;
         same-length = refl;
         near = omega arith;
@@ -74,7 +76,7 @@ module _ (styles : List ℕ) (style : ℕ) (u : Rule) (records old : List ℕ) w
         same-clipped = omega arith;
       }
 
-  module _ (row : List ℕ) (column placed-count clipped-count i : ℕ) (w : Writing styles style u records old row column placed-count clipped-count i) where
+  module _ (row : List ℕ) (column placed-count clipped-count i : ℕ) (w : Writing styles style text-style u records old row column placed-count clipped-count i) where
     pub writing-done : length records ≤ i → Wrote styles style (startsOf u 0 records) old row (record { placed = placed-count; clipped = clipped-count })
     writing-done h =
         let none : drop i records ≡ [] = drop-of-length-le records h in
@@ -101,9 +103,10 @@ module _ (styles : List ℕ) (style : ℕ) (u : Rule) (records old : List ℕ) w
           let t : ltb (u .limit) (widthOf (u .ambiguous) (getD records i 0)) ≡ false = le-ltb (u .limit) (widthOf (u .ambiguous) (getD records i 0)) (omega arith) in
           rw (e, add-one i, drop-cons records i 0 h, t)
 
-      writing-skips : u .limit < width → Writing styles style u records old row column placed-count clipped-count (i + 1)
+      writing-skips : u .limit < width → Writing styles style text-style u records old row column placed-count clipped-count (i + 1)
       writing-skips o =
           record {
+            style-read = w .style-read;
             reached = omega arith;
             same-length = w .same-length;
             near = omega (arith, w .near);
@@ -117,11 +120,12 @@ module _ (styles : List ℕ) (style : ℕ) (u : Rule) (records old : List ℕ) w
       turned : (next : List ℕ) (a b : Bool) (m n : ℕ) → width ≤ u .limit → isPlaced (length old) here ≡ a → isClipped (length old) here ≡ b
           → m ≡ placed-count + cond a 1 0 → n ≡ clipped-count + cond b 1 0 → m + n ≤ placed-count + clipped-count + 1
           → next ≡ changed (glyphOn styles style (length old) (startOf (u .ambiguous) 0 column (getD records i 0))) row
-          → Writing styles style u records old next (column + width) m n (i + 1)
+          → Writing styles style text-style u records old next (column + width) m n (i + 1)
       turned next a b m n f p q r s one d =
           let others : List Start = startsLeft u records (column + width) (i + 1) in
           let small : width ≤ 6 = omega (arith, width-most (u .ambiguous) (getD records i 0)) in
           record {
+            style-read = w .style-read;
             reached = omega arith;
             same-length = rw d (length-changed _ row ∙ w .same-length);
             near = omega (arith, w .near, small);
@@ -136,7 +140,7 @@ module _ (styles : List ℕ) (style : ℕ) (u : Rule) (records old : List ℕ) w
           }
 
       -- a glyph of width 0 is neither placed nor clipped, and takes no column
-      width-passes : width ≤ u .limit → width ≡ 0 → Writing styles style u records old row column placed-count clipped-count (i + 1)
+      width-passes : width ≤ u .limit → width ≡ 0 → Writing styles style text-style u records old row column placed-count clipped-count (i + 1)
       unfolding isPlaced isClipped
       width-passes f z =
           let none : ltb 0 (widthOf (u .ambiguous) (getD records i 0)) ≡ false = le-ltb 0 (widthOf (u .ambiguous) (getD records i 0)) (omega arith) in
@@ -152,18 +156,18 @@ module _ (styles : List ℕ) (style : ℕ) (u : Rule) (records old : List ℕ) w
         module _ (next : List ℕ) (m k : ℕ) where
           -- a glyph that starts left of the edge is placed
           width-places : (written : List ℕ) → column < length row
-              → written ≡ set row column (glyphCell styles style (getD records i 0) (getD row column 0))
+              → written ≡ set row column (glyphCell styles text-style (getD records i 0) (getD row column 0))
               → next ≡ written → m ≡ placed-count + 1 → k ≡ clipped-count
-              → Writing styles style u records old next (column + width) m k (i + 1)
+              → Writing styles style text-style u records old next (column + width) m k (i + 1)
           unfolding isPlaced isClipped
           width-places written b d g p q =
               let c : column < length old = omega (arith, w .same-length) in
               turned next true false m k f (rw some (lt-ltb _ _ c)) (rw some (lt-leb _ _ c)) (omega arith) (omega arith) (omega arith)
-              (g ∙ d ∙ (rw (w .same-length) at (glyph-placed (u .ambiguous) styles style column (getD records i 0) row b (omega (arith, e, n)))))
+              (g ∙ d ∙ rw (w .style-read) (rw (w .same-length) at (glyph-placed (u .ambiguous) styles style column (getD records i 0) row b (omega (arith, e, n)))))
 
           -- any other is clipped
           width-clips : length row ≤ column → next ≡ row → m ≡ placed-count → k ≡ clipped-count + 1
-              → Writing styles style u records old next (column + width) m k (i + 1)
+              → Writing styles style text-style u records old next (column + width) m k (i + 1)
           unfolding isPlaced isClipped
           width-clips b g p q =
               let c : length old ≤ column = omega (arith, w .same-length) in
@@ -173,7 +177,7 @@ module _ (styles : List ℕ) (style : ℕ) (u : Rule) (records old : List ℕ) w
 
     -- what `fitting` answers of record i
     module _ (g : GlyphWidth) (h : i < length records) (d : g ≡ fittingOf u (getD records i 0)) where
-      pub writing-over : g ≡ OverWide → Writing styles style u records old row column placed-count clipped-count (i + 1)
+      pub writing-over : g ≡ OverWide → Writing styles style text-style u records old row column placed-count clipped-count (i + 1)
       writing-over k = writing-skips h (widthOf (u .ambiguous) (getD records i 0)) refl (over-limit u (getD records i 0) g d k)
 
       module _ (width : ℕ) (k : g ≡ Fits width) where
@@ -186,16 +190,17 @@ module _ (styles : List ℕ) (style : ℕ) (u : Rule) (records old : List ℕ) w
         pub writing-sum : length records < 2 ^ 28 → Holds w64 (column + width)
         writing-sum few = record { fits = omega (arith, fits-most u (getD records i 0) g d width k, w .near, w .reached) }
 
-        pub writing-passes : width ≡ 0 → Writing styles style u records old row column placed-count clipped-count (i + 1)
+        pub writing-passes : width ≡ 0 → Writing styles style text-style u records old row column placed-count clipped-count (i + 1)
         writing-passes = width-passes h width reads in-limit
 
         module _ (some : width ≡ 0 → ⊥) (next : List ℕ) (m n : ℕ) where
-          pub writing-places : (written : List ℕ) → column < length row → written ≡ set row column (glyphCell styles style (getD records i 0) (getD row column 0))
-              → next ≡ written → m ≡ placed-count + 1 → n ≡ clipped-count → Writing styles style u records old next (column + width) m n (i + 1)
+          pub writing-places : (written : List ℕ) → column < length row
+              → written ≡ set row column (glyphCell styles text-style (getD records i 0) (getD row column 0))
+              → next ≡ written → m ≡ placed-count + 1 → n ≡ clipped-count → Writing styles style text-style u records old next (column + width) m n (i + 1)
           writing-places = width-places h width reads in-limit some next m n
 
           pub writing-clips : length row ≤ column → next ≡ row → m ≡ placed-count → n ≡ clipped-count + 1
-              → Writing styles style u records old next (column + width) m n (i + 1)
+              → Writing styles style text-style u records old next (column + width) m n (i + 1)
           writing-clips = width-clips h width reads in-limit some next m n
 
 pub ruleset writing = (writing-starts, writing-done, writing-over, writing-passes, writing-places, writing-clips)

@@ -18,7 +18,7 @@ use Rattle.render_glyphs.specs.RenderGlyphs.{glyphsOn}
 -- the cell of a glyph's record after it is written: its symbol, then the text style, then its own style; no width is read
 unfoldable pub glyphCell : List ℕ → ℕ → ℕ → ℕ → ℕ
 glyphCell styles textStyle word cell =
-    styled (styleAt styles (styleOf word)) (styled (styleAt styles textStyle) (withSymbol (symbolOf word) cell))
+    styled (styleAt styles (styleOf word)) (styled textStyle (withSymbol (symbolOf word) cell))
 
 -- the glyphs of a line's records, the first starting in the given column; record numbers are unused here
 abbrev pub startsOf : Rule → ℕ → List ℕ → List Start

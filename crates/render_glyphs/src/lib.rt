@@ -15,14 +15,13 @@ pub struct GlyphCounts {
 }
 
 // Writes a glyph in the cell of its column: its symbol, then the text style, then its own style.
-fn write_glyph(row: &mut [u64], styles: &[u64], style: u8, column: usize, word: u32)
+fn write_glyph(row: &mut [u64], styles: &[u64], text_style: u64, column: usize, word: u32)
     requires { ⌜ column < length (now row) ⌝ }
     ensures { λ _.
-        let cell = glyphCell (now (styles .entry)) style word (getD (now (row .entry)) column 0) in
+        let cell = glyphCell (now (styles .entry)) «text_style» word (getD (now (row .entry)) column 0) in
         ⌜ now (row .exit) ≡ set (now (row .entry)) column cell ⌝ }
 {
     let symbol = glyph::symbol(word) as u64;
-    let text_style = buffer::style_at(styles, style);
     let own_style = buffer::style_at(styles, glyph::style(word) as u8);
     let written = cell::set_style(text_style, cell::set_symbol(symbol, row[column]));
     row[column] = cell::set_style(own_style, written);
@@ -40,6 +39,7 @@ pub fn write_glyphs(
     requires { ⌜ FewRecords (now records) ⌝ }
     ensures { λ r. ⌜ Wrote (now (styles .entry)) style (startsOf rule 0 (now (records .entry))) (now (row .entry)) (now (row .exit)) r ⌝ }
 {
+    let text_style = buffer::style_at(styles, style);
     let mut column = 0;
     let mut placed = 0;
     let mut clipped = 0;
@@ -54,7 +54,7 @@ pub fn write_glyphs(
             continue;
         }
         if column < row.len() {
-            write_glyph(row, styles, style, column, word);
+            write_glyph(row, styles, text_style, column, word);
             placed += 1;
         } else {
             clipped += 1;

@@ -10,17 +10,14 @@ symbol-requires c κs = search needs
 cast-symbol : tie.Need-cast-symbol
 cast-symbol c = search needs
 
-style-at-requires : tie.Need-style-at-requires
-style-at-requires c κs = search needs
-
 style-requires : tie.Need-style-requires
 style-requires c κs = search needs
 
 cast-style-at : tie.Need-cast-style-at
 cast-style-at c = search needs
 
-style-at-requires-2 : tie.Need-style-at-requires-2
-style-at-requires-2 c κs = search needs
+style-at-requires : tie.Need-style-at-requires
+style-at-requires c κs = search needs
 
 mul-set-symbol : tie.Need-mul-set-symbol
 mul-set-symbol c = search needs
@@ -55,10 +52,9 @@ write-glyph-spec =
     (tie.spec
     symbol-requires
     cast-symbol
-    style-at-requires
     style-requires
     cast-style-at
-    style-at-requires-2
+    style-at-requires
     mul-set-symbol
     slice-read-set-symbol
     set-symbol-requires

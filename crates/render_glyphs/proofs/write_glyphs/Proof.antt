@@ -8,10 +8,13 @@ use Rattle.render_glyphs.proofs.write_glyphs.Statement.{statement}
 use Rattle.render_glyphs.proofs.write_glyphs.Tie as tie
 
 abbrev Inv-loop : tie.InvT-loop
-Inv-loop row₀ styles style rule records column₀ placed₀ clipped₀ i₀ row column placed clipped i = Writing styles style rule records row₀ row column placed clipped i
+Inv-loop row₀ styles style rule records text-style column₀ placed₀ clipped₀ i₀ row column placed clipped i = Writing styles style text-style rule records row₀ row column placed clipped i
 
 abbrev μ-loop : tie.MeasureT-loop
-μ-loop row₀ styles style rule records column₀ placed₀ clipped₀ i₀ row column placed clipped i = length records - i
+μ-loop row₀ styles style rule records text-style column₀ placed₀ clipped₀ i₀ row column placed clipped i = length records - i
+
+style-at-requires : tie.Need-style-at-requires Inv-loop μ-loop
+style-at-requires c κs = search needs
 
 loop-holds : tie.Need-loop-holds Inv-loop μ-loop
 loop-holds c = search writing
@@ -76,6 +79,7 @@ write-glyphs-spec =
     (tie.spec
     Inv-loop
     μ-loop
+    style-at-requires
     loop-holds
     mul-word
     shared-slice-read-word
