@@ -60,7 +60,8 @@
 #include <stddef.h>
 #include <stdint.h>
 
-/* Raised when programs written for an earlier version of this header have to be changed. */
+/* Raised when programs written for an earlier version of this header have to be changed. In version 1 no call
+   took a notice_ambiguous, and width code 7 was seven columns. */
 #define NOTICE_API_VERSION 2
 
 #ifdef __cplusplus

@@ -10,10 +10,10 @@ pub fn truncate_line(rule: Rule, column: u32, alignment: Alignment, records: &[u
     let mut run = Run::default();
     for (at, &record) in records.iter().enumerate() {
         let width = rule.width(record);
-        if width > rule.limit {
-            continue;
-        }
         if run.width + width > rule.limit {
+            if width > rule.limit {
+                continue;
+            }
             return run;
         }
         if offset > 0 && width <= offset {

@@ -51,11 +51,11 @@ fn opens_without_head(records: &[u32]) -> bool {
     records.first().is_some_and(|&record| !head::is_head(record))
 }
 
-/// Checks cause 4.
+/// Checks cause 4. It counts, as a loop without another exit takes several records at a time.
 pub fn text_heads_wrong(text: &[u32]) -> bool {
     let wrong =
         |record| head::is_head(record) && (head::zeros(record) != 0 || head::position(record) != 0);
-    opens_without_head(text) || text.iter().any(|&record| wrong(record))
+    opens_without_head(text) || text.iter().filter(|&&record| wrong(record)).count() > 0
 }
 
 /// Checks cause 5.
@@ -74,11 +74,10 @@ pub fn style_numbers_wrong(count: usize, numbers: &[u8]) -> bool {
     numbers.iter().any(|&number| usize::from(number) >= count)
 }
 
-/// Checks cause 6 for a text or titles.
+/// Checks cause 6 for a text or titles, by counting.
 pub fn glyph_styles_wrong(count: usize, records: &[u32]) -> bool {
-    records
-        .iter()
-        .any(|&record| !head::is_head(record) && usize::from(glyph::style(record)) >= count)
+    let wrong = |record| !head::is_head(record) && usize::from(glyph::style(record)) >= count;
+    records.iter().filter(|&&record| wrong(record)).count() > 0
 }
 
 /// Checks cause 7.

@@ -21,9 +21,9 @@ fn get_line_offset(alignment: Alignment, area: usize, line: usize) -> usize {
 }
 
 /// Writes a glyph in a cell: the symbol, then the text style, then its own style.
-fn write_glyph(styles: &[u64], style: u8, word: u32, cell: u64) -> u64 {
+fn write_glyph(styles: &[u64], text_style: u64, word: u32, cell: u64) -> u64 {
     let written = cell::set_symbol(glyph::symbol(word), cell);
-    let text_styled = cell::set_style(style_at(styles, style), written);
+    let text_styled = cell::set_style(text_style, written);
     cell::set_style(style_at(styles, glyph::style(word)), text_styled)
 }
 
@@ -37,14 +37,15 @@ pub fn render_line(
     line: WrappedLine,
 ) -> GlyphCounts {
     let mut column = get_line_offset(line.alignment, row.len(), line.width as usize);
+    let text_style = style_at(styles, style);
     let mut counts = GlyphCounts { placed: 0, clipped: 0 };
     for &word in &text[line.first..line.end] {
-        let width = rule.width(word);
-        if width > rule.limit || width == 0 {
+        let width = rule.fitting(word).unwrap_or(0);
+        if width == 0 {
             continue;
         }
         if let Some(cell) = row.get_mut(column) {
-            *cell = write_glyph(styles, style, word, *cell);
+            *cell = write_glyph(styles, text_style, word, *cell);
             counts.placed += 1;
         } else {
             counts.clipped += 1;

@@ -3,7 +3,7 @@
 use crate::line_composer::{LineComposer, Method};
 use crate::list_lines::check_text;
 use crate::refuse::Refusal;
-use crate::text::{Alignment, AmbiguousWidth, head};
+use crate::text::{Alignment, AmbiguousWidth, glyph, head};
 use crate::word_wrapper::Rule;
 
 #[derive(Debug, Default, Clone, Copy, PartialEq, Eq)]
@@ -55,14 +55,12 @@ pub fn tally(
     for line in LineComposer::new(rule, Method::WordWrap, Alignment::Left, text) {
         counts.add_line(rule, &text[line.first..line.end]);
     }
-    let mut glyphs = 0;
-    for &record in text.iter().filter(|&&record| !head::is_head(record)) {
-        glyphs += 1;
-        if rule.width(record) > rule.limit {
-            counts.over_wide += 1;
-        }
+    let glyphs = || text.iter().filter(|&&record| !head::is_head(record));
+    if rule.limit < glyph::WIDEST {
+        let over_wide = |record| rule.width(record) > rule.limit;
+        counts.over_wide = glyphs().filter(|&&record| over_wide(record)).count() as u32;
     }
     let emitted = counts.placed + counts.clipped + counts.zero_width;
-    counts.dropped = glyphs - counts.over_wide - emitted;
+    counts.dropped = glyphs().count() as u32 - counts.over_wide - emitted;
     Ok(counts)
 }

@@ -27,13 +27,20 @@ pub mod glyph {
     /// Width code of an ambiguous glyph.
     const AMBIGUOUS: u32 = 7;
 
+    /// Largest width.
+    pub const WIDEST: u32 = 6;
+
     pub fn symbol(glyph: u32) -> u32 {
         glyph >> 10 & 0x1f_ffff
     }
 
+    pub fn width_code(glyph: u32) -> u32 {
+        glyph >> 7 & 0b111
+    }
+
     /// Returns the width of a glyph as read.
     pub fn width(glyph: u32, ambiguous: AmbiguousWidth) -> u32 {
-        let code = glyph >> 7 & 0b111;
+        let code = width_code(glyph);
         if code == AMBIGUOUS { ambiguous as u32 } else { code }
     }
 

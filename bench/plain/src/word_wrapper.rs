@@ -15,6 +15,16 @@ impl Rule {
     pub fn width(self, glyph: u32) -> u32 {
         glyph::width(glyph, self.ambiguous)
     }
+
+    /// Returns the width of a glyph as the rule reads it, or nothing if it is over-wide. Most codes
+    /// are widths within the limit.
+    pub fn fitting(self, glyph: u32) -> Option<u32> {
+        let code = glyph::width_code(glyph);
+        if code <= self.limit.min(glyph::WIDEST) {
+            return Some(code);
+        }
+        Some(self.width(glyph)).filter(|&width| width <= self.limit)
+    }
 }
 
 /// Consecutive glyphs of a text line, without over-wide ones: the first record, one past the last,
@@ -163,12 +173,11 @@ impl WordWrapper {
 
     /// Processes one glyph and returns the line that it emits, if any.
     fn step(&mut self, rule: Rule, records: &[u32], record: u32) -> Option<Run> {
-        let width = rule.width(record);
         let space = glyph::is_whitespace(record);
-        if width > rule.limit {
+        let Some(width) = rule.fitting(record) else {
             self.at += 1;
             return None;
-        }
+        };
         if self.must_join(rule, width, space) {
             self.join(rule.trim);
         }

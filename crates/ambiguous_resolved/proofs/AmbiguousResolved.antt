@@ -1,30 +1,31 @@
 -- Theorem `ambiguous-resolved`: reading ambiguous glyphs by a setting is replacing their codes. Theorem `unambiguous-kept`: records
 -- without such a glyph are unchanged by that.
 use Prim.Native.Nat.{ℕ}
-use mathlib.Core.Path.{_≡_, refl, sym, ap, _∙_}
+use mathlib.Core.Path.{_≡_, refl, ap}
 use mathlib.Core.Bool.{Bool, false}
-use mathlib.Core.List.{List, [], _∷_, _++_, map}
+use mathlib.Core.List.{List, [], _∷_}
 use lib.ListN.{length, length-map}
 use Rattle.text.specs.declared.Alignment.{Alignment}
 use Rattle.text.specs.declared.Alignment.the-variants.{Left}
 use Rattle.text.specs.declared.AmbiguousWidth.{AmbiguousWidth}
 use Rattle.text.specs.Record.{alignmentOf}
 use Rattle.text.specs.Alignment.{resolved}
-use Rattle.text.specs.Line.{Glyph, TextLine, linesFrom, glyphsOf, total}
+use Rattle.text.specs.Line.{linesFrom, glyphsOf}
 use Rattle.text.specs.Lists.{some}
 use Rattle.text.proofs.Bools.{neither}
 use Rattle.wrapping.specs.declared.Rule.{Rule}
 use Rattle.wrapping.specs.Rule.{ruleOf}
-use Rattle.wrapping.specs.Wrapping.{Wrapped, wrap}
+use Rattle.wrapping.specs.Wrapping.{wrap}
 use Rattle.line_composer.specs.declared.Wrap.{Wrap}
 use Rattle.line_composer.specs.declared.Wrap.the-variants.{Off, On}
 use Rattle.line_composer.specs.declared.Method.{Method}
 use Rattle.line_composer.specs.declared.Method.the-variants.{WordWrap, Truncate}
 use Rattle.line_composer.specs.Wrap.{methodOf, ruleAt}
-use Rattle.line_composer.specs.Lines.{Line, aligned, linesOf, lineLines, allLines, lines, allSkipped, skipped, allDropped, dropped}
+use Rattle.line_composer.specs.Lines.{linesOf, lineLines, allLines, lines, allSkipped, skipped, allDropped, dropped}
 use Rattle.refuse.specs.Causes.{mostAccepted, textCauses, lineCauses}
 use Rattle.layout.specs.declared.Rect.{Rect}
 use Rattle.block.specs.declared.Block.{Block}
+use Rattle.check_block.specs.Causes.{frameCauses}
 use Rattle.check_block.specs.Styles.{frameStyles}
 use Rattle.paragraph.specs.declared.Notice.{Notice}
 use Rattle.paragraph.specs.Notice.{noticeLines, innerAreaOf, insideOf, noticeOf, insideCounts, noticeCounts}
@@ -40,9 +41,9 @@ use Rattle.pages.specs.Pages.{innerArea, composedLines, pagesOf}
 use Rattle.count_pages.specs.Call as pages
 use Rattle.ambiguous_resolved.specs.Replaced.{isAmbiguous, replaced, codeReplaced, readAs}
 use Rattle.ambiguous_resolved.specs.AmbiguousResolved.{AmbiguousResolved}
-use Rattle.ambiguous_resolved.proofs.Lines.{SameLine, same-glyphs, lines-along, same-titles}
+use Rattle.ambiguous_resolved.proofs.Lines.{same-glyphs, lines-along, same-titles}
 use Rattle.ambiguous_resolved.proofs.SettingUnread.{wrap-unread, over-unread, lines-unread}
-use Rattle.ambiguous_resolved.proofs.Causes.{text-heads-same, glyph-styles-same, titles-wrong-same, inner-same}
+use Rattle.ambiguous_resolved.proofs.Causes.{text-heads-same, glyph-styles-same, titles-wrong-same, inner-same, vertical-same}
 
 -- ---- the rules
 
@@ -124,16 +125,16 @@ module _ (a b : AmbiguousWidth) (text : List ℕ) where
   unfolding tally.answerOf tally.verdictOf tally.causesOf lineCauses
   tally-resolved limit trim = rw (same-text-causes a text, same-tally a b limit trim text)
 
-  -- `line_count` and `line_width`: of the titles only the heads are read
+  -- `line_count` and `line_width`
   module _ (titles : List ℕ) (framed : Block) where
     count-resolved : (wrap : Wrap) (columns : ℕ)
-        → count.answerOf (count.callOf (replaced a text) b titles framed wrap columns) ≡ count.answerOf (count.callOf text a titles framed wrap columns)
-    unfolding count.answerOf count.verdictOf count.causesOf width.causesOf lineCount
-    count-resolved wrap columns = rw (same-text-causes a text, same-lines-at a b wrap columns text)
+        → count.answerOf (count.callOf (replaced a text) b (replaced a titles) framed wrap columns) ≡ count.answerOf (count.callOf text a titles framed wrap columns)
+    unfolding count.answerOf count.verdictOf count.causesOf width.causesOf frameCauses lineCount
+    count-resolved wrap columns = rw (same-text-causes a text, titles-wrong-same a mostAccepted titles, vertical-same a framed titles, same-lines-at a b wrap columns text)
 
-    width-resolved : width.answerOf (width.callOf (replaced a text) b titles framed) ≡ width.answerOf (width.callOf text a titles framed)
-    unfolding width.answerOf width.verdictOf width.causesOf lineWidth
-    width-resolved = rw (same-text-causes a text, same-widest a b text)
+    width-resolved : width.answerOf (width.callOf (replaced a text) b (replaced a titles) framed) ≡ width.answerOf (width.callOf text a titles framed)
+    unfolding width.answerOf width.verdictOf width.causesOf frameCauses lineWidth
+    width-resolved = rw (same-text-causes a text, titles-wrong-same a mostAccepted titles, same-widest a b text)
 
 -- the style numbers of a block and its titles
 same-frame-styles : (a : AmbiguousWidth) (b : Block) (titles : List ℕ) → frameStyles b (replaced a titles) ≡ frameStyles b titles

@@ -1,11 +1,11 @@
 -- No cause of refusal, no style number and no inner area depends on whether a code 7 is replaced.
 use Prim.Native.Nat.{ℕ}
-use mathlib.Core.Path.{_≡_, refl, ap, _∙_}
+use mathlib.Core.Path.{_≡_, refl, ap}
 use mathlib.Core.Bool.{Bool, true, false, cond, not, _&&_, _||_}
-use mathlib.Core.List.{List, [], _∷_, map}
+use mathlib.Core.List.{List, [], _∷_}
 use native.Mathlib.Omega.{arith}
 use lib.Dec.{eqb, ltb}
-use lib.ListN.{length, length-map}
+use lib.ListN.{length}
 use Rattle.text.specs.declared.AmbiguousWidth.{AmbiguousWidth}
 use Rattle.text.specs.declared.TitlePosition.{TitlePosition}
 use Rattle.text.specs.declared.TitlePosition.the-variants.{Top, Bottom}
@@ -14,9 +14,9 @@ use Rattle.text.specs.Line.{TextLine, linesFrom, notOpening}
 use Rattle.text.specs.Lists.{some}
 use Rattle.layout.specs.declared.Rect.{Rect}
 use Rattle.refuse.specs.declared.Ceilings.{Ceilings}
-use Rattle.refuse.specs.Causes.{textTooLong, textHeadWrong, textHeadsWrong, tooManyGlyphs, positionThree, headZerosSet, titlesWrong, glyphStyles}
+use Rattle.refuse.specs.Causes.{textHeadWrong, textHeadsWrong, tooManyGlyphs, positionThree, headZerosSet, titlesWrong, glyphStyles}
 use Rattle.block.specs.declared.Block.{Block}
-use Rattle.block.specs.Inner.{titleIsAt, hasTitleAt, innerOf}
+use Rattle.block.specs.Inner.{titleIsAt, hasTitleAt, innerOf, verticalSpace}
 use Rattle.ambiguous_resolved.specs.Replaced.{codeReplaced, replaced}
 use Rattle.ambiguous_resolved.proofs.Records.{head-kept, same-head, same-style}
 use Rattle.ambiguous_resolved.proofs.Lines.{SameLine, lines-along}
@@ -80,3 +80,7 @@ module _ (a : AmbiguousWidth) where
   pub inner-same : (b : Block) (titles : List ℕ) (area : Rect) → innerOf b (replaced a titles) area ≡ innerOf b titles area
   unfolding innerOf
   inner-same b titles area = rw (has-title-same b Top titles, has-title-same b Bottom titles)
+
+  pub vertical-same : (b : Block) (titles : List ℕ) → verticalSpace b (replaced a titles) ≡ verticalSpace b titles
+  unfolding verticalSpace
+  vertical-same b titles = rw (has-title-same b Top titles, has-title-same b Bottom titles)

@@ -1,14 +1,14 @@
 -- The lines of records with each code 7 replaced: their heads are the same, and so are their glyphs as read.
 use Prim.Native.Nat.{ℕ, suc}
-use mathlib.Core.Path.{_≡_, refl, sym, ap, _∙_}
+use mathlib.Core.Path.{_≡_, refl, ap, _∙_}
 use mathlib.Core.Bool.{Bool, true, false, cond}
 use mathlib.Core.List.{List, [], _∷_, map}
 use native.Mathlib.Omega.{arith}
-use lib.ListN.{length, length-map}
+use lib.ListN.{length}
 use Rattle.text.specs.declared.AmbiguousWidth.{AmbiguousWidth}
 use Rattle.text.specs.Record.{isHead}
-use Rattle.text.specs.Line.{Glyph, TextLine, glyphFrom, numbered, untilHead, linesFrom, glyphsOf}
-use Rattle.titles.specs.Titles.{Title, titleRead, titlesFrom}
+use Rattle.text.specs.Line.{TextLine, numbered, untilHead, linesFrom, glyphsOf}
+use Rattle.titles.specs.Titles.{titleRead, titlesFrom}
 use Rattle.ambiguous_resolved.specs.Replaced.{codeReplaced, replaced}
 use Rattle.ambiguous_resolved.proofs.Records.{head-kept, same-head, same-glyph}
 

@@ -1,18 +1,17 @@
 -- A record with its code 7 replaced: a head is unchanged, and a glyph is read by any setting as the old one is by the setting that
 -- replaced its code.
-use Prim.Native.Nat.{ℕ, _%_, _^_, _<_}
-use mathlib.Core.Path.{_≡_, refl, sym, ap, _∙_}
-use mathlib.Core.Bool.{Bool, true, false, cond, not, _&&_}
+use Prim.Native.Nat.{ℕ, _^_, _<_}
+use mathlib.Core.Path.{_≡_, refl, ap, _∙_}
+use mathlib.Core.Bool.{Bool, true, false}
 use native.Mathlib.Omega.{arith}
-use borrow.Author.Tests.{eqb-true}
 use lib.Dec.{eqb}
 use Rattle.text.specs.declared.AmbiguousWidth.{AmbiguousWidth}
 use Rattle.text.specs.declared.AmbiguousWidth.the-variants.{Narrow, Wide}
-use Rattle.text.specs.Record.{isHead, symbolOf, widthCodeOf, ambiguousCells, readWidth, widthOf, whitespaceOf, styleOf, glyphRecord}
-use Rattle.text.specs.Line.{Glyph, glyphFrom}
+use Rattle.text.specs.Record.{isHead, symbolOf, widthCodeOf, ambiguousCells, readWidth, whitespaceOf, styleOf, glyphRecord}
+use Rattle.text.specs.Line.{glyphFrom}
 use Rattle.text.proofs.Bools.{cases}
 use Rattle.text.proofs.Fields.{glyph-is-no-head, glyph-style, glyph-fields}
-use Rattle.ambiguous_resolved.specs.Replaced.{isAmbiguous, codeReplaced}
+use Rattle.ambiguous_resolved.specs.Replaced.{codeReplaced}
 
 -- the codes that replace the 7 are read as themselves
 cells-read : (a b : AmbiguousWidth) → readWidth b (ambiguousCells a) ≡ ambiguousCells a

@@ -1,15 +1,15 @@
 -- Composing reads a glyph's width, not the setting: two rules that differ in it alone make the same lines of the same glyphs.
 use Prim.Native.Nat.{ℕ, _+_, _-_}
-use mathlib.Core.Path.{_≡_, refl, ap, _∙_}
-use mathlib.Core.Bool.{Bool, cond}
+use mathlib.Core.Path.{_≡_, refl, ap}
+use mathlib.Core.Bool.{Bool}
 use mathlib.Core.List.{List, [], _∷_, _++_}
 use Rattle.text.specs.declared.Alignment.{Alignment}
 use Rattle.text.specs.declared.AmbiguousWidth.{AmbiguousWidth}
 use Rattle.text.specs.Line.{Glyph}
 use Rattle.wrapping.specs.declared.Rule.{Rule}
 use Rattle.wrapping.specs.Rule.{ruleOf}
-use Rattle.wrapping.specs.Wrapping.{Pending, Wrapped, emptyPending, overWide, mustJoin, takesSpaces, gathered, joined, unjoined, full, emptied, drops, appended, _then_, joinStep, emitStep, appendStep, step, lastLines, atLeastOne, wrapFrom, wrap, overWides}
-use Rattle.line_truncator.specs.Truncation.{offsetOf, ends, swallows, shownFrom, truncate}
+use Rattle.wrapping.specs.Wrapping.{Pending, Wrapped, emptyPending, overWide, mustJoin, takesSpaces, gathered, joined, unjoined, full, emptied, drops, appended, _then_, joinStep, emitStep, appendStep, step, lastLines, wrapFrom, wrap, overWides}
+use Rattle.line_truncator.specs.Truncation.{offsetOf, ends, shownFrom, truncate}
 use Rattle.line_composer.specs.declared.Method.{Method}
 use Rattle.line_composer.specs.declared.Method.the-variants.{WordWrap, Truncate}
 use Rattle.line_composer.specs.Lines.{linesOf}

@@ -28,11 +28,11 @@ pub record AmbiguousResolved (a b : AmbiguousWidth) : Type 0 where
       (list.answerOf new ≡ list.answerOf old) × (list.listAfter new ≡ list.listAfter old)
   pub tallied : (text : List ℕ) (limit : ℕ) (trim : Bool) →
       tally.answerOf (tally.callOf (replaced a text) b limit trim) ≡ tally.answerOf (tally.callOf text a limit trim)
-  -- `line_count` and `line_width`, which read no width of a title
+  -- `line_count` and `line_width`, with the codes of their text and titles replaced, though they read no width of a title
   pub counted : (text titles : List ℕ) (framed : Block) (wrap : Wrap) (columns : ℕ) →
-      count.answerOf (count.callOf (replaced a text) b titles framed wrap columns) ≡ count.answerOf (count.callOf text a titles framed wrap columns)
+      count.answerOf (count.callOf (replaced a text) b (replaced a titles) framed wrap columns) ≡ count.answerOf (count.callOf text a titles framed wrap columns)
   pub measured : (text titles : List ℕ) (framed : Block) →
-      width.answerOf (width.callOf (replaced a text) b titles framed) ≡ width.answerOf (width.callOf text a titles framed)
+      width.answerOf (width.callOf (replaced a text) b (replaced a titles) framed) ≡ width.answerOf (width.callOf text a titles framed)
   -- a block is drawn alike, with the codes of its titles replaced
   pub framed : (columns rows : ℕ) (cells styles titles : List ℕ) (area : Rect) (framed : Block) →
       let old = block.callOf columns rows cells styles titles a area framed in

@@ -1,5 +1,5 @@
--- Document 01, 'Why a call is refused': the causes, the answer and the drawing of the call `draw_block`. Document 02, C-11: its titles are
--- read as set.
+-- Document 01, 'Why a call is refused': the causes, the answer and the drawing of the call `draw_block`. Document 02, C-11: "each
+-- call that reads widths takes an enum setting".
 use Prim.Native.Nat.{ℕ}
 use mathlib.Core.List.{List, [], _∷_, _++_}
 use lib.ListN.{length}

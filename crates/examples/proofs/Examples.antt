@@ -1,5 +1,5 @@
 -- Theorem `examples`: the eleven cases of document 01's 'Small notices by hand' that are marked *, by computation. Record 0 of
--- each text is its head, so `glyphs 4 "abc"` are its fourth to sixth letters. Cases that don't say whether lines are trimmed hold
+-- each text is its head, so `glyphs ambiguous 4 "abc"` are its fourth to sixth letters. Cases that don't say whether lines are trimmed hold
 -- for both, and all of them however ambiguous glyphs are read: no text has one.
 use Prim.Native.Nat.{ℕ}
 use mathlib.Core.Path.{_≡_, refl}

@@ -15,8 +15,8 @@ use text::AmbiguousWidth;
 use text::TitlePosition;
 ghost use mathlib.Core.Path.{_≡_};
 ghost use mathlib.Core.Bool.{_&&_};
-ghost use Rattle.flat.specs.FlatExtra.{unnamed, alignmentNamed, ambiguousKnown, ambiguousNamed, tallyKnown, listKnown, positionNamed, shadowNamed, wrapNamed};
-ghost use Rattle.flat.specs.FlatExtra.{areaFrom, blockKnown, blockFrom, textKnown, noticeFrom};
+ghost use Rattle.flat.specs.FlatExtra.{unnamed, alignmentNamed, ambiguousKnown, ambiguousNamed, tallyKnown, listKnown};
+ghost use Rattle.flat.specs.FlatExtra.{positionNamed, shadowNamed, wrapNamed, areaFrom, blockKnown, blockFrom, textKnown, noticeFrom};
 
 // A rectangle.
 #[repr(C)]
@@ -312,8 +312,8 @@ pub fn all_known(block: FlatBlock, text: FlatText) -> bool
     false
 }
 
-// Whether every number of a block's settings names a case, and the reading of its titles does.
-pub fn titled_known(block: FlatBlock, ambiguous: u8) -> bool
+// Whether every number of a block's settings names a case, and the number of a reading of ambiguous glyphs does.
+pub fn block_and_reading_known(block: FlatBlock, ambiguous: u8) -> bool
     ensures { λ r. ⌜ r ≡ (blockKnown block && ambiguousKnown ambiguous) ⌝ }
 {
     if block.is_known() {

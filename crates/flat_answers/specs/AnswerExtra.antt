@@ -1,8 +1,6 @@
 -- Not in the papers: the calls' answers as flat structs, for C programs. A refused call returns its number and zeros, as in
 -- document 01's table; a call with a setting whose number names no case returns 255 and zeros.
 use Prim.Native.Nat.{ℕ}
-use mathlib.Core.Bool.{Bool, _&&_}
-use lib.Dec.{leb}
 use Rattle.layout.specs.declared.Rect.{Rect}
 use Rattle.inner.specs.declared.InnerAnswer.{InnerAnswer}
 use Rattle.inner.specs.Call.{innerAnswerNumber, innerAnswerRect}

@@ -1,7 +1,6 @@
 // Truncates one text line (reflow.rs: `LineTruncator`).
 
 use text::Alignment;
-use text::glyph;
 use wrapping::Rule;
 use wrapping::Run;
 ghost use mathlib.Core.Path.{_≡_};

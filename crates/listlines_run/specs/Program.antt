@@ -19,8 +19,8 @@ abbrev pub answerFor : ListAnswer → Answer
 answerFor (listed-variant.Written count) = answer.Lines count
 answerFor (listed-variant.Refused why) = answer.Refused (refusalNumber why)
 
--- "the notice aligned left", and document 02, C-11: "`listlines` reads narrow.": the list call for a text and a list, which has an entry for each record accepted and is never too
--- short (theorem `long-enough`)
+-- "the notice aligned left", and document 02, C-11: "`listlines` reads narrow.": the list call for a text and a list, which has an
+-- entry for each record accepted and is never too short (theorem `long-enough`)
 abbrev pub callFor : ℕ → Bool → List ℕ → List ℕ → Call
 callFor limit trim text list = callOf text Narrow Left limit trim list
 

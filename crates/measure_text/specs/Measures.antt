@@ -1,4 +1,5 @@
--- Document 01, 'After the pages': `line_count` and `line_width`. Document 02, C-11: their widths are as read.
+-- Document 01, 'After the pages': `line_count` and `line_width`. Document 02, C-11: "every part that asks
+-- for a width follows".
 use Prim.Native.Nat.{ℕ, _+_, max}
 use mathlib.Core.Bool.{cond}
 use mathlib.Core.List.{List, [], _∷_}

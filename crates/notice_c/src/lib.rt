@@ -19,7 +19,8 @@ ghost use Rattle.measure.specs.LineWidth.{callOf as widthCall, answerOf as widt
 ghost use Rattle.draw_block.specs.Call.{callOf as blockCall, answerOf as blockAnswer, cellsAfter as blockCells, blockAnswerNumber};
 ghost use Rattle.draw_notice.specs.Call.{callOf as noticeCall, answerOf as noticeAnswer, cellsAfter as noticeCells};
 ghost use Rattle.count_pages.specs.Call.{answerOf as pagesAnswer};
-ghost use Rattle.flat.specs.FlatExtra.{flagNamed, alignmentNamed, ambiguousKnown, ambiguousNamed, tallyKnown, listKnown, wrapNamed, areaFrom, blockKnown, blockFrom, textKnown, noticeFrom};
+ghost use Rattle.flat.specs.FlatExtra.{flagNamed, alignmentNamed, ambiguousKnown, ambiguousNamed, tallyKnown, listKnown, wrapNamed};
+ghost use Rattle.flat.specs.FlatExtra.{areaFrom, blockKnown, blockFrom, textKnown, noticeFrom};
 ghost use Rattle.flat_answers.specs.AnswerExtra.{unknownNumber};
 ghost use Rattle.flat_answers.specs.AnswerExtra.{listFlat, tallyFlat, areaFlat, drawFlat, measureFlat, pagesFlat};
 ghost use Rattle.flat_answers.specs.AnswerExtra.{listUnknown, tallyUnknown, areaUnknown, drawUnknown, measureUnknown, pagesUnknown};
@@ -113,7 +114,7 @@ pub extern "C" fn notice_draw_block(
         ⌜ (r ≡ cond known (blockAnswerNumber (blockAnswer call)) unknownNumber)
         × (now (cells .exit) ≡ cond known (blockCells call) lent) ⌝ }
 {
-    if !flat::titled_known(block, ambiguous) {
+    if !flat::block_and_reading_known(block, ambiguous) {
         return 255;
     }
     let reading = flat::ambiguous_named(ambiguous);
@@ -257,7 +258,7 @@ pub extern "C" fn notice_line_width(
         let call = widthCall (now (text .entry)) (ambiguousNamed ambiguous) (now (titles .entry)) (blockFrom block) in
         ⌜ r ≡ cond (blockKnown block && ambiguousKnown ambiguous) (measureFlat (widthAnswer call)) measureUnknown ⌝ }
 {
-    if !flat::titled_known(block, ambiguous) {
+    if !flat::block_and_reading_known(block, ambiguous) {
         return FlatMeasureAnswer {
             number: 255,
             value: 0,

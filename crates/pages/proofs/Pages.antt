@@ -9,7 +9,7 @@ use Rattle.tally.proofs.EveryGlyph.{tally-counts}
 use Rattle.draw_notice.specs.Call.{Call}
 use Rattle.draw_notice.proofs.Answers.{text-sound}
 use Rattle.pages.specs.Pages.{innerArea, composedLines, scrollOf, Placement, placements}
-use Rattle.pages.specs.Reading.{Seen, seen, OneCell, WrappedNotice, Reached, NothingLost, AllCounted, SameCounts, DemandThree}
+use Rattle.pages.specs.Reading.{Seen, seen, OneCell, WrappedNotice, Reached, NothingLost, SameCounts, DemandThree}
 use Rattle.pages.proofs.Fit.{Fit}
 use Rattle.pages.proofs.Screen.{accepted-at, inner-some}
 use Rattle.pages.proofs.Read.{pages-read}

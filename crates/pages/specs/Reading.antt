@@ -52,7 +52,8 @@ abbrev pub summed : ℕ → ℕ → (ℕ → ℕ) → ℕ
 summed a zero f = 0
 summed a (suc n) f = f a + summed (suc a) n f
 
--- "glyphs all one cell wide, the blank symbol on the whitespace ones and no others"
+-- "glyphs all one cell wide, the blank symbol on the whitespace ones and no others"; by the width read, so an ambiguous glyph is if
+-- it is read narrow
 abbrev pub OneCell : List Glyph → Type 0
 OneCell [] = Unit {0}
 OneCell (g ∷ gs) = ((g .width ≡ 1) × (g .whitespace ≡ eqb (g .symbol) blankSymbol)) × OneCell gs

@@ -33,7 +33,8 @@ fn render_borders_and_titles(
     requires { ⌜ OnScreen screen (length (now cells)) met ⌝ }
     ensures { λ _.
         let styles′ = now (styles .entry) in
-        let drawings = sides styles′ block met ∷ corners styles′ block met ∷ titlesOn styles′ block met (titlesFrom ambiguous (now (titles .entry))) ∷ [] in
+        let read = titlesFrom ambiguous (now (titles .entry)) in
+        let drawings = sides styles′ block met ∷ corners styles′ block met ∷ titlesOn styles′ block met read ∷ [] in
         ⌜ now (cells .exit) ≡ drawn (screen .columns) (inOrder drawings) (now (cells .entry)) ⌝ }
 {
     render_borders::render_borders(screen, cells, styles, block, met);

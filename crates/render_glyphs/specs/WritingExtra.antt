@@ -5,7 +5,7 @@ use mathlib.Core.Path.{_≡_}
 use mathlib.Core.List.{List}
 use lib.ListN.{length}
 use Rattle.text.specs.Record.{symbolOf, styleOf}
-use Rattle.text.specs.Line.{Start, Glyph, numbered, startsFrom}
+use Rattle.text.specs.Line.{Start, numbered, startsFrom}
 use Rattle.text.specs.Lists.{countOf}
 use Rattle.wrapping.specs.declared.Rule.{Rule}
 use Rattle.wrapping.specs.Wrapping.{notOverWide}

@@ -73,7 +73,9 @@ fn render_next_title(
     ambiguous: AmbiguousWidth,
 ) -> Place
     requires { ⌜ AreaFits screen (length (now cells)) (place .area) × (0 < screen .columns) ⌝ }
-    ensures { λ r. ⌜ Moved screen (now (styles .entry)) block group (titleOf ambiguous word (now (glyphs .entry))) place (now (cells .entry)) r (now (cells .exit)) ⌝ }
+    ensures { λ r.
+        let title = titleOf ambiguous word (now (glyphs .entry)) in
+        ⌜ Moved screen (now (styles .entry)) block group title place (now (cells .entry)) r (now (cells .exit)) ⌝ }
 {
     let area = place.area;
     if area.is_empty() {
@@ -173,7 +175,8 @@ pub fn render_left_titles(
     requires { ⌜ (0 < screen .columns) × Opens (now titles) ⌝ }
     requires { ⌜ AreaFits screen (length (now cells)) area ⌝ }
     ensures { λ _.
-        let drawing = titlesDrawn (now (styles .entry)) block (leftTitles area (filteredTitles block position Left (titlesFrom ambiguous (now (titles .entry))))) in
+        let read = titlesFrom ambiguous (now (titles .entry)) in
+        let drawing = titlesDrawn (now (styles .entry)) block (leftTitles area (filteredTitles block position Left read)) in
         ⌜ now (cells .exit) ≡ drawn (screen .columns) drawing (now (cells .entry)) ⌝ }
 {
     let group = Group {
@@ -237,7 +240,8 @@ pub fn render_center_titles(
     requires { ⌜ (0 < screen .columns) × Opens (now titles) ⌝ }
     requires { ⌜ AreaFits screen (length (now cells)) area × (area .height ≡ 1) ⌝ }
     ensures { λ _.
-        let drawing = titlesDrawn (now (styles .entry)) block (centerTitles area (filteredTitles block position Center (titlesFrom ambiguous (now (titles .entry))))) in
+        let read = titlesFrom ambiguous (now (titles .entry)) in
+        let drawing = titlesDrawn (now (styles .entry)) block (centerTitles area (filteredTitles block position Center read)) in
         ⌜ now (cells .exit) ≡ drawn (screen .columns) drawing (now (cells .entry)) ⌝ }
 {
     let group = Group {

@@ -17,7 +17,6 @@ use Rattle.buffer.proofs.Changed.{changed-same, part-length, part-borrowed}
 use Rattle.buffer.proofs.Within.{within-inside, within-before}
 use Rattle.line_composer.specs.declared.WrappedLine.{WrappedLine}
 use Rattle.line_composer.specs.Lines.{Line, lineAt}
-use Rattle.line_composer.specs.Places.{isPlaced, isClipped}
 use Rattle.render_glyphs.specs.declared.GlyphCounts.{GlyphCounts}
 use Rattle.render_glyphs.specs.RenderGlyphs.{glyphsOn}
 use Rattle.render_glyphs.specs.WritingExtra.{startsOf, Wrote}

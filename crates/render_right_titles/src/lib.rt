@@ -92,7 +92,9 @@ fn render_previous_title(
     ambiguous: AmbiguousWidth,
 ) -> Rect
     requires { ⌜ AreaFits screen (length (now cells)) area × (0 < screen .columns) ⌝ }
-    ensures { λ r. ⌜ MovedBack screen (now (styles .entry)) block group (titleOf ambiguous word (now (glyphs .entry))) area (now (cells .entry)) r (now (cells .exit)) ⌝ }
+    ensures { λ r.
+        let title = titleOf ambiguous word (now (glyphs .entry)) in
+        ⌜ MovedBack screen (now (styles .entry)) block group title area (now (cells .entry)) r (now (cells .exit)) ⌝ }
 {
     if area.is_empty() {
         return area;

@@ -50,6 +50,7 @@ fn replay_parts(question: Question, fd: i32) {
     let mut text = [0u32; 16384];
     let mut list = [0u64; 32768];
     replay_part(question, Part::Short, fd, &mut text, &mut list);
+    replay_part(question, Part::Ambiguous, fd, &mut text, &mut list);
     replay_part(question, Part::Several, fd, &mut text, &mut list);
     replay_part(question, Part::Long, fd, &mut text, &mut list);
 }

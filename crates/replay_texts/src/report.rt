@@ -17,6 +17,7 @@ fn print_question(question: Question) -> bool {
 fn print_part(part: Part) -> bool {
     match part {
         Part::Short => io::write_all(STDOUT_FILENO, b", short lines: "),
+        Part::Ambiguous => io::write_all(STDOUT_FILENO, b", ambiguous lines: "),
         Part::Several => io::write_all(STDOUT_FILENO, b", several lines: "),
         Part::Long => io::write_all(STDOUT_FILENO, b", long texts: "),
     }

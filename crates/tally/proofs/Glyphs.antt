@@ -1,4 +1,4 @@
--- The loop of `glyph_counts`: the records of a text read one by one.
+-- The loop of `read_glyph_counts`: the records of a text read one by one.
 use Prim.Native.Nat.{ℕ, _+_, _≤_, _<_}
 use mathlib.Core.Path.{_≡_}
 use mathlib.Core.Bool.{Bool, true, false}
@@ -19,7 +19,7 @@ use Rattle.tally.specs.TallyingExtra.{glyphCounts}
 abbrev pub after : Rule → List ℕ → ℕ → List Glyph
 after u text i = glyphsFrom (u .ambiguous) i (drop i text)
 
--- Invariant of `glyph_counts`: i records were read; the counts so far plus those of the remaining records are those of the text.
+-- Invariant of `read_glyph_counts`: i records were read; the counts so far plus those of the remaining records are those of the text.
 pub record Passing (u : Rule) (text : List ℕ) (glyphs over i : ℕ) : Type 0 where
   pub within : i ≤ length text
   pub glyphs-few : glyphs ≤ i

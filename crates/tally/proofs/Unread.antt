@@ -11,7 +11,7 @@ use lib.ListN.{length}
 use Rattle.text.specs.declared.AmbiguousWidth.{AmbiguousWidth}
 use Rattle.text.specs.declared.AmbiguousWidth.the-variants.{Narrow}
 use Rattle.text.specs.Record.{isHead, widthOf}
-use Rattle.text.specs.Line.{Glyph, glyphFrom, glyphsFrom, untilHead, linesFrom}
+use Rattle.text.specs.Line.{glyphFrom, glyphsFrom, untilHead, linesFrom}
 use Rattle.text.proofs.Reading.{width-most}
 use Rattle.wrapping.specs.declared.Rule.{Rule}
 use Rattle.wrapping.specs.Wrapping.{overWide, overWides}

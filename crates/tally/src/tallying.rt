@@ -1,6 +1,7 @@
 // Counting of a text's glyphs by kind.
 use crate::TallyCounts;
 use crate::TextGlyphCounts;
+use text::glyph::WIDEST;
 use text::head;
 use text::line;
 use wrapping::Rule;
@@ -9,8 +10,8 @@ ghost use Rattle.text.specs.Line.{Opens, FewRecords};
 ghost use Rattle.tally.specs.Tally.{tallyOf};
 ghost use Rattle.tally.specs.TallyingExtra.{glyphCounts};
 
-// Counts a text's glyphs, the records that aren't heads, and the over-wide ones among them.
-fn glyph_counts(rule: Rule, text: &[u32]) -> TextGlyphCounts
+// Counts a text's glyphs, the records that aren't heads, and the over-wide ones among them, by reading their widths.
+fn read_glyph_counts(rule: Rule, text: &[u32]) -> TextGlyphCounts
     requires { ⌜ FewRecords (now text) ⌝ }
     ensures { λ r. ⌜ r ≡ glyphCounts rule (now (text .entry)) ⌝ }
 {
@@ -31,13 +32,13 @@ fn glyph_counts(rule: Rule, text: &[u32]) -> TextGlyphCounts
     TextGlyphCounts { glyphs, over_wide }
 }
 
-// Counts the same without reading a width if no glyph can be over-wide.
-fn all_glyph_counts(rule: Rule, text: &[u32]) -> TextGlyphCounts
+// Counts a text's glyphs and the over-wide ones among them. At a limit as large as any width there are none, and no width is read.
+fn glyph_counts(rule: Rule, text: &[u32]) -> TextGlyphCounts
     requires { ⌜ FewRecords (now text) ⌝ }
     ensures { λ r. ⌜ r ≡ glyphCounts rule (now (text .entry)) ⌝ }
 {
-    if rule.limit < 6 {
-        return glyph_counts(rule, text);
+    if rule.limit < WIDEST {
+        return read_glyph_counts(rule, text);
     }
     let heads = line::count_text_lines(text);
     let count = text.len() - heads;
@@ -64,7 +65,7 @@ pub fn text_counts(rule: Rule, text: &[u32]) -> TallyCounts
         };
     }
     let lines = tally_lines::line_counts(rule, text);
-    let glyphs = all_glyph_counts(rule, text);
+    let glyphs = glyph_counts(rule, text);
     TallyCounts {
         lines: lines.lines,
         placed: lines.placed,

@@ -6,7 +6,7 @@ use test_texts::texts::write_random;
 ghost use Prim.Native.Nat.{_<_, _≤_};
 ghost use lib.ListN.{length};
 
-// Returns the exclusive bound of glyph widths: mostly widths up to 3, any width once in eight.
+// Returns the exclusive bound of width codes: mostly codes up to 3, any code once in eight; the ambiguous one comes besides.
 fn widths(x: u32) -> u32
     ensures { λ r. ⌜ (0 < r) × (r ≤ 8) ⌝ }
 {

@@ -1,4 +1,4 @@
-// The three parts of the cases, in order.
+// The four parts of the cases, in order.
 use crate::Case;
 use crate::long;
 use crate::several;
@@ -8,6 +8,7 @@ ghost use lib.ListN.{length};
 
 pub enum Part {
     Short,
+    Ambiguous,
     Several,
     Long,
 }
@@ -18,6 +19,7 @@ pub fn count(part: Part) -> u32
 {
     match part {
         Part::Short => 196080,
+        Part::Ambiguous => 93620,
         Part::Several => 60000,
         Part::Long => 400,
     }
@@ -30,6 +32,7 @@ pub fn write_case(part: Part, number: u32, text: &mut [u32]) -> Case
 {
     match part {
         Part::Short => short::write_case(text, number),
+        Part::Ambiguous => short::write_ambiguous_case(text, number),
         Part::Several => several::write_case(text, number),
         Part::Long => long::write_case(text, number),
     }

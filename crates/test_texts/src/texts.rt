@@ -8,8 +8,8 @@ ghost use Prim.Native.Nat.{_<_, _≤_};
 ghost use lib.ListN.{length};
 ghost use Rattle.test_texts.specs.MannersExtra.{Writable};
 
-// Distribution of a random text: one record in `heads` is a head, widths are below `widths` or ambiguous, each as often, and one
-// glyph in `spaces` is whitespace.
+// Distribution of a random text: one record in `heads` is a head, width codes are below `widths` or, as often as each of these,
+// ambiguous, and one glyph in `spaces` is whitespace.
 pub struct Manner {
     pub heads: u32,
     pub widths: u32,

@@ -15,6 +15,8 @@ pub record Glyph : Type 0 where
   pub whitespace : Bool
   pub style : ℕ
 
+-- the glyph of a record. C-11: "The promise of reading a glyph's width changes, and every part that asks for a width follows."
+-- Every rule that asks for a width asks a glyph.
 abbrev pub glyphFrom : AmbiguousWidth → ℕ → ℕ → Glyph
 glyphFrom ambiguous number r =
     record { number = number; symbol = symbolOf r; width = widthOf ambiguous r; whitespace = whitespaceOf r; style = styleOf r }

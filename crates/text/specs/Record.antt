@@ -22,7 +22,8 @@ whitespaceOf r = eqb (r / 2 ^ 6 % 2) 1
 abbrev pub styleOf : ℕ → ℕ
 styleOf r = r % 2 ^ 6
 
--- C-11: "Width code 7 now means ambiguous, and each call that reads widths takes an enum setting, narrow (1) or wide (2)."
+-- C-11: "Width code 7 now means ambiguous, and each call that reads widths takes an enum setting, narrow (1) or wide (2)." "Code 7
+-- meant seven cells before, and no panel has used it."
 abbrev pub ambiguousCells : AmbiguousWidth → ℕ
 ambiguousCells Narrow = 1
 ambiguousCells Wide = 2

@@ -15,6 +15,9 @@ pub const STYLES: u32 = 1 << 6;
 // Width code of an ambiguous glyph; those below it are widths.
 const AMBIGUOUS: u32 = 7;
 
+// Largest width.
+pub const WIDEST: usize = 6;
+
 // Place value of a field's lowest bit.
 const SYMBOL_PLACE: u32 = 1 << 10;
 

@@ -39,7 +39,9 @@ pub fn write_title_line(
     ambiguous: AmbiguousWidth,
 )
     requires { ⌜ w ≡ length (now row) ⌝ }
-    ensures { λ _. ⌜ now (row .exit) ≡ changed (titleLine (now (styles .entry)) alignment w (titleGlyphs ambiguous (now (glyphs .entry)))) (now (row .entry)) ⌝ }
+    ensures { λ _.
+        let line = titleLine (now (styles .entry)) alignment w (titleGlyphs ambiguous (now (glyphs .entry))) in
+        ⌜ now (row .exit) ≡ changed line (now (row .entry)) ⌝ }
 {
     let t = crate::line_width_u16(glyphs, ambiguous);
     let hidden = hidden_columns(alignment, t, w) as usize;

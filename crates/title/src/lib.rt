@@ -41,7 +41,8 @@ fn render_title_line(
 )
     requires { ⌜ TitleArea screen (length (now cells)) area ⌝ }
     ensures { λ _.
-        let drawing = inRow (area .x) (rightOf area) (area .y) (titleLine (now (styles .entry)) alignment (area .width) (titleGlyphs ambiguous (now (glyphs .entry)))) in
+        let line = titleLine (now (styles .entry)) alignment (area .width) (titleGlyphs ambiguous (now (glyphs .entry))) in
+        let drawing = inRow (area .x) (rightOf area) (area .y) line in
         ⌜ now (cells .exit) ≡ drawn (screen .columns) drawing (now (cells .entry)) ⌝ }
 {
     let row = (area.y as usize) * (screen.columns as usize);

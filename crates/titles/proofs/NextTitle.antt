@@ -1,5 +1,5 @@
 -- The title of a head, and the titles after it.
-use Prim.Native.Nat.{ℕ, suc, _+_, _-_, _<_, _≤_}
+use Prim.Native.Nat.{ℕ, _+_, _-_, _<_, _≤_}
 use mathlib.Core.Path.{_≡_, ap, _∙_}
 use mathlib.Core.List.{List, [], _∷_, map}
 use native.Mathlib.Omega.{arith}
@@ -9,7 +9,7 @@ use Rattle.text.specs.declared.AmbiguousWidth.{AmbiguousWidth}
 use Rattle.text.specs.Line.{untilHead, linesFrom}
 use Rattle.text.proofs.TextLines.{AtHead, rest, rest-drops, rest-within, take-until-head, next-opens, line-first}
 use Rattle.titles.specs.Titles.{Title, titleRead}
-use Rattle.titles.specs.PlacingExtra.{lineOf, titleOf}
+use Rattle.titles.specs.PlacingExtra.{titleOf}
 
 -- the titles from record `at` on
 abbrev pub titlesAfter : AmbiguousWidth → List ℕ → ℕ → List Title

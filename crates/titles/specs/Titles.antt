@@ -1,5 +1,6 @@
 -- Document 01, 'Inner area and frame (block.rs, padding.rs)': the titles of a block, "by the rules of `render_left_titles`,
--- `render_center_titles`, `render_right_titles`", named here as in the Rust. Sums saturate at 65,535, differences at 0. Document 02, C-11: titles are read before they are placed.
+-- `render_center_titles`, `render_right_titles`", named here as in the Rust. Sums saturate at 65,535, differences at 0.
+-- Document 02, C-11: "every part that asks for a width follows": titles are read once, before any is chosen or placed.
 use Prim.Native.Nat.{ℕ, _+_, _-_, _/_, min, max}
 use mathlib.Core.Bool.{Bool, cond, _&&_}
 use mathlib.Core.List.{List, [], _∷_, _++_, map, reverse}

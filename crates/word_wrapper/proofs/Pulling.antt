@@ -74,7 +74,7 @@ unfolding joinIfDueRun joinRun
 joined-at u s r w space e =
     ap (λ (x : WordWrapper). x .at) e ∙ cond-cases (λ (x : WordWrapper). x .at ≡ s .at) (joins u (pendingOf s) w space) (joinRun (u .trim) s) s (λ _. refl) (λ _. refl)
 
--- before a step, adding a width that fits can't overflow, and the width has three bits
+-- before a step, adding a width that fits can't overflow, and the width is below 8
 module _ (u : Rule) (g : GlyphWidth) (x w : ℕ) (d : g ≡ fittingOf u x) (k : g ≡ Fits w) where
   pub join-fits : (records : List ℕ) (s : WordWrapper) → WrapperInvariant u records s → length records < 2 ^ 28
       → s .row .width + s .spaces .width + s .word .width + w < 2 ^ 32

@@ -3,6 +3,7 @@ mod runs;
 
 use text::AmbiguousWidth;
 use text::glyph;
+use text::glyph::WIDEST;
 ghost use mathlib.Core.Path.{_≡_};
 ghost use Prim.Native.Nat.{_≤_, min};
 ghost use Rattle.text.specs.Record.{widthOf};
@@ -34,14 +35,14 @@ impl Rule {
     fn widest_plain(self) -> usize
         ensures { λ r. ⌜ r ≡ min (self .limit) 6 ⌝ }
     {
-        if self.limit < 6 {
+        if self.limit < WIDEST {
             return self.limit;
         }
-        6
+        WIDEST
     }
 
-    // Returns the width of a glyph as the rule reads it, or that it is over-wide. For most glyphs that takes one comparison: the
-    // setting is read only if the code is ambiguous or exceeds the limit.
+    // Returns the width of a glyph as the rule reads it, or that it is over-wide. Most codes are widths within the limit; the setting
+    // is read only for the others.
     pub fn fitting(self, word: u32) -> GlyphWidth
         ensures { λ r. ⌜ r ≡ fittingOf self word ⌝ }
     {

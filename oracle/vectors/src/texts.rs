@@ -13,8 +13,9 @@ use crate::Part;
 use case::Case;
 
 /// The parts, in the order of the data.
-pub const PARTS: [Part<Case>; 3] = [
+pub const PARTS: [Part<Case>; 4] = [
     Part { name: "short lines", count: 196_080, case: short::case },
+    Part { name: "ambiguous lines", count: 93_620, case: short::ambiguous_case },
     Part { name: "several lines", count: 60_000, case: several::case },
     Part { name: "long texts", count: 400, case: long::case },
 ];

@@ -2,7 +2,6 @@
 use Rattle.measure_text.proofs.Lines.{count-none, count-sum}
 use Rattle.measure.proofs.Answers.{count-refused, count-answered, count-sound}
 use Rattle.measure.proofs.Lines.{count-fits, count-sum-fits}
-use native.Mathlib.Omega.{arith}
 use borrow.Author.Needs.{needs}
 use Rattle.measure.proofs.line_count.Statement.{statement}
 use Rattle.measure.proofs.line_count.Tie as tie

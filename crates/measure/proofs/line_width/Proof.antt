@@ -2,7 +2,6 @@
 use Rattle.measure_text.proofs.Lines.{width-sum}
 use Rattle.measure.proofs.Answers.{width-refused, width-answered, width-sound}
 use Rattle.measure.proofs.Lines.{width-sum-fits}
-use native.Mathlib.Omega.{arith}
 use borrow.Author.Needs.{needs}
 use Rattle.measure.proofs.line_width.Statement.{statement}
 use Rattle.measure.proofs.line_width.Tie as tie

@@ -1,15 +1,14 @@
 -- `notice_c::notice_draw_block` meets its contract.
 use Rattle.notice_c.proofs.Known.{answered-unknown, answered-known}
-use mathlib.Core.Path.{_∙_}
 use borrow.Author.Needs.{needs}
 use Rattle.notice_c.proofs.notice_draw_block.Statement.{statement}
 use Rattle.notice_c.proofs.notice_draw_block.Tie as tie
 
-titled-known-requires : tie.Need-titled-known-requires
-titled-known-requires c κs = search needs
+block-and-reading-known-requires : tie.Need-block-and-reading-known-requires
+block-and-reading-known-requires c κs = search needs
 
 returns : tie.Need-returns
-returns c = (answered-unknown _ _ (c .before .titled-known .ensures) _ _ (c .if1 .taken), answered-unknown _ _ (c .before .titled-known .ensures) _ _ (c .if1 .taken))
+returns c = (answered-unknown _ _ (c .before .block-and-reading-known .ensures) _ _ (c .if1 .taken), answered-unknown _ _ (c .before .block-and-reading-known .ensures) _ _ (c .if1 .taken))
 
 ambiguous-named-requires : tie.Need-ambiguous-named-requires
 ambiguous-named-requires c κs = search needs
@@ -31,7 +30,7 @@ same-length c = search needs
 
 returns-2 : tie.Need-returns-2
 returns-2 c =
-    let known = c .before .before .before .before .before .before .before .before .before .titled-known .ensures in
+    let known = c .before .before .before .before .before .before .before .before .before .block-and-reading-known .ensures in
     let test = c .before .before .before .before .before .before .before .before .if1 .left in
     let reading = c .before .before .before .before .before .before .before .ambiguous-named .ensures in
     let settings = c .before .before .before .before .before .before .block .ensures in
@@ -44,7 +43,7 @@ pub notice-draw-block-spec : {M : Type 1} → statement M
 notice-draw-block-spec =
     tie.close
     (tie.spec
-    titled-known-requires
+    block-and-reading-known-requires
     returns
     ambiguous-named-requires
     block-requires

@@ -1,6 +1,5 @@
 -- `render_right_titles::render_titles_backward` meets its contract.
 use Rattle.titles.proofs.RightTitles.{WalkingBack, walking-back}
-use native.Mathlib.Omega.{arith}
 use borrow.Author.Needs.{needs}
 use Rattle.render_right_titles.proofs.render_titles_backward.Statement.{statement}
 use Rattle.render_right_titles.proofs.render_titles_backward.Tie as tie

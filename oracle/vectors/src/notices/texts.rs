@@ -14,7 +14,8 @@ pub fn text(most: u32, x: u32) -> Vec<u32> {
     case::text(length(d, most), &manner, next(next(d)))
 }
 
-/// Returns the exclusive bound of width codes: mostly codes up to 3, any code once in eight.
+/// Returns the exclusive bound of width codes: mostly codes up to 3, any code once in eight; the
+/// ambiguous one comes besides.
 fn widths(x: u32) -> u32 {
     match below(x, 8) {
         0..2 => 2,

@@ -17,8 +17,8 @@ pub struct Case {
     pub column: u16,
 }
 
-/// Distribution of a random text: one record in `heads` is a head, widths are below `widths` or
-/// ambiguous, each as often, and one glyph in `spaces` is whitespace.
+/// Distribution of a random text: one record in `heads` is a head, width codes are below `widths`
+/// or, as often as each of these, ambiguous, and one glyph in `spaces` is whitespace.
 pub struct Manner {
     pub heads: u32,
     pub widths: u32,

@@ -10,8 +10,8 @@ returns c = search rest
 line-counts-requires : tie.Need-line-counts-requires
 line-counts-requires c κs = search needs
 
-all-glyph-counts-requires : tie.Need-all-glyph-counts-requires
-all-glyph-counts-requires c κs = search needs
+glyph-counts-requires : tie.Need-glyph-counts-requires
+glyph-counts-requires c κs = search needs
 
 sub-t6 : tie.Need-sub-t6
 sub-t6 c = search rest
@@ -34,7 +34,7 @@ text-counts-spec =
     (tie.spec
     returns
     line-counts-requires
-    all-glyph-counts-requires
+    glyph-counts-requires
     sub-t6
     sub-t7
     sub-t8
