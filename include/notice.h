@@ -50,10 +50,10 @@
    pointer with length 0 is fine. The calls keep nothing afterwards, allocate nothing and have no state:
    calls on different cells and lists may run at the same time.
 
-   Stack use is bounded, as no function calls itself. In the archive built here no call takes over 2 KiB,
-   whatever it is given; notice_draw_notice takes the most, 2,040 bytes. Arguments and answer are in the
-   caller's frame besides, under 200 bytes. This is read from the machine code, not proved: `tools/stack`
-   prints the bytes of each call of any archive. */
+   Stack use is bounded, as no function calls itself. In the archive built here notice_draw_notice takes the
+   most, at most 2,056 bytes whatever it is given. Arguments and answer are in the caller's frame besides,
+   under 200 bytes. This is read from the machine code, not proved: `tools/stack` prints the bytes of each
+   call of any archive. */
 #ifndef NOTICE_H
 #define NOTICE_H
 
