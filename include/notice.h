@@ -61,7 +61,10 @@
 #include <stdint.h>
 
 /* Raised when programs written for an earlier version of this header have to be changed. In version 1 no call
-   took a notice_ambiguous, and width code 7 was seven columns. */
+   took a notice_ambiguous, and width code 7 was seven columns. A program for version 1 passes one to
+   notice_list_lines, notice_tally, notice_draw_block and notice_line_width, sets the field of notice_text,
+   which was 8 bytes long and is 10 (0 in it is answered with 255), and is compiled again: the functions' names
+   are the same, so an old object would link and pass the wrong arguments. */
 #define NOTICE_API_VERSION 2
 
 #ifdef __cplusplus

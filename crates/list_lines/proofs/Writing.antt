@@ -30,7 +30,7 @@ pub record WriteInput : Type 0 where
   pub old : List ℕ
 
 -- Loop invariant: before each turn, the entries of the first n lines are written, later entries are unchanged, and the remaining
--- lines are no wider than the limit plus 13.
+-- lines are no wider than the limit plus 11.
 pub record Writing (input : WriteInput) (list : List ℕ) (c : LineComposer) (n : ℕ) : Type 0 where
   pub counting-on : Counting (input .rule) (input .default) (input .text) c n
   pub done : take n list ++ map listed (linesLeft (input .rule) (input .default) (input .text) c) ≡ map listed (lines (input .rule) WordWrap (input .default) (input .text))

@@ -220,8 +220,8 @@ pub extern "C" fn notice_pages(
     flat_answers::pages_answer(counted)
 }
 
-// Returns the number of lines of a notice at a width, the frame's included. Only `wrap` and `ambiguous` of the text's settings are used, but
-// all numbers that should name a case are checked.
+// Returns the number of lines of a notice at a width, the frame's included. Only `wrap` and `ambiguous` of the text's settings are
+// used, but all numbers that should name a case are checked.
 #[no_mangle]
 pub extern "C" fn notice_line_count(
     text: &[u32],
