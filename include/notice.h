@@ -138,7 +138,9 @@ enum notice_wrap {
     NOTICE_WRAP_TRIM = 2
 };
 
-/* How glyphs of the ambiguous width code are read: as one cell or as two. */
+/* How glyphs of the ambiguous width code are read: as one cell or as two. Take what the panel shows: a glyph
+   that is read as one cell and shown in two covers the one after it. Take the same in all calls on one text:
+   pages counted narrow and drawn wide can leave lines out. */
 enum notice_ambiguous {
     NOTICE_AMBIGUOUS_NARROW = 1,
     NOTICE_AMBIGUOUS_WIDE = 2

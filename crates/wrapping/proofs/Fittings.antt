@@ -19,21 +19,18 @@ pub plain-most : (limit : ℕ) → 6 ≤ limit → 6 ≡ min limit 6
 plain-most limit h = omega arith
 
 module _ (u : Rule) (r : ℕ) where
-  fits-read : (w : ℕ) → w ≡ widthOf (u .ambiguous) r → w ≤ u .limit → Fits w ≡ fittingOf u r
+  pub fitting-fits : (w : ℕ) → w ≡ widthOf (u .ambiguous) r → w ≤ u .limit → Fits w ≡ fittingOf u r
   unfolding fittingOf
-  fits-read w e h = rw (← e, le-ltb (u .limit) w h)
+  fitting-fits w e h = rw (← e, le-ltb (u .limit) w h)
 
   -- a code that is a width within the limit
   pub fitting-plain : (code plain : ℕ) → code ≡ widthCodeOf r → plain ≡ min (u .limit) 6 → code ≤ plain → Fits code ≡ fittingOf u r
   fitting-plain code plain e p h =
-      fits-read code (width-plain (u .ambiguous) code r e (λ (seven : code ≡ 7). omega (arith, p))) (omega (arith, p))
+      fitting-fits code (width-plain (u .ambiguous) code r e (λ (seven : code ≡ 7). omega (arith, p))) (omega (arith, p))
 
   pub fitting-over : (w : ℕ) → w ≡ widthOf (u .ambiguous) r → u .limit < w → OverWide ≡ fittingOf u r
   unfolding fittingOf
   fitting-over w e h = rw (← e, lt-ltb (u .limit) w h)
-
-  pub fitting-fits : (w : ℕ) → w ≡ widthOf (u .ambiguous) r → w ≤ u .limit → Fits w ≡ fittingOf u r
-  fitting-fits = fits-read
 
 pub ruleset fittings = (plain-limit, plain-most, fitting-plain, fitting-over, fitting-fits)
 

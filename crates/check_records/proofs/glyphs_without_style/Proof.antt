@@ -2,7 +2,7 @@
 use Prim.Native.Nat.{_-_}
 use mathlib.Core.Logic.{⊎-elim}
 use lib.ListN.{length}
-use Rattle.refuse.proofs.Counts.{Counting, counting}
+use Rattle.text.proofs.Counting.{Counting, counting}
 use Rattle.refuse.specs.ScanExtra.{glyphNoStyle}
 use borrow.Author.Needs.{needs}
 use Rattle.check_records.proofs.glyphs_without_style.Statement.{statement}

@@ -2,13 +2,14 @@
 use Prim.Native.Nat.{_-_}
 use mathlib.Core.Logic.{⊎-elim}
 use lib.ListN.{length}
-use Rattle.text.proofs.Counting.{Counting, counting}
+use Rattle.text.specs.Record.{isHead}
+use Rattle.text.proofs.Counting.{Counting, counting, heads-counted}
 use borrow.Author.Needs.{needs}
 use Rattle.text.proofs.line.count_text_lines.Statement.{statement}
 use Rattle.text.proofs.line.count_text_lines.Tie as tie
 
 abbrev Inv-loop : tie.InvT-loop
-Inv-loop records count₀ i₀ count i = Counting records count i
+Inv-loop records count₀ i₀ count i = Counting isHead records count i
 
 abbrev μ-loop : tie.MeasureT-loop
 μ-loop records count₀ i₀ count i = length records - i
@@ -38,7 +39,7 @@ loop-again : tie.Need-loop-again Inv-loop μ-loop
 loop-again c = ⊎-elim (λ w. search counting) (λ w. search counting) (c .if1 .came)
 
 returns : tie.Need-returns Inv-loop μ-loop
-returns c = search counting
+returns c = search (counting, heads-counted)
 
 pub count-text-lines-spec : {M : Type 1} → statement M
 count-text-lines-spec =
