@@ -20,8 +20,10 @@
    - Glyph: a symbol is any number below 2,097,152, read as a code point; 32 is the blank symbol. Width is
      in columns, 0 to 6; 7 is ambiguous (Unicode UAX 11): each call that reads widths takes a
      notice_ambiguous, by which it is read as 1 or 2. Drawing writes the symbol to the first cell and leaves
-     the symbols of the others that the glyph covers; glyphs of width 0 aren't drawn. Lines break at glyphs
-     with whitespace 1, whatever their symbols.
+     the symbols of the others that the glyph covers, all of them inside the inner area. A glyph of the text
+     that starts inside and would run past the right edge is clipped: its first cell gets the blank symbol, in
+     the text's and the glyph's styles, and no other cell changes. One that starts at the edge or past it changes
+     no cell. Glyphs of width 0 aren't drawn. Lines break at glyphs with whitespace 1, whatever their symbols.
    - Head: alignment is a notice_alignment, where 3 is the default alignment in a text, and "none given" in
      a title. Position is 0 in a text, and a notice_position in a title.
    - Style: sets the given colours, then sets the modifiers to add, then clears those to remove. Colours and
@@ -29,8 +31,8 @@
    - Cell: a blank cell has symbol 32 and zeros.
    - Composed line: first and end are record numbers of the text, counted from 0 with heads included; end
      is one past the last. Both are 0 if the line has no glyph. Its glyphs are those from first to end
-     that are read as no wider than the limit; their width can exceed the limit, and those that start at or
-     past it are clipped. Alignment is a notice_alignment other than default.
+     that are read as no wider than the limit; their width can exceed the limit, and those that run past it are
+     clipped. Alignment is a notice_alignment other than default.
 
    Pages: notice_pages returns the number of lines n, the number of pages that they take, and the inner
    area as drawn, h rows high. Page p, from 0, is drawn by notice_draw_notice with scroll p x h, which is
@@ -282,9 +284,9 @@ typedef struct notice_tally_answer {
     uint32_t number;
     /* Number of composed lines. */
     uint32_t lines;
-    /* Glyphs in a line, of width above 0, that start before the limit. */
+    /* Glyphs in a line, of width above 0, that end at the limit or before it. */
     uint32_t placed;
-    /* Glyphs in a line, of width above 0, that start at or past the limit. */
+    /* Glyphs in a line, of width above 0, that run past the limit, or start at or past it. */
     uint32_t clipped;
     /* Glyphs in a line, of width 0. */
     uint32_t zero_width;
@@ -303,9 +305,9 @@ typedef struct notice_area_answer {
     uint16_t height;
 } notice_area_answer;
 
-/* 0 or the refusal number; rows drawn, glyphs of the text placed, and glyphs clipped: those of width
-   above 0 that start at or past the inner area's right edge. Glyphs of an unwrapped text that are cut off
-   or scrolled out are in neither count. */
+/* 0 or the refusal number; rows drawn, glyphs of the text placed, whose cells are all in the inner area, and
+   glyphs clipped: those of width above 0 that run past its right edge, or start at or past it. Glyphs of an
+   unwrapped text that are cut off or scrolled out are in neither count. */
 typedef struct notice_draw_answer {
     uint32_t number;
     uint32_t rows;

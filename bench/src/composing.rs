@@ -142,7 +142,7 @@ fn compare_tallies(
     trim: bool,
 ) {
     for (number, text) in texts.iter().enumerate() {
-        let oracle::Tally { lines, placed, clipped, zero_width, over_wide, dropped } =
+        let oracle::Tally { lines, placed, clipped, zero_width, over_wide, dropped, .. } =
             answered(oracle::tally(text, ambiguous, limit, trim));
         let counts = [lines, placed, clipped, zero_width, over_wide, dropped];
         assert_eq!(proved_tally(text, ambiguous, limit, trim), counts);

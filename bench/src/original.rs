@@ -50,7 +50,7 @@ macro_rules! original {
                     }
                 }
 
-                /// Composes all lines and counts their glyphs by width and start; this is timed for
+                /// Composes all lines and counts their glyphs by width and end; this is timed for
                 /// the tally. Returns lines, placed, clipped and zero-width.
                 #[inline(never)]
                 pub fn counts(&self, limit: u16, trim: bool) -> [u32; 4] {
@@ -61,9 +61,9 @@ macro_rules! original {
                         let mut start = 0;
                         for grapheme in line.graphemes {
                             let width = grapheme.symbol.cell_width();
-                            let kind = if width == 0 { 3 } else { 1 + usize::from(start >= limit) };
-                            counts[kind] += 1;
                             start += width;
+                            let kind = if width == 0 { 3 } else { 1 + usize::from(start > limit) };
+                            counts[kind] += 1;
                         }
                     }
                     counts

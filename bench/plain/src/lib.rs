@@ -16,6 +16,7 @@ mod line_composer;
 mod line_truncator;
 mod list_lines;
 mod paragraph;
+mod place;
 mod refuse;
 mod render_block;
 mod render_borders;

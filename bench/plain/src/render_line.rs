@@ -3,6 +3,7 @@
 use crate::buffer::style_at;
 use crate::cell;
 use crate::line_composer::WrappedLine;
+use crate::place::Place;
 use crate::text::{Alignment, glyph};
 use crate::word_wrapper::Rule;
 
@@ -20,11 +21,13 @@ fn get_line_offset(alignment: Alignment, area: usize, line: usize) -> usize {
     }
 }
 
-/// Writes a glyph in a cell: the symbol, then the text style, then its own style.
-fn write_glyph(styles: &[u64], text_style: u64, word: u32, cell: u64) -> u64 {
-    let written = cell::set_symbol(glyph::symbol(word), cell);
-    let text_styled = cell::set_style(text_style, written);
-    cell::set_style(style_at(styles, glyph::style(word)), text_styled)
+/// The blank symbol.
+const BLANK: u32 = 32;
+
+/// Writes a symbol in a cell, then the text style, then the style with the number given.
+fn write_cell(styles: &[u64], text_style: u64, symbol: u32, style: u8, cell: &mut u64) {
+    let text_styled = cell::set_style(text_style, cell::set_symbol(symbol, *cell));
+    *cell = cell::set_style(style_at(styles, style), text_styled);
 }
 
 /// Draws a composed line on a row of the area.
@@ -40,17 +43,24 @@ pub fn render_line(
     let text_style = style_at(styles, style);
     let mut counts = GlyphCounts { placed: 0, clipped: 0 };
     for &word in &text[line.first..line.end] {
-        let width = rule.fitting(word).unwrap_or(0);
-        if width == 0 {
+        let Some(width) = rule.fitting(word) else {
             continue;
+        };
+        let width = width as usize;
+        let style = glyph::style(word);
+        match Place::of_glyph(row.len(), column, width) {
+            Place::ZeroWidth => {}
+            Place::Placed => {
+                write_cell(styles, text_style, glyph::symbol(word), style, &mut row[column]);
+                counts.placed += 1;
+            }
+            Place::Halved => {
+                write_cell(styles, text_style, BLANK, style, &mut row[column]);
+                counts.clipped += 1;
+            }
+            Place::Outside => counts.clipped += 1,
         }
-        if let Some(cell) = row.get_mut(column) {
-            *cell = write_glyph(styles, text_style, word, *cell);
-            counts.placed += 1;
-        } else {
-            counts.clipped += 1;
-        }
-        column += width as usize;
+        column += width;
     }
     counts
 }

@@ -2,6 +2,7 @@
 
 use crate::line_composer::{LineComposer, Method};
 use crate::list_lines::check_text;
+use crate::place::Place;
 use crate::refuse::Refusal;
 use crate::text::{Alignment, AmbiguousWidth, glyph, head};
 use crate::word_wrapper::Rule;
@@ -26,14 +27,12 @@ impl TallyCounts {
             if width > rule.limit {
                 continue;
             }
-            if width == 0 {
-                self.zero_width += 1;
-            } else if column < rule.limit {
-                self.placed += 1;
-            } else {
-                self.clipped += 1;
+            match Place::of_glyph(rule.limit as usize, column, width as usize) {
+                Place::ZeroWidth => self.zero_width += 1,
+                Place::Placed => self.placed += 1,
+                Place::Halved | Place::Outside => self.clipped += 1,
             }
-            column += width;
+            column += width as usize;
         }
     }
 }

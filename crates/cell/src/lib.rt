@@ -7,6 +7,9 @@ ghost use Prim.Native.Nat.{_-_, _<_, _^_};
 ghost use lib.Bits.{bitAnd, bitOr};
 ghost use Rattle.cell.specs.Cell.{Cell, cellFrom, cellPacked, blankCell, withSymbol, withUntouched, appearanceOf, styled};
 
+// The blank symbol.
+pub const BLANK_SYMBOL: u64 = 32;
+
 // Place value of a field's lowest bit. The bits never touched are below the modifiers.
 const SYMBOL_PLACE: u64 = 1 << 43;
 
@@ -53,7 +56,7 @@ pub fn untouched(cell: u64) -> u64
 pub fn blank() -> u64
     ensures { λ r. ⌜ r ≡ blankCell ⌝ }
 {
-    32 * SYMBOL_PLACE
+    BLANK_SYMBOL * SYMBOL_PLACE
 }
 
 // Replaces the cell's symbol (`Cell::set_symbol`). A glyph's symbol has 21 bits; cause 7 refuses larger ones in settings.

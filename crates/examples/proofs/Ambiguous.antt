@@ -11,6 +11,7 @@ use Rattle.cell.specs.Cell.{withSymbol, styled}
 use Rattle.buffer.specs.Drawing.{drawn, over, inside}
 use Rattle.wrapping.specs.Rule.{ruleOf}
 use Rattle.wrapping.specs.Wrapping.{overWide, mustJoin, takesSpaces, gathered, joined, unjoined, full, emptied, drops, appended, _then_, joinStep, emitStep, appendStep, step, lastLines, wrap}
+use Rattle.place.specs.Place.{placeOf}
 use Rattle.line_composer.specs.declared.Method.the-variants.{WordWrap}
 use Rattle.line_composer.specs.Lines.{linesOf, lineLines, lines, skipped, wrappedLineOf}
 use Rattle.line_composer.specs.Places.{isPlaced}
@@ -27,7 +28,7 @@ pub at-one : (trim : Bool) →
     × (skipped (ruleOf Narrow 1 trim) (textOf "A") ≡ [])
     × (wrapped Wide 1 trim "A" ≡ [] ∷ [])
     × (skipped (ruleOf Wide 1 trim) (textOf "A") ≡ glyphs Wide 1 "A")
-unfolding readWidth overWide mustJoin takesSpaces gathered joined unjoined full emptied drops appended _then_ joinStep emitStep appendStep step lastLines wrap linesOf lineLines lines skipped isPlaced
+unfolding readWidth overWide mustJoin takesSpaces gathered joined unjoined full emptied drops appended _then_ joinStep emitStep appendStep step lastLines wrap linesOf lineLines lines skipped placeOf isPlaced
 at-one trim = elim trim [ true ↦ (refl, refl, refl, refl, refl) | false ↦ (refl, refl, refl, refl, refl) ]
 
 -- limit 1 "ZAZ", wide: one line from record 1 to record 4 of width 0, as the entry doesn't carry the setting

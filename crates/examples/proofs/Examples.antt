@@ -13,17 +13,19 @@ use Rattle.padding.specs.Padding.{paddingOf}
 use Rattle.block.specs.Inner.{innerOf}
 use Rattle.wrapping.specs.Wrapping.{overWide, mustJoin, takesSpaces, gathered, joined, unjoined, full, emptied, drops, appended, _then_, joinStep, emitStep, appendStep, step, lastLines, wrap}
 use Rattle.line_composer.specs.Lines.{linesOf, lineLines, lines, wrappedLineOf}
-use Rattle.line_composer.specs.Places.{isClipped}
+use Rattle.place.specs.Place.{placeOf}
+use Rattle.line_composer.specs.Places.{isPlaced, isClipped}
 use Rattle.render_line.specs.RenderLine.{lineOffset}
 use Rattle.block.proofs.Examples.{rect, fourBorders, four-borders}
-use Rattle.examples.specs.Notation.{glyphs, wrapped, widths, clippedOf}
+use Rattle.examples.specs.Notation.{glyphs, wrapped, widths, placedOf, clippedOf}
 
 pub record Examples (a : AmbiguousWidth) : Type 0 where
   -- limit 5 trim "___abc": empty | abc. Not trimmed: "___ab" | c.
   pub leading-trimmed : wrapped a 5 true "___abc" ≡ [] ∷ glyphs a 4 "abc" ∷ []
   pub leading-kept : wrapped a 5 false "___abc" ≡ glyphs a 1 "___ab" ∷ glyphs a 6 "c" ∷ []
-  -- limit 3 "abW": one line, width 4. limit 1 "aWb": a | b.
+  -- limit 3 "abW": one line, width 4; C-14: two placed and one clipped. limit 1 "aWb": a | b.
   pub past-limit : (trim : Bool) → (wrapped a 3 trim "abW" ≡ glyphs a 1 "abW" ∷ []) × (widths a 3 trim "abW" ≡ 4 ∷ [])
+  pub past-limit-places : (placedOf 3 (glyphs a 1 "abW") ≡ true ∷ true ∷ false ∷ []) × (clippedOf 3 (glyphs a 1 "abW") ≡ false ∷ false ∷ true ∷ [])
   pub over-wide : (trim : Bool) → wrapped a 1 trim "aWb" ≡ glyphs a 1 "a" ∷ glyphs a 3 "b" ∷ []
   -- limit 3 trim "ZzabcD": Z | abcD, D clipped. limit 4 trim "___aWWx": a | WWx, x clipped.
   pub zero-width : (wrapped a 3 true "ZzabcD" ≡ glyphs a 1 "Z" ∷ glyphs a 3 "abcD" ∷ [])
@@ -39,12 +41,13 @@ pub record Examples (a : AmbiguousWidth) : Type 0 where
   pub inner : (b : Block) (titles : List ℕ) → b .borders ≡ fourBorders → b .padding ≡ paddingOf 0 0 0 0 → innerOf b titles (rect 0 0 1 1) ≡ rect 1 1 0 0
 
 pub examples : (a : AmbiguousWidth) → Examples a
-unfolding readWidth overWide mustJoin takesSpaces gathered joined unjoined full emptied drops appended _then_ joinStep emitStep appendStep step lastLines wrap linesOf lineLines lines wrappedLineOf isClipped lineOffset
+unfolding readWidth overWide mustJoin takesSpaces gathered joined unjoined full emptied drops appended _then_ joinStep emitStep appendStep step lastLines wrap linesOf lineLines lines wrappedLineOf placeOf isPlaced isClipped lineOffset
 examples a =
     record {
       leading-trimmed = refl;
       leading-kept = refl;
       past-limit = λ trim. elim trim [ true ↦ (refl, refl) | false ↦ (refl, refl) ];
+      past-limit-places = (refl, refl);
       over-wide = λ trim. elim trim [ true ↦ refl | false ↦ refl ];
       zero-width = (refl, refl, refl);
       wide = (refl, refl, refl);

@@ -19,6 +19,7 @@ use Rattle.block.specs.Causes.{blockStyles, borderSymbols, blockSymbols}
 use Rattle.block.specs.Inner.{hasTitleAt, innerOf}
 use Rattle.block.proofs.Examples.{rect, fourBorders}
 use Rattle.wrapping.specs.Wrapping.{overWide, mustJoin, takesSpaces, gathered, joined, unjoined, full, emptied, drops, appended, _then_, joinStep, emitStep, appendStep, step, lastLines, wrap}
+use Rattle.place.specs.Place.{placeOf}
 use Rattle.line_composer.specs.Lines.{linesOf, lineLines, lines}
 use Rattle.line_composer.specs.Places.{isPlaced}
 use Rattle.check_block.specs.Styles.{frameStyles}
@@ -89,5 +90,5 @@ on page row column symbol = record { page = page; row = row; column = column; sy
 
 -- each letter's page, row and column
 pub worked-pages : pagesRead worked ≡ on 0 1 1 "a" ∷ on 0 1 2 "b" ∷ on 0 2 2 "c" ∷ on 1 1 1 "d" ∷ on 1 1 2 "e" ∷ []
-unfolding readWidth overWide mustJoin takesSpaces gathered joined unjoined full emptied drops appended _then_ joinStep emitStep appendStep step lastLines wrap linesOf lineLines lines isPlaced lineOffset drawnStarts hasTitleAt innerOf noticeLines innerAreaOf innerArea composedLines placementOf placements
+unfolding readWidth overWide mustJoin takesSpaces gathered joined unjoined full emptied drops appended _then_ joinStep emitStep appendStep step lastLines wrap linesOf lineLines lines placeOf isPlaced lineOffset drawnStarts hasTitleAt innerOf noticeLines innerAreaOf innerArea composedLines placementOf placements
 worked-pages = pages worked accepted one-cell .places ∙ refl

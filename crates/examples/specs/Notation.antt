@@ -1,5 +1,5 @@
 -- Document 01, 'Small notices by hand': "`_` space, W width 2, Z zero-width solid, z zero-width space, other letters one cell";
--- and A ambiguous, for document 02's C-11.
+-- for document 02's C-11 A ambiguous, for its C-14 T width 3, S a space of width 2.
 use Prim.Native.Nat.{ℕ}
 use Prim.Native.Char.{Char, code}
 use Prim.Native.String.{String, [], _∷_}
@@ -13,7 +13,7 @@ use Rattle.text.specs.Line.{Glyph, numbered, startsFrom}
 use Rattle.cell.specs.Cell.{blankSymbol}
 use Rattle.line_composer.specs.declared.Method.the-variants.{WordWrap}
 use Rattle.line_composer.specs.Lines.{Line, lines, wrappedLineOf}
-use Rattle.line_composer.specs.Places.{isClipped}
+use Rattle.line_composer.specs.Places.{isPlaced, isClipped}
 use Rattle.wrapping.specs.Rule.{ruleOf}
 
 abbrev pub is : Char → Char → Bool
@@ -23,9 +23,9 @@ is a b = eqb (code a) (code b)
 abbrev pub packedGlyph : Char → ℕ
 packedGlyph c =
     glyphRecord
-    (cond (is c "_" || is c "z") blankSymbol (code c))
-    (cond (is c "A") 7 (cond (is c "W") 2 (cond (is c "Z" || is c "z") 0 1)))
-    (is c "_" || is c "z")
+    (cond (is c "_" || is c "z" || is c "S") blankSymbol (code c))
+    (cond (is c "A") 7 (cond (is c "T") 3 (cond (is c "W" || is c "S") 2 (cond (is c "Z" || is c "z") 0 1))))
+    (is c "_" || is c "z" || is c "S")
     0
 
 abbrev pub packedGlyphs : String → List ℕ
@@ -48,6 +48,9 @@ wrapped ambiguous limit trim letters = map (λ (line : Line). line .glyphs) (lin
 abbrev pub widths : AmbiguousWidth → ℕ → Bool → String → List ℕ
 widths ambiguous limit trim letters = map (λ (line : Line). wrappedLineOf line .width) (lines (ruleOf ambiguous limit trim) WordWrap Left (textOf letters))
 
--- which glyphs of a line are clipped
+-- which glyphs of a line are placed, and clipped
+abbrev pub placedOf : ℕ → List Glyph → List Bool
+placedOf limit line = map (isPlaced limit) (startsFrom 0 line)
+
 abbrev pub clippedOf : ℕ → List Glyph → List Bool
 clippedOf limit line = map (isClipped limit) (startsFrom 0 line)

@@ -1,30 +1,30 @@
--- A cell of the inner area on any page: the line's glyphs drawn on a cell with the blank symbol, since the paragraph style keeps
--- all symbols and the frame keeps those of the inner area.
+-- A cell of the inner area of a drawn notice: the line's glyphs drawn on a cell that keeps its symbol, since the paragraph style
+-- keeps all symbols and the frame keeps those of the inner area. On a page of a wrapped notice that is the blank symbol.
 use Prim.Native.Nat.{ℕ, _+_, _-_, _*_, _<_}
-use mathlib.Core.Path.{_≡_, ap, _∙_}
+use mathlib.Core.Path.{_≡_, _∙_}
 use mathlib.Core.Bool.{true}
 use mathlib.Core.List.{List, [], _∷_}
 use native.Mathlib.Omega.{arith}
 use lib.ListN.{length, getD, length-replicate, getD-replicate}
 use Rattle.cell.specs.Cell.{cellFrom, blankSymbol, blankCell, styled}
-use Rattle.layout.specs.Rect.{contains}
-use Rattle.buffer.specs.Drawing.{Drawing, drawn, over, inOrder, styleAt}
+use Rattle.layout.specs.Rect.{rightOf, contains}
+use Rattle.buffer.specs.Drawing.{Drawing, over, inOrder, styleAt}
 use Rattle.buffer.proofs.Drawn.{drawn-at}
 use Rattle.buffer.proofs.Over.{inside-there}
-use Rattle.buffer.proofs.Within.{cell-inside}
+use Rattle.buffer.proofs.Rows.{row-fits}
 use Rattle.titles.specs.Titles.{titlesFrom}
 use Rattle.render_block.specs.Frame.{frame, blockOf}
-use Rattle.render_block.proofs.KeepsSymbols.{KeepsSymbol, order-keeps, style-keeps}
+use Rattle.render_block.proofs.KeepsSymbols.{KeepsSymbol, order-keeps, style-keeps, inside-between}
 use Rattle.render_block.proofs.Keeps.{block-keeps}
 use Rattle.line_composer.specs.Lines.{Line}
 use Rattle.render_line.specs.RenderLine.{lineOn}
 use Rattle.render_lines.specs.Rows.{noLine, textOn}
-use Rattle.render_line.proofs.RowDrawn.{right-sum, bottom-sum, row-end}
 use Rattle.paragraph.specs.Notice.{noticeLines, innerAreaOf, insideOf, noticeOf}
 use Rattle.draw_notice.specs.Call.{Call, screenIn, drawingOf, cellsAfter}
-use Rattle.pages.specs.Pages.{scrolledTo, blankCells, callAt, innerArea, composedLines}
+use Rattle.pages.specs.Pages.{callAt, innerArea, composedLines}
 use Rattle.pages.specs.Reading.{WrappedNotice}
-use Rattle.pages.proofs.Screen.{met, accepted-at, met-some, inner-there}
+use Rattle.pages.specs.Inside.{DrawnNotice}
+use Rattle.pages.proofs.Screen.{met, drawn-met, drawn-there, inner-has, is-drawn, page-drawn}
 
 -- the drawings of a notice before its lines
 abbrev beforeLines : Call → List Drawing
@@ -34,68 +34,80 @@ beforeLines i =
     ∷ over (innerArea i) (styled (styleAt (i .styles) (i .notice .style)))
     ∷ []
 
+unfoldable pub underLines : Call → Drawing
+underLines i = inOrder (beforeLines i)
+
 -- a blank cell after these drawings; row and column are counted from the inner area's first
 unfoldable pub cellBefore : Call → ℕ → ℕ → ℕ
-cellBefore i row column = inOrder (beforeLines i) (innerArea i .x + column) (innerArea i .y + row) blankCell
+cellBefore i row column = underLines i (innerArea i .x + column) (innerArea i .y + row) blankCell
 
 -- the composed line with an index, `noLine` past the last
 unfoldable pub lineNumbered : Call → ℕ → Line
 lineNumbered i number = getD (composedLines i) number noLine
 
-module _ (i : Call) (w : WrappedNotice i) where
-  abbrev count : ℕ
-  count = length (blankCells i)
-
+-- a cell of the inner area, by its column and row on the screen
+module _ (i : Call) (d : DrawnNotice i) (column row : ℕ) (within : contains (innerArea i) column row ≡ true) where
   -- the frame keeps the symbols of the inner area
-  frame-keeps : (column row : ℕ) → contains (innerArea i) column row ≡ true
-      → KeepsSymbol (frame (i .styles) (screenIn i) (titlesFrom (i .notice .ambiguous) (i .titles)) (i .notice .block) (met i)) column row
+  frame-keeps : KeepsSymbol (frame (i .styles) (screenIn i) (titlesFrom (i .notice .ambiguous) (i .titles)) (i .notice .block) (met i)) column row
   unfolding innerArea innerAreaOf blockOf
-  frame-keeps column row h cell =
-      rw (met-some i w) at (block-keeps (i .styles) (screenIn i) (i .notice .ambiguous) (i .notice .block) (i .titles) (i .area) column row h cell)
+  frame-keeps cell =
+      rw (drawn-met i d) at (block-keeps (i .styles) (screenIn i) (i .notice .ambiguous) (i .notice .block) (i .titles) (i .area) column row within cell)
 
-  -- the cells of an accepted page
-  page-cells : (scroll : ℕ) → cellsAfter (callAt i scroll)
-      ≡ drawn (i .columns) (noticeOf (i .styles) (screenIn i) (i .text) (i .titles) (scrolledTo scroll (i .notice)) (i .area)) (blankCells i)
-  unfolding cellsAfter drawingOf
-  page-cells scroll = rw (accepted-at i w scroll)
+  pub under-keeps : KeepsSymbol (underLines i) column row
+  unfolding underLines
+  under-keeps = order-keeps (beforeLines i) column row (style-keeps (met i) _ column row, (frame-keeps, (style-keeps (innerArea i) _ column row, tt)))
+
+  -- the cell is one of the screen's
+  pub cell-stored : row * i .columns + column < length (i .cells)
+  cell-stored =
+      let on = drawn-there i d .on-screen in
+      let b = inside-between (innerArea i) column row within in
+      omega (arith, b .right, row-fits (i .columns) (rightOf (innerArea i)) row (i .rows) (length (i .cells)) (on .right) (omega (arith, b .bottom, on .bottom)) (on .size))
 
   -- a notice with a non-empty inner area draws its lines last
-  lines-drawn-last : (scroll column row cell : ℕ) → noticeOf (i .styles) (screenIn i) (i .text) (i .titles) (scrolledTo scroll (i .notice)) (i .area) column row cell
-      ≡ textOn (i .styles) (i .notice .«text_style») (composedLines i) (innerArea i) scroll column row (inOrder (beforeLines i) column row cell)
-  unfolding noticeOf insideOf innerArea innerAreaOf composedLines noticeLines
-  lines-drawn-last scroll column row cell = rw (met-some i w, w .some-cell)
+  lines-drawn-last : (cell : ℕ) → drawingOf i column row cell
+      ≡ textOn (i .styles) (i .notice .«text_style») (composedLines i) (innerArea i) (i .notice .scroll) column row (underLines i column row cell)
+  unfolding drawingOf noticeOf insideOf innerArea innerAreaOf composedLines noticeLines underLines
+  lines-drawn-last cell = rw (drawn-met i d, d .some-cell)
+
+  -- the line is drawn on what the other drawings leave of the cell
+  pub cell-drawn : getD (cellsAfter i) (row * i .columns + column) 0
+      ≡ lineOn (i .styles) (i .notice .«text_style») (innerArea i .width) (lineNumbered i (i .notice .scroll + (row - innerArea i .y))) (column - innerArea i .x)
+      (underLines i column row (getD (i .cells) (row * i .columns + column) 0))
+  unfolding cellsAfter lineNumbered textOn
+  cell-drawn =
+      let b = inside-between (innerArea i) column row within in
+      rw (d .accepted)
+      (drawn-at (i .columns) (drawingOf i) (i .cells) column row (omega (arith, b .right, drawn-there i d .on-screen .right)) cell-stored
+      ∙ lines-drawn-last (getD (i .cells) (row * i .columns + column) 0)
+      ∙ inside-there (innerArea i) _ column row _ within)
+
+module _ (i : Call) (w : WrappedNotice i) where
+  -- the same on a page, which starts on blank cells
+  page-cell : (scroll column row : ℕ) → contains (innerArea i) column row ≡ true → getD (cellsAfter (callAt i scroll)) (row * i .columns + column) 0
+      ≡ lineOn (i .styles) (i .notice .«text_style») (innerArea i .width) (lineNumbered i (scroll + (row - innerArea i .y))) (column - innerArea i .x)
+      (underLines i column row blankCell)
+  unfolding innerArea innerAreaOf composedLines noticeLines lineNumbered underLines
+  page-cell scroll column row within =
+      let page = callAt i scroll in
+      let here = row * i .columns + column in
+      let few : here < i .columns * i .rows = omega (arith, cell-stored page (page-drawn i w scroll) column row within, length-replicate (i .columns * i .rows) blankCell) in
+      rw (getD-replicate (i .columns * i .rows) here blankCell 0 few) at (cell-drawn page (page-drawn i w scroll) column row within)
 
   module _ (row column : ℕ) (down : row < innerArea i .height) (across : column < innerArea i .width) where
     is-inside : contains (innerArea i) (innerArea i .x + column) (innerArea i .y + row) ≡ true
-    is-inside =
-        let right = right-sum (screenIn i) count (innerArea i) (inner-there i w) in
-        let bottom = bottom-sum (screenIn i) count (innerArea i) (inner-there i w) in
-        cell-inside _ _ _ _ (innerArea i .x + column) (innerArea i .y + row) (omega arith) (omega (arith, right)) (omega arith) (omega (arith, bottom))
+    is-inside = inner-has i (is-drawn i w) (innerArea i .x + column) (innerArea i .y + row) (omega arith) (omega arith) (omega arith) (omega arith)
 
     -- before the line is drawn the cell has the blank symbol
     pub before-blank : cellFrom (cellBefore i row column) .symbol ≡ blankSymbol
     unfolding cellBefore
-    before-blank =
-        order-keeps (beforeLines i) (innerArea i .x + column) (innerArea i .y + row)
-        (style-keeps (met i) _ _ _, (frame-keeps _ _ is-inside, (style-keeps (innerArea i) _ _ _, tt))) blankCell
+    before-blank = under-keeps i (is-drawn i w) (innerArea i .x + column) (innerArea i .y + row) is-inside blankCell
 
     -- the line is drawn on that cell
     pub cell-there : (scroll : ℕ) → getD (cellsAfter (callAt i scroll)) ((innerArea i .y + row) * i .columns + (innerArea i .x + column)) 0
         ≡ lineOn (i .styles) (i .notice .«text_style») (innerArea i .width) (lineNumbered i (scroll + row)) column (cellBefore i row column)
-    unfolding cellBefore lineNumbered textOn
+    unfolding cellBefore
     cell-there scroll =
-        let a = inner-there i w in
-        let right = right-sum (screenIn i) count (innerArea i) a in
-        let x : ℕ = innerArea i .x + column in
-        let y : ℕ = innerArea i .y + row in
-        let there : y * i .columns + x < count = omega (arith, right, row-end (screenIn i) count (innerArea i) a row down) in
-        let few : y * i .columns + x < i .columns * i .rows = omega (arith, there, length-replicate (i .columns * i .rows) blankCell) in
-        let own-row : y - innerArea i .y ≡ row = omega arith in
-        let own-column : x - innerArea i .x ≡ column = omega arith in
-        ap (λ (cells : List ℕ). getD cells (y * i .columns + x) 0) (page-cells scroll)
-        ∙ drawn-at (i .columns) _ (blankCells i) x y (omega (arith, right, a .on-screen .right)) there
-        ∙ ap (noticeOf (i .styles) (screenIn i) (i .text) (i .titles) (scrolledTo scroll (i .notice)) (i .area) x y)
-        (getD-replicate (i .columns * i .rows) (y * i .columns + x) blankCell 0 few)
-        ∙ lines-drawn-last scroll x y blankCell
-        ∙ inside-there (innerArea i) _ x y _ is-inside
-        ∙ rw (own-row, own-column)
+        let own-row : innerArea i .y + row - innerArea i .y ≡ row = omega arith in
+        let own-column : innerArea i .x + column - innerArea i .x ≡ column = omega arith in
+        rw (own-row, own-column) at (page-cell scroll (innerArea i .x + column) (innerArea i .y + row) is-inside)

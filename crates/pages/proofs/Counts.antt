@@ -2,12 +2,12 @@
 -- line's start column doesn't change how many of its glyphs are placed or clipped, and each line is on exactly one page.
 use Prim.Native.Nat.{ℕ, zero, suc, _+_, _-_, _*_, _<_, _≤_}
 use mathlib.Core.Path.{_≡_, refl, sym, ap, _∙_}
-use mathlib.Core.Bool.{Bool, false, _&&_}
+use mathlib.Core.Bool.{Bool}
 use mathlib.Core.List.{List, [], _∷_, _++_}
 use native.Mathlib.Nat.{div-add-mod', mod-lt}
 use native.Mathlib.Omega.{arith}
-use borrow.Author.Tests.{lt-ltb, lt-leb, ltb-true, ltb-false, ne-eqb}
-use lib.Dec.{ltb, leb}
+use borrow.Author.Tests.{ltb-true, ltb-false, ne-eqb}
+use lib.Dec.{ltb}
 use lib.ListN.{length, take, drop, take-append-drop, drop-of-length-le}
 use lib.Seq.{drop-drop}
 use Rattle.text.specs.declared.Alignment.{Alignment}
@@ -36,16 +36,11 @@ use Rattle.draw_notice.specs.Call.{Call, verdictOf, rowsOf, countsOf}
 use Rattle.pages.specs.Pages.{callAt, pageCall, innerArea, composedLines, pageCount, pagesOf, scrollOf}
 use Rattle.pages.specs.Reading.{summed, WrappedNotice, Reached, pagesTally, SameCounts}
 use Rattle.pages.proofs.Offset.{offset-fits, offset-none}
+use Rattle.pages.proofs.Placed.{within-area}
 use Rattle.pages.proofs.Reached.{wrapped-lines}
 use Rattle.pages.proofs.Screen.{inner-some}
 
 -- ---- the start column of a line
-
--- a glyph that ends within the area isn't clipped, and is placed unless its width is 0
-within-area : (area start width : ℕ) → start + width ≤ area
-    → ((ltb 0 width && ltb start area) ≡ ltb 0 width) × ((ltb 0 width && leb area start) ≡ false)
-within-area area start zero h = (refl, refl)
-within-area area start (suc width) h = simp (lt-ltb 0 (suc width) (omega arith), lt-ltb start area (omega arith), lt-leb area start (omega arith)) (refl, refl)
 
 -- glyphs have the same counts from column a as from column b; true if they fit the area from both
 record SameFrom (area a b : ℕ) (gs : List Glyph) : Type 0 where

@@ -1,8 +1,10 @@
 pub mod Fit
 pub mod Each
 pub mod Offset
+pub mod Placed
 pub mod Row
 pub mod Screen
+pub mod Inside
 pub mod Cells
 pub mod Read
 pub mod Blank

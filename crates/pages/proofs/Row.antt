@@ -1,24 +1,26 @@
 -- Reading one row: a line of one-cell glyphs drawn on blank symbols reads as the line's non-whitespace glyphs.
 use Prim.Native.Nat.{ℕ, zero, suc, _+_, _-_, _<_, _≤_}
 use mathlib.Core.Path.{_≡_, refl, sym, ap, _∙_}
-use mathlib.Core.Bool.{Bool, true, false, cond, not, _&&_, and-false}
+use mathlib.Core.Bool.{Bool, true, false, cond, not, _&&_}
 use mathlib.Core.List.{List, [], _∷_, _++_, map}
 use native.Mathlib.Nat.{zero-add}
 use native.Mathlib.Omega.{arith}
-use borrow.Author.Tests.{lt-ltb, eq-eqb, ne-eqb}
+use borrow.Author.Tests.{eq-eqb, ne-eqb}
 use lib.Dec.{eqb}
 use Rattle.text.specs.Line.{Glyph, Start, total, startsFrom}
 use Rattle.cell.specs.Cell.{cellFrom, blankSymbol}
 use Rattle.cell.proofs.Fields.{styled-symbol, symbol-set}
 use Rattle.line_composer.specs.Lines.{Line}
-use Rattle.line_composer.specs.Places.{isPlaced}
-use Rattle.render_glyphs.specs.RenderGlyphs.{glyphOn, glyphsOn}
+use Rattle.place.specs.declared.Place.the-variants.{Placed}
+use Rattle.line_composer.specs.Places.{placeIn, isPlaced}
+use Rattle.render_glyphs.specs.RenderGlyphs.{withGlyph, firstCell, glyphOn, glyphsOn}
 use Rattle.render_line.specs.RenderLine.{drawnStarts, lineOn}
 use Rattle.render_line.proofs.Moving.{glyphs-before}
 use Rattle.pages.specs.Pages.{solidPlaced}
 use Rattle.pages.specs.Reading.{Seen, each, look, OneCell}
 use Rattle.pages.proofs.Each.{each-none, each-add}
 use Rattle.pages.proofs.Offset.{offset-fits}
+use Rattle.pages.proofs.Placed.{placed-there, is-placed}
 
 -- the symbol read for a glyph on a page and row, its start counted from column x
 abbrev pub seenAt : ℕ → ℕ → ℕ → Start → Seen
@@ -46,20 +48,15 @@ module _ (styles : List ℕ) (style width page row x : ℕ) where
       go true = refl
       go false = refl
 
-  -- a glyph of width above 0 that starts left of the edge is placed
-  is-placed : (s : Start) → 0 < s .glyph .width → s .start < width → isPlaced width s ≡ true
-  unfolding isPlaced
-  is-placed s p q = simp (lt-ltb 0 (s .glyph .width) p, lt-ltb (s .start) width q)
-
   -- a placed glyph's first cell gets its symbol
-  glyph-symbol : (s : Start) (cell : ℕ) → isPlaced width s ≡ true → cellFrom (glyphOn styles style width s (s .start) cell) .symbol ≡ s .glyph .symbol
-  unfolding glyphOn
+  glyph-symbol : (s : Start) (cell : ℕ) → placeIn width s ≡ Placed → cellFrom (glyphOn styles style width s (s .start) cell) .symbol ≡ s .glyph .symbol
+  unfolding glyphOn firstCell withGlyph
   glyph-symbol s cell p = simp (p, eq-eqb (s .start) (s .start) refl) (styled-symbol _ _ ∙ styled-symbol _ _ ∙ symbol-set (s .glyph .symbol) cell)
 
   -- the cells right of it are unchanged
   glyph-after : (s : Start) (column cell : ℕ) → s .start < column → glyphOn styles style width s column cell ≡ cell
   unfolding glyphOn
-  glyph-after s column cell h = simp (ne-eqb column (s .start) (λ e. omega arith), and-false)
+  glyph-after s column cell h = simp (ne-eqb column (s .start) (λ e. omega arith))
 
   -- the symbol read in a column after the glyphs are drawn
   abbrev lookOn : ℕ → List Glyph → (ℕ → ℕ) → ℕ → List Seen
@@ -76,7 +73,8 @@ module _ (styles : List ℕ) (style width page row x : ℕ) where
       let s : Start = record { start = start; glyph = g } in
       let wide : g .width ≡ 1 = one .0 .0 in
       let next : start + g .width ≡ suc start = omega arith in
-      let put : isPlaced width s ≡ true = is-placed s (omega arith) (omega arith) in
+      let there : placeIn width s ≡ Placed = placed-there width s (omega arith) (omega arith) in
+      let put : isPlaced width s ≡ true = is-placed width s (omega arith) (omega arith) in
       let after : ℕ → ℕ = λ column. glyphOn styles style width s column (cell column) in
       let rest : List Start = solidPlaced width (startsFrom (start + g .width) gs) in
       let others : each (suc start) n (lookOn (start + g .width) gs after) ≡ map (seenAt page row x) rest
@@ -85,7 +83,7 @@ module _ (styles : List ℕ) (style width page row x : ℕ) where
       (λ column p q. ap (λ (c : ℕ). cellFrom c .symbol) (glyph-after s column (cell column) (omega arith)) ∙ blank column (omega arith) (omega arith)) in
       let first : cellFrom (glyphsOn styles style width (startsFrom (start + g .width) gs) start (after start)) .symbol ≡ g .symbol
       = ap (λ (c : ℕ). cellFrom c .symbol) (glyphs-before styles style width (start + g .width) gs start (after start) (omega arith))
-      ∙ glyph-symbol s (cell start) put in
+      ∙ glyph-symbol s (cell start) there in
       ap (λ (l : List Seen). lookOn (start + g .width) gs after start ++ l) others
       ∙ look-glyph s rest (glyphsOn styles style width (startsFrom (start + g .width) gs) start (after start)) first put (one .0 .1)
 

@@ -1,33 +1,35 @@
--- For an accepted notice with a non-empty inner area: every page is accepted, and the inner area is on the screen.
-use Prim.Native.Nat.{ℕ, _-_, _*_, _<_}
-use mathlib.Core.Path.{_≡_, refl, sym, ap, _∙_}
-use mathlib.Core.Bool.{false}
+-- For an accepted notice with a non-empty inner area: the inner area is on the screen, and every page of a wrapped one is accepted.
+use Prim.Native.Nat.{ℕ, _+_, _-_, _*_, _<_, _≤_}
+use mathlib.Core.Path.{_≡_, refl, sym, _∙_}
+use mathlib.Core.Bool.{true, false}
 use mathlib.Core.List.{List}
 use native.Mathlib.Omega.{arith}
 use borrow.Author.Tests.{ne-eqb}
 use lib.ListN.{length, length-replicate}
 use Rattle.cell.specs.Cell.{blankCell}
 use Rattle.layout.specs.declared.Rect.{Rect}
-use Rattle.layout.specs.Rect.{meet, isEmpty}
+use Rattle.layout.specs.Rect.{rightOf, bottomOf, meet, isEmpty, contains}
 use Rattle.refuse.specs.declared.Verdict.the-variants.{Accepted}
-use Rattle.refuse.specs.Causes.{mostAccepted, screenCauses}
+use Rattle.refuse.specs.Causes.{mostAccepted}
 use Rattle.refuse.proofs.Accepted.{ScreenAccepted, sized}
 use Rattle.block.specs.declared.Block.{Block}
 use Rattle.block.specs.Inner.{innerOf}
-use Rattle.buffer.specs.declared.Screen.{Screen}
 use Rattle.buffer.specs.Drawing.{areaOf}
 use Rattle.buffer.specs.PartsExtra.{AreaOnScreen}
 use Rattle.buffer.proofs.OnScreen.{meeting-on-screen}
+use Rattle.buffer.proofs.Within.{cell-inside}
 use Rattle.layout.proofs.NotEmpty.{not-empty}
+use Rattle.render_line.proofs.RowDrawn.{right-sum, bottom-sum}
 use Rattle.paragraph.specs.Notice.{innerAreaOf}
 use Rattle.paragraph.proofs.Insides.{inner-on-screen}
 use Rattle.draw_notice.specs.Call.{Call, noticeStyles, causesOf, verdictOf, screenIn}
 use Rattle.draw_notice.proofs.Answers.{screen-right, screen-cells}
 use Rattle.pages.specs.Pages.{blankCells, callAt, innerArea}
 use Rattle.pages.specs.Reading.{WrappedNotice}
+use Rattle.pages.specs.Inside.{DrawnNotice}
 
 -- a rectangle with a column and a row isn't empty; `not-empty` is the converse
-some-cell : (r : Rect) → 0 < r .width → 0 < r .height → isEmpty r ≡ false
+pub some-cell : (r : Rect) → 0 < r .width → 0 < r .height → isEmpty r ≡ false
 some-cell r wide high = rw (ne-eqb (r .width) 0 (λ e. omega arith), ne-eqb (r .height) 0 (λ e. omega arith))
 
 -- if the inner area isn't empty, neither is the area
@@ -44,7 +46,37 @@ outer-some b titles met e =
 abbrev pub met : Call → Rect
 met i = meet (i .area) (areaOf (screenIn i))
 
+-- an accepted notice with a non-empty inner area, wrapped or not
+module _ (i : Call) (d : DrawnNotice i) where
+  pub drawn-met : isEmpty (met i) ≡ false
+  unfolding innerArea innerAreaOf
+  drawn-met = outer-some (i .notice .block) (i .titles) (met i) (d .some-cell)
+
+  -- the inner area is on the screen
+  pub drawn-there : AreaOnScreen (screenIn i) (length (i .cells)) (innerArea i)
+  unfolding innerArea innerAreaOf
+  drawn-there =
+      let s = screen-cells i (d .accepted) in
+      inner-on-screen (screenIn i) (length (i .cells)) (i .notice .block) (i .titles) (met i)
+      (meeting-on-screen (screenIn i) (length (i .cells)) (met i) (s .columns) (s .size) (i .area) refl drawn-met)
+      (s .few-columns) (s .few-rows) (d .some-cell)
+
+  -- so its right and bottom don't saturate, and it contains each cell between its edges
+  pub right-there : rightOf (innerArea i) ≡ innerArea i .x + innerArea i .width
+  right-there = right-sum (screenIn i) (length (i .cells)) (innerArea i) drawn-there
+
+  pub bottom-there : bottomOf (innerArea i) ≡ innerArea i .y + innerArea i .height
+  bottom-there = bottom-sum (screenIn i) (length (i .cells)) (innerArea i) drawn-there
+
+  pub inner-has : (column row : ℕ) → innerArea i .x ≤ column → column < innerArea i .x + innerArea i .width
+      → innerArea i .y ≤ row → row < innerArea i .y + innerArea i .height → contains (innerArea i) column row ≡ true
+  inner-has column row left right top bottom =
+      cell-inside _ _ _ _ column row left (omega (arith, right-there)) top (omega (arith, bottom-there))
+
 module _ (i : Call) (w : WrappedNotice i) where
+  pub is-drawn : DrawnNotice i
+  is-drawn = record { accepted = w .accepted; some-cell = w .some-cell }
+
   pub screen-sized : ScreenAccepted mostAccepted (i .columns) (i .rows) (length (i .cells))
   screen-sized = sized mostAccepted (i .columns) (i .rows) (length (i .cells)) (screen-right i (w .accepted))
 
@@ -56,18 +88,17 @@ module _ (i : Call) (w : WrappedNotice i) where
   unfolding verdictOf causesOf noticeStyles
   accepted-at scroll = rw all-blank (w .accepted)
 
-  pub met-some : isEmpty (met i) ≡ false
+  -- nor does the inner area
+  pub page-drawn : (scroll : ℕ) → DrawnNotice (callAt i scroll)
   unfolding innerArea innerAreaOf
-  met-some = outer-some (i .notice .block) (i .titles) (met i) (w .some-cell)
+  page-drawn scroll = record { accepted = accepted-at scroll; some-cell = w .some-cell }
 
-  -- the inner area is on the screen, and has a column and a row
+  pub met-some : isEmpty (met i) ≡ false
+  met-some = drawn-met i is-drawn
+
   pub inner-there : AreaOnScreen (screenIn i) (length (blankCells i)) (innerArea i)
   unfolding innerArea innerAreaOf
-  inner-there =
-      let s = screen-cells (callAt i 0) (accepted-at 0) in
-      inner-on-screen (screenIn i) (length (blankCells i)) (i .notice .block) (i .titles) (met i)
-      (meeting-on-screen (screenIn i) (length (blankCells i)) (met i) (s .columns) (s .size) (i .area) refl met-some)
-      (s .few-columns) (s .few-rows) (w .some-cell)
+  inner-there = drawn-there (callAt i 0) (page-drawn 0)
 
   pub inner-some : (0 < innerArea i .width) × (0 < innerArea i .height)
   inner-some = not-empty (innerArea i) (w .some-cell)

@@ -6,7 +6,7 @@ use mathlib.Core.Path.{_≡_, refl, ap, _∙_, subst}
 use mathlib.Core.Bool.{Bool, true, false, cond, not, _&&_}
 use mathlib.Core.List.{List, [], _∷_, map, map-append}
 use native.Mathlib.Omega.{arith}
-use borrow.Author.Tests.{lt-ltb, le-ltb, eq-eqb, eqb-true}
+use borrow.Author.Tests.{le-ltb, eq-eqb, eqb-true}
 use lib.Dec.{eqb}
 use Rattle.text.specs.declared.Alignment.{Alignment}
 use Rattle.text.specs.Line.{Glyph, TextLine, linesFrom, glyphsOf, glyphsFrom, total, Start, startsFrom, Opens}
@@ -24,7 +24,6 @@ use Rattle.nothing_lost.proofs.Accounted.{accounted}
 use Rattle.nothing_lost.proofs.Bounds.{no-wider-append, one-cell}
 use Rattle.line_composer.specs.declared.Method.the-variants.{WordWrap}
 use Rattle.line_composer.specs.Lines.{Line, lines}
-use Rattle.line_composer.specs.Places.{isPlaced}
 use Rattle.render_line.specs.RenderLine.{drawnStarts}
 use Rattle.text.proofs.TextLines.{opens-none}
 use Rattle.tally_lines.proofs.Emitted.{lists, wrapped, lines-wrapped}
@@ -32,6 +31,7 @@ use Rattle.pages.specs.Pages.{Placement, placementOf, solidPlaced, place
 use Rattle.pages.specs.Reading.{OneCell}
 use Rattle.pages.proofs.Fit.{Fit}
 use Rattle.pages.proofs.Offset.{offset-fits}
+use Rattle.pages.proofs.Placed.{is-placed}
 
 -- ---- the glyphs of the lines are the text's
 
@@ -108,10 +108,10 @@ module _ (inner : Rect) (number : ℕ) where
 
   starts-placed : (start : ℕ) (gs : List Glyph) → OneCell gs → start + total gs ≤ inner .width
       → shown (map (placementOf inner number) (placedFrom start gs)) ≡ solids gs
-  unfolding isPlaced placementOf
+  unfolding placementOf
   starts-placed start [] h k = refl
   starts-placed start (g ∷ gs) h k =
-      rw (lt-ltb 0 (g .width) (omega (arith, h .0 .0)), lt-ltb start (inner .width) (omega (arith, h .0 .0)))
+      rw (is-placed (inner .width) (record { start = start; glyph = g }) (omega (arith, h .0 .0)) (omega arith))
       (go (g .whitespace) (starts-placed (start + g .width) gs (h .1) (omega arith)))
     where
       go : (b : Bool) → shown (map (placementOf inner number) (placedFrom (start + g .width) gs)) ≡ solids gs

@@ -1,4 +1,5 @@
 pub mod Changing
+pub mod Covered
 pub mod DemandThree
 pub mod PageCount
 pub mod Sheets

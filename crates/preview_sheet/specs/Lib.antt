@@ -1,3 +1,4 @@
 pub mod PagingExtra
 pub mod SheetExtra
 pub mod WidthsExtra
+pub mod CoveredExtra

@@ -1,38 +1,118 @@
--- One glyph written on a row.
-use Prim.Native.Nat.{ℕ, _<_}
-use mathlib.Core.Path.{_≡_, _∙_}
-use mathlib.Core.Bool.{cond}
+-- One glyph written on a row by its place, and counted.
+use Prim.Native.Nat.{ℕ, _+_, _≤_, _<_}
+use mathlib.Core.Path.{_≡_, refl, sym, ap, _∙_}
+use mathlib.Core.Bool.{Bool, true, false, cond, true≢false}
 use mathlib.Core.List.{List}
-use borrow.Author.Tests.{lt-ltb}
+use native.Mathlib.Omega.{arith}
 use lib.Dec.{eqb}
-use lib.ListN.{length, getD, set}
+use lib.ListN.{getD, set}
 use Rattle.text.specs.declared.AmbiguousWidth.{AmbiguousWidth}
-use Rattle.text.specs.Record.{symbolOf, widthOf, styleOf}
+use Rattle.text.specs.Record.{symbolOf, styleOf}
 use Rattle.text.specs.Line.{Start, glyphFrom}
-use Rattle.cell.specs.Cell.{withSymbol, styled}
-use Rattle.buffer.specs.Drawing.{changed, styleAt}
-use Rattle.buffer.proofs.Changed.{changed-same, changed-one}
-use Rattle.line_composer.specs.Places.{isPlaced}
-use Rattle.render_glyphs.specs.RenderGlyphs.{glyphOn}
-use Rattle.render_glyphs.specs.WritingExtra.{glyphCell}
+use Rattle.cell.specs.Cell.{blankSymbol, withSymbol, styled}
+use Rattle.buffer.specs.Drawing.{styleAt}
+use Rattle.buffer.proofs.Changed.{changed-same, changed-none, changed-one}
+use Rattle.place.specs.declared.Place.{Place}
+use Rattle.place.specs.declared.Place.the-variants.{ZeroWidth, Placed, Halved, Outside}
+use Rattle.place.specs.Place.{placeOf, countsAsPlaced, countsAsClipped}
+use Rattle.place.proofs.Places.{by-place}
+use Rattle.render_glyphs.specs.declared.GlyphCounts.{GlyphCounts}
+use Rattle.render_glyphs.specs.RenderGlyphs.{withGlyph, firstCell}
+use Rattle.render_glyphs.specs.WritingExtra.{isWritten, symbolWritten, writtenAt, withPlace}
 
 -- the glyph of a record, with its record number and start column
 abbrev pub startOf : AmbiguousWidth → ℕ → ℕ → ℕ → Start
 startOf a number column word = record { start = column; glyph = glyphFrom a number word }
 
--- its cell gets the symbol, then the text style, then its own style
-pub glyph-written : (styles : List ℕ) (text-style column word : ℕ) (row : List ℕ) (symbol number own-style with-symbol with-text-style cell : ℕ)
-    → symbol ≡ symbolOf word → number ≡ styleOf word → own-style ≡ styleAt styles number → with-symbol ≡ withSymbol symbol (getD row column 0)
+-- a cell gets the symbol, then the text style, then the glyph's own style
+pub cell-written : (styles : List ℕ) (text-style column symbol number : ℕ) (row : List ℕ) (own-style with-symbol with-text-style cell : ℕ)
+    → own-style ≡ styleAt styles number → with-symbol ≡ withSymbol symbol (getD row column 0)
     → with-text-style ≡ styled text-style with-symbol → cell ≡ styled own-style with-text-style
-    → set row column cell ≡ set row column (glyphCell styles text-style word (getD row column 0))
-unfolding glyphCell
-glyph-written styles text-style column word row symbol number own-style with-symbol with-text-style cell p n r s t e = rw (e, t, s, r, n, p)
+    → set row column cell ≡ set row column (withGlyph styles text-style symbol number (getD row column 0))
+unfolding withGlyph
+cell-written styles text-style column symbol number row own-style with-symbol with-text-style cell r s t e = rw (e, t, s, r)
 
--- which places it on the row, if it is read as wider than 0
-pub glyph-placed : (a : AmbiguousWidth) (styles : List ℕ) (style column word : ℕ) (row : List ℕ) → column < length row → 0 < widthOf a word
-    → set row column (glyphCell styles (styleAt styles style) word (getD row column 0)) ≡ changed (glyphOn styles style (length row) (startOf a 0 column word)) row
-unfolding glyphOn isPlaced glyphCell
-glyph-placed a styles style column word row h some =
-    changed-one (glyphCell styles (styleAt styles style) word) column row
-    ∙ changed-same (λ i c. cond (eqb i column) (glyphCell styles (styleAt styles style) word c) c) _ row
-    (λ i c _. simp (lt-ltb 0 (widthOf a word) some, lt-ltb column (length row) h))
+-- ---- one law for each path through `write_glyph`
+
+same-cell : (b : Bool) (cell : ℕ) → cond b cell cell ≡ cell
+same-cell true cell = refl
+same-cell false cell = refl
+
+module _ (styles : List ℕ) (text-style column word : ℕ) (row : List ℕ) where
+  unchanged : (p : Place) → ((cell : ℕ) → firstCell styles text-style p (symbolOf word) (styleOf word) cell ≡ cell) → row ≡ writtenAt styles text-style p column word row
+  unchanged p same =
+      sym
+      (changed-same _ (λ i cell. cell) row (λ i cell _. ap (λ (new : ℕ). cond (eqb i column) new cell) (same cell) ∙ same-cell (eqb i column) cell)
+      ∙ changed-none row)
+
+  not-written : (p : Place) → isWritten p ≡ false → row ≡ writtenAt styles text-style p column word row
+  unfolding firstCell
+  not-written ZeroWidth e = unchanged ZeroWidth (λ _. refl)
+  not-written Placed e = absurd (true≢false e)
+  not-written Halved e = absurd (true≢false e)
+  not-written Outside e = unchanged Outside (λ _. refl)
+
+  written : (p : Place) → isWritten p ≡ true
+      → set row column (withGlyph styles text-style (symbolWritten p (symbolOf word)) (styleOf word) (getD row column 0)) ≡ writtenAt styles text-style p column word row
+  unfolding firstCell
+  written ZeroWidth e = absurd (true≢false (sym e))
+  written Placed e = changed-one (withGlyph styles text-style (symbolOf word) (styleOf word)) column row
+  written Halved e = changed-one (withGlyph styles text-style blankSymbol (styleOf word)) column row
+  written Outside e = absurd (true≢false (sym e))
+
+  -- b is what `is_written` answers
+  module _ (p : Place) (b : Bool) (e : b ≡ isWritten p) where
+    pub glyph-unwritten : b ≡ false → row ≡ writtenAt styles text-style p column word row
+    glyph-unwritten f = not-written p (sym e ∙ f)
+
+    pub glyph-written : b ≡ true → (next : List ℕ) (own symbol number : ℕ) → own ≡ symbolOf word → symbol ≡ symbolWritten p own → number ≡ styleOf word
+        → next ≡ set row column (withGlyph styles text-style symbol number (getD row column 0)) → next ≡ writtenAt styles text-style p column word row
+    glyph-written t next own symbol number o s n f = f ∙ rw (n, s, o) (written p (sym e ∙ t))
+
+-- a glyph that is written starts left of the edge
+pub written-starts : (edge column width : ℕ) (p : Place) (b : Bool) → p ≡ placeOf edge column width → b ≡ isWritten p → b ≡ true → column < edge
+written-starts edge column width p b e k t =
+    by-place edge column width (λ (q : Place). isWritten q ≡ true → column < edge)
+    (λ _ w. absurd (true≢false (sym w)))
+    (λ _ _ w. absurd (true≢false (sym w)))
+    (λ _ inside _ _. inside)
+    (λ _ inside _ _. inside)
+    (ap isWritten (sym e) ∙ sym k ∙ t)
+
+-- ---- the counts
+
+module _ (c : GlyphCounts) (p : Place) where
+  pub with-zero : p ≡ ZeroWidth → c ≡ withPlace c p
+  unfolding withPlace
+  with-zero e = rw e refl
+
+  pub with-placed : p ≡ Placed → record { placed = c .placed + 1; clipped = c .clipped } ≡ withPlace c p
+  unfolding withPlace
+  with-placed e = rw e refl
+
+  pub with-halved : p ≡ Halved → record { placed = c .placed; clipped = c .clipped + 1 } ≡ withPlace c p
+  unfolding withPlace
+  with-halved e = rw e refl
+
+  pub with-outside : p ≡ Outside → record { placed = c .placed; clipped = c .clipped + 1 } ≡ withPlace c p
+  unfolding withPlace
+  with-outside e = rw e refl
+
+pub ruleset with-places = (with-zero, with-placed, with-halved, with-outside)
+
+-- a place adds to the counts that it counts as
+pub place-counts : (c : GlyphCounts) (p : Place)
+    → (withPlace c p .placed ≡ c .placed + cond (countsAsPlaced p) 1 0) × (withPlace c p .clipped ≡ c .clipped + cond (countsAsClipped p) 1 0)
+unfolding withPlace
+place-counts c ZeroWidth = (omega arith, omega arith)
+place-counts c Placed = (omega arith, omega arith)
+place-counts c Halved = (omega arith, omega arith)
+place-counts c Outside = (omega arith, omega arith)
+
+-- and at most one is added
+pub place-one : (c : GlyphCounts) (p : Place) → withPlace c p .placed + withPlace c p .clipped ≤ c .placed + c .clipped + 1
+unfolding withPlace
+place-one c ZeroWidth = omega arith
+place-one c Placed = omega arith
+place-one c Halved = omega arith
+place-one c Outside = omega arith

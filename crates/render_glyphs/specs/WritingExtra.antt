@@ -1,24 +1,48 @@
 -- Not in the papers: results of the functions, on a line's records and the cells from its start column on; `RenderGlyphs` has the
 -- rules.
-use Prim.Native.Nat.{ℕ}
+use Prim.Native.Nat.{ℕ, _+_}
 use mathlib.Core.Path.{_≡_}
+use mathlib.Core.Bool.{Bool, true, false, cond}
 use mathlib.Core.List.{List}
+use lib.Dec.{eqb}
 use lib.ListN.{length}
 use Rattle.text.specs.Record.{symbolOf, styleOf}
 use Rattle.text.specs.Line.{Start, numbered, startsFrom}
 use Rattle.text.specs.Lists.{countOf}
 use Rattle.wrapping.specs.declared.Rule.{Rule}
 use Rattle.wrapping.specs.Wrapping.{notOverWide}
-use Rattle.cell.specs.Cell.{withSymbol, styled}
-use Rattle.buffer.specs.Drawing.{changed, styleAt}
+use Rattle.cell.specs.Cell.{blankSymbol}
+use Rattle.buffer.specs.Drawing.{changed}
+use Rattle.place.specs.declared.Place.{Place}
+use Rattle.place.specs.declared.Place.the-variants.{ZeroWidth, Placed, Halved, Outside}
 use Rattle.line_composer.specs.Places.{isPlaced, isClipped}
 use Rattle.render_glyphs.specs.declared.GlyphCounts.{GlyphCounts}
-use Rattle.render_glyphs.specs.RenderGlyphs.{glyphsOn}
+use Rattle.render_glyphs.specs.RenderGlyphs.{firstCell, glyphsOn}
 
--- the cell of a glyph's record after it is written: its symbol, then the text style, then its own style; no width is read
-unfoldable pub glyphCell : List ℕ → ℕ → ℕ → ℕ → ℕ
-glyphCell styles textStyle word cell =
-    styled (styleAt styles (styleOf word)) (styled textStyle (withSymbol (symbolOf word) cell))
+-- whether a glyph is written, and which symbol for its own, by its place
+abbrev pub isWritten : Place → Bool
+isWritten ZeroWidth = false
+isWritten Placed = true
+isWritten Halved = true
+isWritten Outside = false
+
+abbrev pub symbolWritten : Place → ℕ → ℕ
+symbolWritten ZeroWidth symbol = symbol
+symbolWritten Placed symbol = symbol
+symbolWritten Halved symbol = blankSymbol
+symbolWritten Outside symbol = symbol
+
+-- a glyph's record written on a row, in its column and by its place; no width is read
+abbrev pub writtenAt : List ℕ → ℕ → Place → ℕ → ℕ → List ℕ → List ℕ
+writtenAt styles textStyle place column word row =
+    changed (λ i cell. cond (eqb i column) (firstCell styles textStyle place (symbolOf word) (styleOf word) cell) cell) row
+
+-- the counts with one more glyph, by its place
+unfoldable pub withPlace : GlyphCounts → Place → GlyphCounts
+withPlace c ZeroWidth = c
+withPlace c Placed = record { placed = c .placed + 1; clipped = c .clipped }
+withPlace c Halved = record { placed = c .placed; clipped = c .clipped + 1 }
+withPlace c Outside = record { placed = c .placed; clipped = c .clipped + 1 }
 
 -- the glyphs of a line's records, the first starting in the given column; record numbers are unused here
 abbrev pub startsOf : Rule → ℕ → List ℕ → List Start

@@ -1,7 +1,7 @@
 -- Glyphs drawn from column 0 and from a line's start column: columns, starts and the right edge shift together.
 use Prim.Native.Nat.{ℕ, zero, suc, compare, compare·suc-suc, _+_, _<_}
-use mathlib.Core.Path.{_≡_, refl, _∙_}
-use mathlib.Core.Bool.{Bool, true, false, cond, and-false}
+use mathlib.Core.Path.{_≡_, refl, ap, _∙_}
+use mathlib.Core.Bool.{Bool, true, false, cond}
 use mathlib.Core.List.{List, [], _∷_}
 use native.Mathlib.Nat.{add-assoc, add-suc, suc-add, zero-add}
 use native.Mathlib.Omega.{arith}
@@ -13,6 +13,7 @@ use Rattle.text.specs.Line.{Glyph, Start, glyphFrom, numbered, startsFrom}
 use Rattle.text.specs.Lists.{countOf}
 use Rattle.wrapping.specs.declared.Rule.{Rule}
 use Rattle.wrapping.specs.Wrapping.{overWide, notOverWide}
+use Rattle.place.specs.Place.{placeOf, countsAsPlaced, countsAsClipped}
 use Rattle.line_composer.specs.Places.{isPlaced, isClipped}
 use Rattle.render_glyphs.specs.RenderGlyphs.{glyphOn, glyphsOn}
 use Rattle.render_glyphs.proofs.OneGlyph.{startOf}
@@ -48,19 +49,24 @@ leb-moved a m n = rw (compare-moved a m n)
 eqb-moved : (a m n : ℕ) → eqb (a + m) (a + n) ≡ eqb m n
 eqb-moved a m n = rw (compare-moved a m n)
 
+-- and so is a glyph's place
+place-moved : (a area column width : ℕ) → placeOf (a + area) (a + column) width ≡ placeOf area column width
+unfolding placeOf
+place-moved a area column width = rw (add-assoc, leb-moved a area column, ← add-suc, leb-moved a (suc area) (column + width))
+
 module _ (k : AmbiguousWidth) (a area m n column word : ℕ) where
   placed-moved : isPlaced (a + area) (startOf k m (a + column) word) ≡ isPlaced area (startOf k n column word)
   unfolding isPlaced
-  placed-moved = rw (← add-suc, leb-moved a (suc column) area)
+  placed-moved = ap countsAsPlaced (place-moved a area column (widthOf k word))
 
   clipped-moved : isClipped (a + area) (startOf k m (a + column) word) ≡ isClipped area (startOf k n column word)
   unfolding isClipped
-  clipped-moved = rw (leb-moved a area column)
+  clipped-moved = ap countsAsClipped (place-moved a area column (widthOf k word))
 
   glyph-moved : (styles : List ℕ) (style i cell : ℕ)
       → glyphOn styles style (a + area) (startOf k m (a + column) word) (a + i) cell ≡ glyphOn styles style area (startOf k n column word) i cell
   unfolding glyphOn
-  glyph-moved styles style i cell = rw (placed-moved, eqb-moved a i column)
+  glyph-moved styles style i cell = rw (place-moved a area column (widthOf k word), eqb-moved a i column)
 
 module _ (a area : ℕ) (u : Rule) (m n column : ℕ) (records : List ℕ) where
   abbrev moved : List Start
@@ -91,4 +97,4 @@ unfolding glyphOn
 glyphs-before styles style area column [] i cell h = refl
 glyphs-before styles style area column (g ∷ gs) i cell h =
     let other : eqb i column ≡ false = ne-eqb i column (λ e. omega arith) in
-    glyphs-before styles style area (column + g .width) gs i _ (omega arith) ∙ simp (other, and-false)
+    glyphs-before styles style area (column + g .width) gs i _ (omega arith) ∙ simp other

@@ -1,34 +1,45 @@
 -- What the lines of a text keep of a cell: everything outside their area, and in it what styles and symbols keep.
 use Prim.Native.Nat.{ℕ, _+_, _-_}
 use mathlib.Core.Path.{_≡_, refl, _∙_}
-use mathlib.Core.Bool.{Bool, true, false, cond, _&&_}
+use mathlib.Core.Bool.{true}
 use mathlib.Core.List.{List, [], _∷_}
 use lib.Dec.{eqb}
 use lib.ListN.{getD}
 use Rattle.text.specs.Line.{Start}
-use Rattle.cell.specs.Cell.{withSymbol, styled}
+use Rattle.text.proofs.Bools.{cond-cases}
+use Rattle.cell.specs.Cell.{blankSymbol, withSymbol, styled}
 use Rattle.layout.specs.declared.Rect.{Rect}
 use Rattle.layout.specs.Rect.{contains}
 use Rattle.buffer.specs.Drawing.{styleAt}
 use Rattle.buffer.proofs.Keeping.{CellKeeps, Keeps, InksKeep, inside-keeps}
+use Rattle.place.specs.declared.Place.{Place}
+use Rattle.place.specs.declared.Place.the-variants.{ZeroWidth, Placed, Halved, Outside}
 use Rattle.line_composer.specs.Lines.{Line}
-use Rattle.line_composer.specs.Places.{isPlaced}
-use Rattle.render_glyphs.specs.RenderGlyphs.{glyphOn, glyphsOn}
+use Rattle.line_composer.specs.Places.{placeIn}
+use Rattle.render_glyphs.specs.RenderGlyphs.{withGlyph, firstCell, glyphOn, glyphsOn}
 use Rattle.render_line.specs.RenderLine.{drawnStarts, lineOn}
 use Rattle.render_lines.specs.Rows.{noLine, textOn}
 
 module _ (read : ℕ → ℕ) (styles : List ℕ) (textStyle : ℕ) where
+  -- a cell with a symbol, the text style and another style
+  with-keeps : (text number symbol : ℕ) → InksKeep read → CellKeeps read (withGlyph styles text symbol number)
+  unfolding withGlyph
+  with-keeps text number symbol inks cell =
+      inks .styles (styleAt styles number) (styled text (withSymbol symbol cell)) ∙ inks .styles text (withSymbol symbol cell) ∙ inks .symbols symbol cell
+
+  first-keeps : (text number symbol : ℕ) (p : Place) → InksKeep read → CellKeeps read (firstCell styles text p symbol number)
+  unfolding firstCell
+  first-keeps text number symbol ZeroWidth inks cell = refl
+  first-keeps text number symbol Placed inks cell = with-keeps text number symbol inks cell
+  first-keeps text number symbol Halved inks cell = with-keeps text number blankSymbol inks cell
+  first-keeps text number symbol Outside inks cell = refl
+
   glyph-keeps : (area : ℕ) (s : Start) (column : ℕ) → InksKeep read → CellKeeps read (glyphOn styles textStyle area s column)
   unfolding glyphOn
-  glyph-keeps area s column inks cell = go (isPlaced area s && eqb column (s .start))
-    where
-      go : (b : Bool)
-          → read (cond b (styled (styleAt styles (s .glyph .style)) (styled (styleAt styles textStyle) (withSymbol (s .glyph .symbol) cell))) cell) ≡ read cell
-      go true =
-          inks .styles (styleAt styles (s .glyph .style)) (styled (styleAt styles textStyle) (withSymbol (s .glyph .symbol) cell))
-          ∙ inks .styles (styleAt styles textStyle) (withSymbol (s .glyph .symbol) cell)
-          ∙ inks .symbols (s .glyph .symbol) cell
-      go false = refl
+  glyph-keeps area s column inks cell =
+      cond-cases (λ (new : ℕ). read new ≡ read cell) (eqb column (s .start)) _ _
+      (λ _. first-keeps (styleAt styles textStyle) (s .glyph .style) (s .glyph .symbol) (placeIn area s) inks cell)
+      (λ _. refl)
 
   glyphs-keep : (area : ℕ) (ss : List Start) (column : ℕ) → InksKeep read → CellKeeps read (glyphsOn styles textStyle area ss column)
   glyphs-keep area [] column inks cell = refl

@@ -7,7 +7,7 @@ use native.Mathlib.Nat.{add-zero, zero-add, add-assoc}
 use native.Mathlib.Numerals.{add-one}
 use native.Mathlib.Omega.{arith}
 use borrow.Author.Tests.{lt-ltb, le-ltb}
-use lib.Dec.{eqb, ltb}
+use lib.Dec.{ltb}
 use lib.ListN.{length, getD}
 use lib.Seq.{slice, slice-empty, slice-cons}
 use Rattle.text.specs.Record.{widthOf}
@@ -17,13 +17,15 @@ use Rattle.text.proofs.Lists.{count-append}
 use Rattle.text.proofs.Reading.{width-most}
 use Rattle.wrapping.specs.declared.Rule.{Rule}
 use Rattle.wrapping.specs.Wrapping.{overWide, notOverWide}
-use Rattle.text.proofs.Bools.{cond-cases}
+use Rattle.place.specs.declared.Place.{Place}
+use Rattle.place.specs.declared.Place.the-variants.{ZeroWidth, Placed, Halved, Outside}
+use Rattle.place.specs.Place.{placeOf}
 use Rattle.line_composer.specs.declared.WrappedLine.{WrappedLine}
 use Rattle.line_composer.specs.Lines.{Line, lineAt}
-use Rattle.line_composer.specs.Places.{isPlaced, isClipped, isZeroWidth}
+use Rattle.line_composer.specs.Places.{placeIn, isPlaced, isClipped, isZeroWidth}
 use Rattle.tally_lines.specs.declared.LineCounts.{LineCounts}
 use Rattle.tally_lines.specs.TallyingExtra.{emptyLines, withGlyph, sum, lineCounts}
-use Rattle.tally_lines.proofs.Ways.{ways, with-zero, with-placed, with-clipped}
+use Rattle.tally_lines.proofs.Ways.{ways}
 
 -- counts of glyphs by kind
 unfoldable pub startCounts : ℕ → List Start → LineCounts
@@ -37,13 +39,14 @@ startCounts limit ss =
 
 -- counting a glyph now or with the remaining ones gives the same sum
 sum-with : (limit : ℕ) (c : LineCounts) (s : Start) (ss : List Start)
-    → sum (withGlyph limit c (s .start) (s .glyph .width)) (startCounts limit ss) ≡ sum c (startCounts limit (s ∷ ss))
-unfolding sum startCounts
+    → sum (withGlyph c (placeIn limit s)) (startCounts limit ss) ≡ sum c (startCounts limit (s ∷ ss))
+unfolding sum startCounts withGlyph
 sum-with limit c s ss =
     ways limit s _
-    (λ e b. simp (← with-zero limit c (s .start) (s .glyph .width) e, b .of-zero-width, b .of-placed, b .of-clipped, zero-add, add-assoc))
-    (λ n f b. simp (← with-placed limit c (s .start) (s .glyph .width) n f, b .of-zero-width, b .of-placed, b .of-clipped, zero-add, add-assoc))
-    (λ n f b. simp (← with-clipped limit c (s .start) (s .glyph .width) n f, b .of-zero-width, b .of-placed, b .of-clipped, zero-add, add-assoc))
+    (λ b. simp (b .of-place, b .of-zero-width, b .of-placed, b .of-clipped, zero-add, add-assoc))
+    (λ b. simp (b .of-place, b .of-zero-width, b .of-placed, b .of-clipped, zero-add, add-assoc))
+    (λ b. simp (b .of-place, b .of-zero-width, b .of-placed, b .of-clipped, zero-add, add-assoc))
+    (λ b. simp (b .of-place, b .of-zero-width, b .of-placed, b .of-clipped, zero-add, add-assoc))
 
 pub sum-none : (c : LineCounts) → sum c (emptyLines 0) ≡ c
 unfolding sum
@@ -67,15 +70,12 @@ unfolding sum lineCounts
 first-line limit line rest = let n : 1 + length rest ≡ suc (length rest) = omega arith in simp (append-nil, count-append, n)
 
 -- counting a glyph adds 1 to the counts' sum
-with-more : (limit : ℕ) (c : LineCounts) (column w : ℕ) (d : LineCounts) → d ≡ withGlyph limit c column w
-    → d .placed + d .clipped + d .«zero_width» ≡ c .placed + c .clipped + c .«zero_width» + 1
+with-more : (c : LineCounts) (p : Place) → withGlyph c p .placed + withGlyph c p .clipped + withGlyph c p .«zero_width» ≡ c .placed + c .clipped + c .«zero_width» + 1
 unfolding withGlyph
-with-more limit c column w d e =
-    rw e
-    (cond-cases More (eqb w 0) _ _ (λ _. omega arith) (λ _. cond-cases More (ltb column limit) _ _ (λ _. omega arith) (λ _. omega arith)))
-  where
-    More : LineCounts → Type 0
-    More d = d .placed + d .clipped + d .«zero_width» ≡ c .placed + c .clipped + c .«zero_width» + 1
+with-more c ZeroWidth = omega arith
+with-more c Placed = omega arith
+with-more c Halved = omega arith
+with-more c Outside = omega arith
 
 -- the glyphs of the records from i to `end`
 abbrev pub glyphsBetween : Rule → List ℕ → ℕ → ℕ → List Glyph
@@ -124,12 +124,12 @@ module _ (u : Rule) (text : List ℕ) (first end : ℕ) where
             near = omega (arith, p .near);
           }
 
-      pub placing-goes : w ≤ u .limit → (d : LineCounts) → d ≡ withGlyph (u .limit) c column w → Placing u text first end d (column + w) (i + 1)
+      pub placing-goes : w ≤ u .limit → (d : LineCounts) → d ≡ withGlyph c (placeOf (u .limit) column w) → Placing u text first end d (column + w) (i + 1)
       placing-goes h d f =
           record {
             within = omega arith;
             same = rw (f, e) (sum-with (u .limit) c (record { start = column; glyph = here }) _ ∙ rw (kept h) at (p .same));
-            few = omega (arith, p .few, with-more (u .limit) c column w d f);
+            few = rw f (omega (arith, p .few, with-more c (placeOf (u .limit) column w)));
             near = omega (arith, p .near, small);
           }
 

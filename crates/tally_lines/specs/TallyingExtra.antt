@@ -1,10 +1,10 @@
 -- Not in the papers: intermediate results of the functions that count composed lines; `Tally` of crate `tally` has the rules.
 use Prim.Native.Nat.{ℕ, _+_}
-use mathlib.Core.Bool.{cond}
 use mathlib.Core.List.{List}
-use lib.Dec.{eqb, ltb}
 use lib.ListN.{length}
 use Rattle.text.specs.Lists.{countOf}
+use Rattle.place.specs.declared.Place.{Place}
+use Rattle.place.specs.declared.Place.the-variants.{ZeroWidth, Placed, Halved, Outside}
 use Rattle.line_composer.specs.Lines.{Line}
 use Rattle.line_composer.specs.Places.{starts, isPlaced, isClipped, isZeroWidth}
 use Rattle.tally_lines.specs.declared.LineCounts.{LineCounts}
@@ -13,14 +13,12 @@ use Rattle.tally_lines.specs.declared.LineCounts.{LineCounts}
 abbrev pub emptyLines : ℕ → LineCounts
 emptyLines n = record { lines = n; placed = 0; clipped = 0; «zero_width» = 0 }
 
--- the counts with one more glyph, of width w, that starts at `column`
-unfoldable pub withGlyph : ℕ → LineCounts → ℕ → ℕ → LineCounts
-withGlyph limit c column w =
-    cond (eqb w 0)
-    (record { lines = c .lines; placed = c .placed; clipped = c .clipped; «zero_width» = c .«zero_width» + 1 })
-    (cond (ltb column limit)
-    (record { lines = c .lines; placed = c .placed + 1; clipped = c .clipped; «zero_width» = c .«zero_width» })
-    (record { lines = c .lines; placed = c .placed; clipped = c .clipped + 1; «zero_width» = c .«zero_width» }))
+-- the counts with one more glyph, by its place
+unfoldable pub withGlyph : LineCounts → Place → LineCounts
+withGlyph c ZeroWidth = record { lines = c .lines; placed = c .placed; clipped = c .clipped; «zero_width» = c .«zero_width» + 1 }
+withGlyph c Placed = record { lines = c .lines; placed = c .placed + 1; clipped = c .clipped; «zero_width» = c .«zero_width» }
+withGlyph c Halved = record { lines = c .lines; placed = c .placed; clipped = c .clipped + 1; «zero_width» = c .«zero_width» }
+withGlyph c Outside = record { lines = c .lines; placed = c .placed; clipped = c .clipped + 1; «zero_width» = c .«zero_width» }
 
 unfoldable pub sum : LineCounts → LineCounts → LineCounts
 sum a b =

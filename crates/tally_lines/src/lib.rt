@@ -3,6 +3,7 @@ use line_composer::LineComposer;
 use line_composer::Method;
 use line_composer::NextLine;
 use line_composer::WrappedLine;
+use place::Place;
 use text::Alignment;
 use wrapping::Rule;
 ghost use mathlib.Core.Path.{_≡_};
@@ -11,6 +12,7 @@ ghost use Prim.Native.Nat.{_+_, _^_, _≤_, _<_};
 ghost use lib.ListN.{length};
 ghost use Rattle.text.specs.declared.Alignment.the-variants.{Left};
 ghost use Rattle.text.specs.Line.{Opens, FewRecords};
+ghost use Rattle.place.specs.Place.{placeOf};
 ghost use Rattle.line_composer.specs.declared.Method.the-variants.{WordWrap};
 ghost use Rattle.line_composer.specs.Lines.{lines, lineAt};
 ghost use Rattle.tally_lines.specs.TallyingExtra.{emptyLines, withGlyph, sum, lineCounts};
@@ -36,22 +38,31 @@ impl LineCounts {
         }
     }
 
-    // Returns the counts with one more glyph, of width w, that starts at `column`.
+    // Returns the counts with one more glyph, of width w, that starts at `column`. A halved glyph is clipped.
     fn with_glyph(self, limit: usize, column: usize, w: usize) -> LineCounts
         requires { ⌜ self .placed + self .clipped + self .«zero_width» + 1 < 2 ^ 32 ⌝ }
-        ensures { λ r. ⌜ r ≡ withGlyph limit self column w ⌝ }
+        requires { ⌜ column + w < 2 ^ 32 ⌝ }
+        ensures { λ r. ⌜ r ≡ withGlyph self (placeOf limit column w) ⌝ }
     {
         let mut next = self;
-        if w == 0 {
-            next.zero_width += 1;
-            return next;
+        match Place::of_glyph(limit, column, w) {
+            Place::ZeroWidth => {
+                next.zero_width += 1;
+                next
+            }
+            Place::Placed => {
+                next.placed += 1;
+                next
+            }
+            Place::Halved => {
+                next.clipped += 1;
+                next
+            }
+            Place::Outside => {
+                next.clipped += 1;
+                next
+            }
         }
-        if column < limit {
-            next.placed += 1;
-            return next;
-        }
-        next.clipped += 1;
-        next
     }
 
     fn plus(self, other: LineCounts) -> LineCounts

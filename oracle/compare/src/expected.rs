@@ -1,4 +1,5 @@
-//! The expected answer of a call: the Rust's, or document 01's if the Rust has none.
+//! The expected answer of a call: the Rust's, or if the Rust has none that of documents 01 and 02,
+//! by the crate `rules`.
 
 use oracle::{Alignment, AmbiguousWidth, ComposedLine, Drawn, Notice, Outcome, Tally, Wrap};
 use rules::compose::{Composed, compose, tally};
@@ -15,12 +16,14 @@ pub struct Expected {
     pub answers: Vec<(&'static str, Answer)>,
     pub refused: bool,
     pub clipped: bool,
+    /// A clipped glyph starts inside and runs past the right edge.
+    pub halved: bool,
     pub panicked: bool,
 }
 
 const RUST: &str = "the Rust";
-const RULES: &str = "document 01";
-const COUNTS: &str = "document 01, counts over the Rust's lines";
+const RULES: &str = "documents 01 and 02";
+const COUNTS: &str = "documents 01 and 02, counts over the Rust's lines";
 
 pub fn expected(call: Call, input: &Input) -> Expected {
     let number = refusals::number(call, input);
@@ -49,7 +52,7 @@ fn refused(number: u32, call: Call, input: &Input) -> Expected {
     Expected { answers, refused: true, ..Expected::default() }
 }
 
-/// Returns the Rust's answer, or document 01's if the Rust panicked.
+/// Returns the Rust's answer, or that of the crate `rules` if the Rust panicked.
 fn settled<T>(
     outcome: Outcome<T>,
     rules: impl FnOnce() -> T,
@@ -99,19 +102,21 @@ fn listed(
         .collect()
 }
 
-/// If a glyph is clipped, the tally must also equal document 01's.
+/// If a glyph is clipped, the tally must also equal that of the crate `rules`.
 fn tallied(input: &Input) -> Expected {
     let (text, limit, trim) = (&input.text, input.limit, input.trim == 1);
     let ambiguous = settings::ambiguous(input.settings);
     let rules = || tally(text, ambiguous, limit.into(), trim);
     let values = |tally: Tally| {
-        let Tally { lines, placed, clipped, zero_width, over_wide, dropped } = tally;
+        let Tally { lines, placed, clipped, zero_width, over_wide, dropped, halved: _ } = tally;
         Answer::of([lines, placed, clipped, zero_width, over_wide, dropped].map(u64::from))
     };
     let mut expected = settled(oracle::tally(text, ambiguous, limit, trim), rules, values);
     expected.clipped = expected.answers[0].1.named(Call::Tally, "clipped") > 0;
     if expected.clipped {
-        expected.answers.push((RULES, values(rules())));
+        let tally = rules();
+        expected.halved = tally.halved > 0;
+        expected.answers.push((RULES, values(tally)));
     }
     expected
 }
@@ -153,8 +158,9 @@ fn draw_block(input: &Input) -> Expected {
     settled(outcome.map(|()| cells), rules, |cells| Answer::drawn([], cells))
 }
 
-/// If a glyph is clipped, the cells must be document 01's, and the counts must also equal those
-/// computed from the Rust's inner area and lines.
+/// If a glyph is clipped, the cells must be those of the crate `rules`, and the counts must also
+/// equal those computed from the Rust's inner area and lines. C-14: "Inputs with such a glyph leave
+/// the cell comparison with the crate, while composed lines remain in it."
 fn draw_notice(input: &Input) -> Expected {
     let Input { columns, rows, ref styles, ref text, ref titles, .. } = *input;
     let area = settings::rect(input.area);
@@ -181,7 +187,8 @@ fn draw_notice(input: &Input) -> Expected {
     {
         answers.push((COUNTS, answer(counts, screen.cells)));
     }
-    Expected { answers, refused: false, clipped: drawn.clipped > 0, panicked }
+    let Drawn { clipped, halved, .. } = drawn;
+    Expected { answers, refused: false, clipped: clipped > 0, halved: halved > 0, panicked }
 }
 
 /// Pages are lines / height of the inner area, rounded up.

@@ -2,6 +2,7 @@
 
 mod frames;
 mod texts;
+mod wide;
 
 use crate::arguments::Arguments;
 use crate::input::{Call, Input};
@@ -36,6 +37,11 @@ pub fn all(arguments: &Arguments) -> Vec<Family> {
             make: Box::new(move |number| {
                 (scenes::right_titles(&mut random(seed, number)), &[Call::DrawBlock])
             }),
+        },
+        Family {
+            name: "wide glyphs",
+            inputs: Some(if arguments.short { 100_000 } else { 1_000_000 }),
+            make: Box::new(move |number| wide::notice(&mut random(seed, number))),
         },
         Family {
             name: "pairs of causes",

@@ -10,20 +10,21 @@ use crate::expected::Expected;
 use crate::input::{Call, Input};
 
 /// The columns of the table.
-const NAMES: [&str; 9] = [
+const NAMES: [&str; 10] = [
     "compared",
     "refused",
     "hold a code 7, narrow",
     "hold one, wide",
     "place a glyph",
     "clip one",
+    "halve one",
     "panic in the Rust",
     "of these clip none",
     "differ",
 ];
 const COMPARED: usize = 0;
 const REFUSED: usize = 1;
-const DIFFER: usize = 8;
+const DIFFER: usize = 9;
 
 /// The counts of one call.
 #[derive(Default)]
@@ -45,12 +46,13 @@ impl Report {
     }
 
     pub fn count(&self, call: Call, input: &Input, expected: &Expected, differ: bool) {
-        let Expected { refused, clipped, panicked, .. } = *expected;
+        let Expected { refused, clipped, halved, panicked, .. } = *expected;
         let places = expected.answers.iter().any(|(_, answer)| answer.named(call, "placed") > 0);
         let holds = !refused && input.holds_ambiguous(call);
         let [narrow, wide] = [1, 2].map(|number| holds && input.settings.ambiguous == number);
         let clips_none = panicked && !clipped;
-        let kinds = [true, refused, narrow, wide, places, clipped, panicked, clips_none, differ];
+        let kinds: [bool; NAMES.len()] =
+            [true, refused, narrow, wide, places, clipped, halved, panicked, clips_none, differ];
         for (count, is_so) in self.rows[call as usize].counts.iter().zip(kinds) {
             count.fetch_add(is_so.into(), Ordering::Relaxed);
         }

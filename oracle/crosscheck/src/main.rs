@@ -1,5 +1,7 @@
-//! Compares the crate `rules`, an independent implementation of document 01 and of C-11, with the
-//! Rust. `rules` reads each width code 7 itself, the Rust is given the 1 or 2 read for it.
+//! Compares the crate `rules`, an independent implementation of document 01 and of C-11 and C-14,
+//! with the Rust. `rules` reads each width code 7 itself, the Rust is given the 1 or 2 read for it.
+//! C-14: "Inputs with such a glyph leave the cell comparison with the crate, while composed lines
+//! remain in it."
 //!
 //! Usage: `crosscheck [SEED]`. Short texts are tried exhaustively, long texts and whole notices at
 //! random. Prints what was compared, what was skipped and why, and the smallest input of each kind

@@ -1,6 +1,9 @@
 //! Inner areas, blocks, notices and their measures.
 
 use oracle::{Notice, Outcome};
+use rules::compose::compose;
+use rules::notice::start_column;
+use rules::place::{Place, places};
 use rules::screen::Screen;
 use rules::{frame, lines, measure, notice};
 
@@ -70,8 +73,9 @@ fn block(report: &mut Report, case: &Case) {
     report.same("cells of a block", case, &Outcome::Value(screen.cells), &outcome.map(|()| cells));
 }
 
-/// Compares a notice's counts, and its cells unless a glyph is clipped: then the Rust writes
-/// outside the area or panics. A panic without a clipped glyph is a difference.
+/// Compares a notice's counts, and its cells unless a glyph is clipped: then the Rust writes it, or
+/// panics. A panic without a clipped glyph is a difference. If all clipped glyphs start inside, the
+/// cells are those that the Rust draws of a text in which they are blank.
 fn whole(report: &mut Report, case: &Case) {
     let Case { columns, rows, ref text, ref titles, area, notice, .. } = *case;
     let mut screen = screen(case);
@@ -81,20 +85,48 @@ fn whole(report: &mut Report, case: &Case) {
     if document.placed > 0 {
         report.note("notices that place a glyph");
     }
+    if document.halved > 0 {
+        report.note("notices that halve a glyph, their cells skipped");
+    }
+    if document.halved > 0 && document.halved == document.clipped {
+        let cells = Outcome::Value(screen.cells.clone());
+        let rust = drawn(case, &blanked(case));
+        report.same("cells of a notice, halved glyphs given blank", case, &cells, &rust);
+    }
 
-    let mut cells = case.cells.clone();
-    let drawn =
-        oracle::draw_notice(columns, rows, &mut cells, &case.styles, text, titles, area, notice);
-    match drawn {
+    match drawn(case, text) {
         Outcome::Value(_) if document.clipped > 0 => {
-            report.note("cells skipped, a clipped glyph is written outside the area");
+            report.note("cells skipped, a clipped glyph is written");
         }
         Outcome::Panicked(_) if document.clipped > 0 => {
             report.note("cells skipped, a clipped glyph makes the Rust panic");
         }
-        drawn => {
-            let rust = drawn.map(|_| cells);
-            report.same("cells of a notice", case, &Outcome::Value(screen.cells), &rust);
+        rust => report.same("cells of a notice", case, &Outcome::Value(screen.cells), &rust),
+    }
+}
+
+/// Returns the cells that the Rust draws of a text in the notice of a case.
+fn drawn(case: &Case, text: &[u32]) -> Outcome<Vec<u64>> {
+    let Case { columns, rows, ref titles, area, notice, .. } = *case;
+    let mut cells = case.cells.clone();
+    oracle::draw_notice(columns, rows, &mut cells, &case.styles, text, titles, area, notice)
+        .map(|_| cells)
+}
+
+/// Returns the text of a case with the blank symbol in each glyph that starts inside and runs past
+/// the right edge. Its lines are the same: width and whitespace are fields beside the symbol.
+fn blanked(case: &Case) -> Vec<u32> {
+    let Notice { ref block, ambiguous, alignment, wrap, .. } = case.notice;
+    let met = frame::met(case.area.into(), &screen(case));
+    let columns = frame::inner(block, &lines(&case.titles, ambiguous), met).width;
+    let mut text = case.text.clone();
+    for line in compose(&case.text, ambiguous, alignment, columns, wrap).lines {
+        for (glyph, _, place) in places(&line.glyphs, start_column(&line, columns), columns) {
+            if place == Place::Halved {
+                let record = &mut text[glyph.number as usize];
+                *record = (32 << 10) + *record % 1024;
+            }
         }
     }
+    text
 }

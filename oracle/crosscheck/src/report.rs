@@ -22,7 +22,7 @@ pub struct Report {
 }
 
 impl Report {
-    /// Compares document 01's answer with the Rust's. Keeps the differing input that is shortest
+    /// Compares the answer of `rules` with the Rust's. Keeps the differing input that is shortest
     /// when formatted.
     pub fn same<T: Debug + PartialEq>(
         &mut self,
@@ -37,7 +37,7 @@ impl Report {
             return;
         }
         topic.differences += 1;
-        let shown = format!("{input:?}\n    document 01: {document:?}\n    the Rust:    {rust:?}");
+        let shown = format!("{input:?}\n    `rules`:  {document:?}\n    the Rust: {rust:?}");
         if topic.smallest.as_ref().is_none_or(|smallest| shown.len() < smallest.len()) {
             topic.smallest = Some(shown);
         }

@@ -2,6 +2,8 @@
 
 use oracle::{Alignment, AmbiguousWidth, ComposedLine, Outcome, Wrap};
 use rules::compose::{Composed, compose, tally};
+use rules::notice::start_column;
+use rules::place::{Place, places};
 use rules::{glyph, width};
 
 use crate::cases::{self, READINGS, holds_ambiguous};
@@ -67,7 +69,7 @@ pub fn at_random(report: &mut Report, random: &mut Random, count: u32) {
     }
 }
 
-/// Compares the composed lines and, if the text is wrapped, its tally.
+/// Compares the composed lines and, if the text is wrapped, its tally. Unwrapped lines never clip.
 fn compare(
     report: &mut Report,
     text: &[u32],
@@ -83,17 +85,34 @@ fn compare(
         Wrap::Off { column } => {
             let rust = oracle::truncated_lines(text, ambiguous, default_alignment, limit, column);
             report.same("truncated lines", &input, &document, &rust);
+            match clipped(&composed, limit.into()) {
+                0 => report.note("unwrapped texts, each without a clipped glyph"),
+                clipped => report.same("glyphs clipped, unwrapped", &input, &0, &clipped),
+            }
         }
         Wrap::On { trim } => {
             let rust = oracle::wrapped_lines(text, ambiguous, default_alignment, limit, trim);
             report.same("wrapped lines", &input, &document, &rust);
             let spanned = rust.clone().map(|lines| respanned(text, ambiguous, limit, lines));
             report.same("glyphs from first to end", &input, &spanned, &rust);
-            let document = Outcome::Value(tally(text, ambiguous, i64::from(limit), trim));
+            let document = tally(text, ambiguous, i64::from(limit), trim);
             let rust = oracle::tally(text, ambiguous, limit, trim);
-            report.same("tallies", &input, &document, &rust);
+            report.same("tallies", &input, &Outcome::Value(document), &rust);
+            if document.halved > 0 {
+                report.note("tallies that halve a glyph");
+            }
         }
     }
+}
+
+/// Counts the glyphs clipped when the lines are drawn.
+fn clipped(lines: &[Composed], columns: i64) -> usize {
+    let clips = |line: &Composed| {
+        places(&line.glyphs, start_column(line, columns), columns)
+            .filter(|(_, _, place)| matches!(place, Place::Halved | Place::Outside))
+            .count()
+    };
+    lines.iter().map(clips).sum()
 }
 
 fn listed(line: &Composed) -> ComposedLine {

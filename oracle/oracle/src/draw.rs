@@ -11,12 +11,14 @@ use crate::settings::{Alignment, AmbiguousWidth, Block, Notice, Rect, Wrap};
 use crate::tally::glyph_counts;
 use crate::widgets::{block, paragraph};
 
-/// The counts that drawing a notice returns.
+/// The counts that drawing a notice returns, and `halved`, which no call answers.
 #[derive(Debug, Default, Clone, Copy, PartialEq, Eq)]
 pub struct Drawn {
     pub rows: u32,
     pub placed: u32,
     pub clipped: u32,
+    /// How many of the clipped start inside the area.
+    pub halved: u32,
 }
 
 /// Draws a block. If the Rust panics, the cells are unchanged.
@@ -36,9 +38,10 @@ pub fn draw_block(
     })
 }
 
-/// Draws a notice as a `Paragraph`, and counts as document 01 does. If glyphs are clipped, the Rust
-/// writes outside the inner area or panics, so the cells must not be compared; if it panics, they
-/// are unchanged, and [`notice_counts`] still counts.
+/// Draws a notice as a `Paragraph`, and counts as document 01 and C-14 do. If glyphs are clipped,
+/// the Rust writes those that start inside the inner area, and writes others outside or panics, so
+/// the cells must not be compared; if it panics, they are unchanged, and [`notice_counts`] still
+/// counts.
 #[expect(clippy::too_many_arguments, reason = "the call of document 01 has these")]
 pub fn draw_notice(
     columns: u32,
@@ -59,8 +62,8 @@ pub fn draw_notice(
     outcome.and_then(|()| notice_counts(columns, rows, text, titles, area, settings))
 }
 
-/// Returns the counts of a notice's drawing, by document 01's definitions, from the crate's inner
-/// area and composed lines.
+/// Returns the counts of a notice's drawing, by the definitions of document 01 and C-14, from the
+/// crate's inner area and composed lines.
 pub fn notice_counts(
     columns: u32,
     rows: u32,
@@ -78,6 +81,7 @@ pub fn notice_counts(
             counts.rows += 1;
             counts.placed += glyphs.placed;
             counts.clipped += glyphs.clipped;
+            counts.halved += glyphs.halved;
         }
         counts
     })

@@ -1,4 +1,4 @@
-//! Document 01's tally of a text, computed from the crate's composed lines.
+//! Document 01's tally of a text, with C-14's clipping, computed from the crate's composed lines.
 
 use std::collections::BTreeSet;
 
@@ -7,12 +7,14 @@ use crate::outcome::Outcome;
 use crate::records::Records;
 use crate::settings::{Alignment, AmbiguousWidth};
 
-/// The tally's counts, under document 01's names.
+/// The tally's counts, under document 01's names, and `halved`, which no call answers.
 #[derive(Debug, Default, Clone, Copy, PartialEq, Eq)]
 pub struct Tally {
     pub lines: u32,
     pub placed: u32,
     pub clipped: u32,
+    /// How many of the clipped start below the limit.
+    pub halved: u32,
     pub zero_width: u32,
     pub over_wide: u32,
     pub dropped: u32,
@@ -32,6 +34,7 @@ pub fn tally(text: &[u32], ambiguous: AmbiguousWidth, limit: u16, trim: bool) ->
             tally.lines += 1;
             tally.placed += counts.placed;
             tally.clipped += counts.clipped;
+            tally.halved += counts.halved;
             tally.zero_width += counts.zero_width;
         }
         let emitted: BTreeSet<u32> = lines.into_iter().flat_map(|line| line.glyphs).collect();
@@ -47,28 +50,32 @@ pub fn tally(text: &[u32], ambiguous: AmbiguousWidth, limit: u16, trim: bool) ->
 }
 
 /// Counts of a composed line's glyphs.
+#[derive(Default)]
 pub struct GlyphCounts {
     pub placed: u32,
     pub clipped: u32,
+    pub halved: u32,
     pub zero_width: u32,
 }
 
-/// Counts the glyphs of a line that starts at column `offset`: "placed are emitted glyphs of
-/// width above 0 that start below the limit", "clipped (emitted, of width above 0, start at or past
-/// the limit)".
+/// Counts the glyphs of a line that starts at column `offset`. Zero-width are those "emitted,
+/// wherever they start", and of the others those are clipped that "start at or past the limit".
+/// C-14 adds "a glyph that starts inside and runs past the right edge": such a one is halved, and
+/// the glyphs that end by the edge are placed.
 pub fn glyph_counts(text: &Records, line: &ComposedLine, offset: u16, columns: u16) -> GlyphCounts {
-    let mut counts = GlyphCounts { placed: 0, clipped: 0, zero_width: 0 };
+    let mut counts = GlyphCounts::default();
     let mut start = offset;
     for &number in &line.glyphs {
-        let width = text.glyph(number).width();
-        if width == 0 {
+        let end = start + text.glyph(number).width();
+        if end == start {
             counts.zero_width += 1;
-        } else if start < columns {
+        } else if end <= columns {
             counts.placed += 1;
         } else {
             counts.clipped += 1;
+            counts.halved += u32::from(start < columns);
         }
-        start += width;
+        start = end;
     }
     counts
 }

@@ -2,6 +2,7 @@
 
 use oracle::{Alignment, AmbiguousWidth, Tally, Wrap};
 
+use crate::place::{Place, places};
 use crate::{Glyph, Line, lines, width};
 
 /// A composed line.
@@ -122,6 +123,8 @@ fn truncated(line: &Line, limit: i64, mut offset: i64, alignment: Alignment) -> 
     shown
 }
 
+/// The tally, with the limit as the right edge. C-14: "The case "abW" at limit 3 now has two placed
+/// and one clipped."
 pub fn tally(records: &[u32], ambiguous: AmbiguousWidth, limit: i64, trim: bool) -> Tally {
     let text = compose(records, ambiguous, Alignment::Left, limit, Wrap::On { trim });
     let mut tally = Tally {
@@ -131,13 +134,13 @@ pub fn tally(records: &[u32], ambiguous: AmbiguousWidth, limit: i64, trim: bool)
         ..Tally::default()
     };
     for line in &text.lines {
-        for (place, glyph) in line.glyphs.iter().enumerate() {
-            let start = width(&line.glyphs[..place]);
-            match glyph.width {
-                0 => tally.zero_width += 1,
-                _ if start < limit => tally.placed += 1,
-                _ => tally.clipped += 1,
+        for (_, _, place) in places(&line.glyphs, 0, limit) {
+            match place {
+                Place::ZeroWidth => tally.zero_width += 1,
+                Place::Inside => tally.placed += 1,
+                Place::Halved | Place::Outside => tally.clipped += 1,
             }
+            tally.halved += u32::from(place == Place::Halved);
         }
     }
     tally

@@ -1,12 +1,13 @@
-//! A second implementation of document 01 and of document 02's C-11, sentence by sentence, on plain
-//! numbers and lists. It shares nothing with the stand-ins, and reads width code 7 itself; only the
-//! types of settings and counts are the oracle's. `crosscheck` compares it with the Rust, and
-//! `vectors` uses its answer if a glyph is clipped.
+//! A second implementation of document 01 and of document 02's C-11 and C-14, sentence by sentence,
+//! on plain numbers and lists. It shares nothing with the stand-ins, and reads width code 7 itself;
+//! only the types of settings and counts are the oracle's. `crosscheck` compares it with the Rust,
+//! and `vectors` and `compare` use its cells if a glyph is clipped.
 
 pub mod compose;
 pub mod frame;
 pub mod measure;
 pub mod notice;
+pub mod place;
 pub mod screen;
 pub mod titles;
 

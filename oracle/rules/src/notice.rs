@@ -4,6 +4,7 @@ use oracle::{Alignment, Drawn, Notice};
 
 use crate::compose::{Composed, compose};
 use crate::frame::{self, inner, met};
+use crate::place::{Place, places};
 use crate::screen::{Area, Screen};
 use crate::{lines, width};
 
@@ -34,25 +35,34 @@ pub fn draw(
     drawn
 }
 
-/// Draws a composed line in the first row of an area.
-fn draw_line(screen: &mut Screen, line: &Composed, area: Area, notice: &Notice, drawn: &mut Drawn) {
-    let column = match line.alignment {
+/// "Centre being half the area less half the line, each half rounded down."
+pub fn start_column(line: &Composed, columns: i64) -> i64 {
+    match line.alignment {
         Alignment::Left => 0,
-        Alignment::Center => (area.width / 2 - width(&line.glyphs) / 2).max(0),
-        Alignment::Right => (area.width - width(&line.glyphs)).max(0),
-    };
-    for (place, glyph) in line.glyphs.iter().enumerate() {
-        let start = column + width(&line.glyphs[..place]);
-        if glyph.width == 0 {
-            continue;
-        }
-        if start >= area.width {
-            drawn.clipped += 1;
-            continue;
-        }
-        drawn.placed += 1;
+        Alignment::Center => (columns / 2 - width(&line.glyphs) / 2).max(0),
+        Alignment::Right => (columns - width(&line.glyphs)).max(0),
+    }
+}
+
+/// "32 is the blank symbol."
+const BLANK: u64 = 32;
+
+/// Draws a composed line in the first row of an area. C-14 on a glyph that starts inside and runs
+/// past the right edge: "its first cell gets the blank symbol, then the text style and the glyph's
+/// own as before".
+fn draw_line(screen: &mut Screen, line: &Composed, area: Area, notice: &Notice, drawn: &mut Drawn) {
+    let column = start_column(line, area.width);
+    for (glyph, start, place) in places(&line.glyphs, column, area.width) {
+        drawn.placed += u32::from(place == Place::Inside);
+        drawn.clipped += u32::from(matches!(place, Place::Halved | Place::Outside));
+        drawn.halved += u32::from(place == Place::Halved);
+        let symbol = match place {
+            Place::Inside => glyph.symbol,
+            Place::Halved => BLANK,
+            Place::ZeroWidth | Place::Outside => continue,
+        };
         let chosen = |x, y| (x, y) == (area.x + start, area.y);
-        screen.symbol(glyph.symbol, chosen);
+        screen.symbol(symbol, chosen);
         screen.style(usize::from(notice.text_style), chosen);
         screen.style(glyph.style, chosen);
     }

@@ -78,7 +78,7 @@ fn drawn(report: &mut Report) {
         let mut screen = Screen::blank(5, 1);
         let drawn = screen.draw_notice(&line(0, "AaW"), Rect::new(0, 0, 5, 1), notice);
         let got = drawn.map(|drawn| (screen.symbols(), drawn));
-        let counts = Drawn { rows: 1, placed: 3, clipped: 0 };
+        let counts = Drawn { rows: 1, placed: 3, ..Drawn::default() };
         let name = format!("drawn \"AaW\", {ambiguous:?}");
         report.same(&name, Outcome::Value((expected.to_owned(), counts)), got);
     }

@@ -1,10 +1,12 @@
-//! Checks the oracle on the worked examples of document 01, and of C-11 in document 02.
+//! Checks the oracle on the worked examples of document 01, and of C-11 and C-14 in document 02;
+//! on those of C-14 the crate `rules` too.
 //!
 //! Prints `ok NAME` or `FAILED NAME: expected .. got ..` for each, then `N passed, M failed`; the
 //! exit status is 1 if one failed.
 
 mod ambiguous;
 mod frame;
+mod halved;
 mod listlines;
 mod notation;
 mod notices;
@@ -25,5 +27,6 @@ fn main() -> ExitCode {
     styles::run(&mut report);
     listlines::run(&mut report);
     ambiguous::run(&mut report);
+    halved::run(&mut report);
     report.finish()
 }

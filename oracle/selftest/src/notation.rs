@@ -1,5 +1,6 @@
 //! Document 01's notation for small texts: "`_` space, W width 2, Z zero-width solid, z zero-width
-//! space, other letters one cell, bar between lines." A is ambiguous: width code 7.
+//! space, other letters one cell, bar between lines." A is ambiguous: width code 7. T has three
+//! cells, S is a space of two.
 
 use oracle::ComposedLine;
 
@@ -16,6 +17,8 @@ pub const fn glyph(letter: char) -> u32 {
     let (symbol, width, whitespace) = match letter {
         '_' => (BLANK, 1, 1),
         'W' => ('W' as u32, 2, 0),
+        'T' => ('T' as u32, 3, 0),
+        'S' => ('S' as u32, 2, 1),
         'Z' => ('Z' as u32, 0, 0),
         'z' => ('z' as u32, 0, 1),
         'A' => ('A' as u32, 7, 0),

@@ -33,7 +33,7 @@ pub fn plain() -> Notice {
 }
 
 fn counts(rows: u32, placed: u32, clipped: u32) -> Drawn {
-    Drawn { rows, placed, clipped }
+    Drawn { rows, placed, clipped, halved: 0 }
 }
 
 fn centring(report: &mut Report) {

@@ -1,6 +1,6 @@
 //! A screen of packed cells to draw on.
 
-use oracle::{AmbiguousWidth, Block, Notice, Outcome, Rect};
+use oracle::{AmbiguousWidth, Block, Drawn, Notice, Outcome, Rect};
 
 use crate::notation::letter;
 
@@ -11,6 +11,7 @@ pub const BLANK_CELL: u64 = 32 << 43;
 pub const PLAIN: &[u64] = &[0];
 
 /// A screen and the style table for drawing on it.
+#[derive(Clone)]
 pub struct Screen {
     pub columns: u32,
     pub rows: u32,
@@ -52,12 +53,7 @@ impl Screen {
         )
     }
 
-    pub fn draw_notice(
-        &mut self,
-        text: &[u32],
-        area: Rect,
-        notice: Notice,
-    ) -> Outcome<oracle::Drawn> {
+    pub fn draw_notice(&mut self, text: &[u32], area: Rect, notice: Notice) -> Outcome<Drawn> {
         oracle::draw_notice(
             self.columns,
             self.rows,
@@ -68,6 +64,19 @@ impl Screen {
             area,
             notice,
         )
+    }
+
+    /// Draws a notice by the crate `rules`.
+    pub fn draw_by_rules(&mut self, text: &[u32], area: Rect, notice: Notice) -> Drawn {
+        let mut screen = rules::screen::Screen {
+            columns: self.columns.into(),
+            rows: self.rows.into(),
+            cells: self.cells.clone(),
+            styles: self.styles.clone(),
+        };
+        let drawn = rules::notice::draw(&mut screen, text, &[], area.into(), &notice);
+        self.cells = screen.cells;
+        drawn
     }
 
     /// Returns the symbols as letters, with a bar between rows.

@@ -9,9 +9,9 @@
 //! small and on large screens; blocks with titles on small and on wide screens; notices on narrow,
 //! small and large screens. A panic of the Rust ends the program with exit status 1.
 //!
-//! A notice that clips a glyph is the one case not answered by the Rust, which writes the glyph
-//! outside the area or panics. The file has document 01's answer, by the crate `rules`, and these
-//! cases are counted.
+//! A notice that clips a glyph is the one case not answered by the Rust, which writes the glyph or
+//! panics. The file has the answer of document 01 and C-14, by the crate `rules`. These cases are
+//! counted, and those with a glyph that starts inside and runs past the right edge, halved.
 
 mod blocks;
 mod notices;

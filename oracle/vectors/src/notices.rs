@@ -56,8 +56,8 @@ fn by_the_rust(case: &Case) -> Outcome<u32> {
         .map(|drawn| sum_drawn(drawn, cells))
 }
 
-/// Returns document 01's answer, by the crate `rules`, for a case with a clipped glyph, which the
-/// Rust writes outside the area or panics on.
+/// Returns the answer of document 01 and C-14, by the crate `rules`, for a case with a clipped
+/// glyph, which the Rust writes, or panics on.
 fn by_the_rules(case: &Case) -> u32 {
     let mut screen = Screen {
         columns: case.columns.into(),
@@ -72,6 +72,6 @@ fn by_the_rules(case: &Case) -> u32 {
 
 /// Returns the checksum of the counts, then of the cells' checksum.
 fn sum_drawn(drawn: Drawn, cells: Vec<u64>) -> u32 {
-    let Drawn { rows, placed, clipped } = drawn;
+    let Drawn { rows, placed, clipped, halved: _ } = drawn;
     sum_numbers([rows, placed, clipped, sum_entries(cells.into_iter())])
 }

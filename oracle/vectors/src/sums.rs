@@ -26,7 +26,7 @@ pub fn sum_entries(entries: impl ExactSizeIterator<Item = u64>) -> u32 {
 
 /// Returns the checksum of a tally's six counts.
 pub fn sum_counts(tally: Tally) -> u32 {
-    let Tally { lines, placed, clipped, zero_width, over_wide, dropped } = tally;
+    let Tally { lines, placed, clipped, zero_width, over_wide, dropped, halved: _ } = tally;
     sum_numbers([lines, placed, clipped, zero_width, over_wide, dropped])
 }
 

@@ -1,17 +1,16 @@
 -- `render_glyphs::write_glyphs` meets its contract.
 use Prim.Native.Nat.{_-_}
-use mathlib.Core.Logic.{⊎-elim}
 use lib.ListN.{length}
-use Rattle.render_glyphs.proofs.Writing.{Writing, writing, writing-sum}
+use Rattle.render_glyphs.proofs.Writing.{Writing, writing, writing-sum, writing-fits}
 use borrow.Author.Needs.{needs}
 use Rattle.render_glyphs.proofs.write_glyphs.Statement.{statement}
 use Rattle.render_glyphs.proofs.write_glyphs.Tie as tie
 
 abbrev Inv-loop : tie.InvT-loop
-Inv-loop row₀ styles style rule records text-style column₀ placed₀ clipped₀ i₀ row column placed clipped i = Writing styles style text-style rule records row₀ row column placed clipped i
+Inv-loop row₀ styles style rule records text-style counts₀ column₀ i₀ row counts column i = Writing styles style text-style rule records row₀ row counts column i
 
 abbrev μ-loop : tie.MeasureT-loop
-μ-loop row₀ styles style rule records text-style column₀ placed₀ clipped₀ i₀ row column placed clipped i = length records - i
+μ-loop row₀ styles style rule records text-style counts₀ column₀ i₀ row counts column i = length records - i
 
 style-at-requires : tie.Need-style-at-requires Inv-loop μ-loop
 style-at-requires c κs = search needs
@@ -43,29 +42,20 @@ loop-less c = search needs
 loop-again : tie.Need-loop-again Inv-loop μ-loop
 loop-again c = search writing
 
+write-glyph-requires : tie.Need-write-glyph-requires Inv-loop μ-loop
+write-glyph-requires c κs = search writing-fits
+
+with-glyph-requires : tie.Need-with-glyph-requires Inv-loop μ-loop
+with-glyph-requires c κs = search needs
+
+add-column : tie.Need-add-column Inv-loop μ-loop
+add-column c = search writing-sum
+
 loop-less-2 : tie.Need-loop-less-2 Inv-loop μ-loop
 loop-less-2 c = search needs
 
 loop-again-2 : tie.Need-loop-again-2 Inv-loop μ-loop
 loop-again-2 c = search writing
-
-write-glyph-requires : tie.Need-write-glyph-requires Inv-loop μ-loop
-write-glyph-requires c κs = search needs
-
-add-placed : tie.Need-add-placed Inv-loop μ-loop
-add-placed c = search needs
-
-add-clipped : tie.Need-add-clipped Inv-loop μ-loop
-add-clipped c = search needs
-
-add-column : tie.Need-add-column Inv-loop μ-loop
-add-column c = search writing-sum
-
-loop-less-3 : tie.Need-loop-less-3 Inv-loop μ-loop
-loop-less-3 c = search needs
-
-loop-again-3 : tie.Need-loop-again-3 Inv-loop μ-loop
-loop-again-3 c = ⊎-elim (λ t. search writing) (λ t. search writing) (c .if2 .came)
 
 same-length : tie.Need-same-length Inv-loop μ-loop
 same-length c = search needs
@@ -89,13 +79,10 @@ write-glyphs-spec =
     enum-told
     loop-less
     loop-again
+    write-glyph-requires
+    with-glyph-requires
+    add-column
     loop-less-2
     loop-again-2
-    write-glyph-requires
-    add-placed
-    add-clipped
-    add-column
-    loop-less-3
-    loop-again-3
     same-length
     returns)
