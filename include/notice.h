@@ -20,10 +20,11 @@
    - Glyph: a symbol is any number below 2,097,152, read as a code point; 32 is the blank symbol. Width is
      in columns, 0 to 6; 7 is ambiguous (Unicode UAX 11): each call that reads widths takes a
      notice_ambiguous, by which it is read as 1 or 2. Drawing writes the symbol to the first cell and leaves
-     the symbols of the others that the glyph covers, all of them inside the inner area. A glyph of the text
-     that starts inside and would run past the right edge is clipped: its first cell gets the blank symbol, in
-     the text's and the glyph's styles, and no other cell changes. One that starts at the edge or past it changes
-     no cell. Glyphs of width 0 aren't drawn. Lines break at glyphs with whitespace 1, whatever their symbols.
+     the symbols of the others that the glyph covers; those of a text's glyph are all in the inner area. A glyph
+     of the text that starts in the inner area and would run past its right edge is clipped: its first cell gets
+     the blank symbol, in the text's and the glyph's styles, and no other cell changes. One that starts at the edge
+     or past it is clipped too, and changes no cell. Glyphs of width 0 aren't drawn. Lines break at glyphs with
+     whitespace 1, whatever their symbols.
    - Head: alignment is a notice_alignment, where 3 is the default alignment in a text, and "none given" in
      a title. Position is 0 in a text, and a notice_position in a title.
    - Style: sets the given colours, then sets the modifiers to add, then clears those to remove. Colours and
@@ -53,7 +54,7 @@
    calls on different cells and lists may run at the same time.
 
    Stack use is bounded, as no function calls itself. In the archive built here notice_draw_notice takes the
-   most, at most 2,056 bytes whatever it is given. Arguments and answer are in the caller's frame besides,
+   most, at most 2,024 bytes whatever it is given. Arguments and answer are in the caller's frame besides,
    under 200 bytes. This is read from the machine code, not proved: `tools/stack` prints the bytes of each
    call of any archive. */
 #ifndef NOTICE_H

@@ -62,6 +62,7 @@ def shown(evening):
         "11_shadow_before": notice("abc", "--size", "9", "5", "--area", "3", "2", "6", "3", "--shadow", "symbol", "--shadow-offset", "-2", "-1"),
         "12_widest": notice("w" * 600, "--size", "512", "2", "--border", "none", "--padding", "0", "0", "0", "0"),
         "13_ambiguous": notice("7→3 ±1 ok", "--size", "10", "5", "--ambiguous", "--top", "→", "--top", "b"),
+        "14_half_glyph": notice("ab日 c", "--size", "6", "5", "--padding", "0", "0", "0", "0", "--area", "0", "0", "5", "4", "--wide", "日", "--shadow", "symbol"),
     }
 
 

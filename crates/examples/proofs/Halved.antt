@@ -19,7 +19,7 @@ use Rattle.line_composer.specs.declared.Method.{Method}
 use Rattle.line_composer.specs.declared.Method.the-variants.{WordWrap, Truncate}
 use Rattle.line_composer.specs.Lines.{Line, linesOf, lineLines, lines, skipped, dropped}
 use Rattle.line_composer.specs.Places.{isPlaced, isClipped, isZeroWidth}
-use Rattle.render_glyphs.specs.RenderGlyphs.{withGlyph, firstCell, glyphOn}
+use Rattle.render_glyphs.specs.RenderGlyphs.{glyphCell, firstCell, glyphOn}
 use Rattle.render_line.specs.RenderLine.{lineOffset, drawnStarts, lineOn}
 use Rattle.render_lines.specs.Rows.{textOn}
 use Rattle.tally.specs.Tally.{tallyOf}
@@ -36,7 +36,7 @@ pub half-glyph : (a : AmbiguousWidth) →
     (overX a WordWrap (textOf "aT") ≡ code "a" ∷ blankSymbol ∷ code "x" ∷ code "x" ∷ [])
     × (overX a WordWrap (textOf "aW") ≡ code "a" ∷ code "W" ∷ code "x" ∷ code "x" ∷ [])
     × (overX a WordWrap (textOf "abW") ≡ code "a" ∷ code "b" ∷ blankSymbol ∷ code "x" ∷ [])
-unfolding readWidth overWide mustJoin takesSpaces gathered joined unjoined full emptied drops appended _then_ joinStep emitStep appendStep step lastLines wrap linesOf lineLines lines placeOf withGlyph firstCell glyphOn lineOffset drawnStarts lineOn textOn drawn inside styled withSymbol
+unfolding readWidth overWide mustJoin takesSpaces gathered joined unjoined full emptied drops appended _then_ joinStep emitStep appendStep step lastLines wrap linesOf lineLines lines placeOf glyphCell firstCell glyphOn lineOffset drawnStarts lineOn textOn drawn inside styled withSymbol
 half-glyph a = (refl, refl, refl)
 
 -- limit 3 "abW", and "abS" not trimmed: two placed and one clipped

@@ -12,3 +12,4 @@ pub mod Reached
 pub mod Counts
 pub mod Text
 pub mod Pages
+pub mod Unwrapped

@@ -13,7 +13,7 @@ use Rattle.cell.proofs.Fields.{styled-symbol, symbol-set}
 use Rattle.line_composer.specs.Lines.{Line}
 use Rattle.place.specs.declared.Place.the-variants.{Placed}
 use Rattle.line_composer.specs.Places.{placeIn, isPlaced}
-use Rattle.render_glyphs.specs.RenderGlyphs.{withGlyph, firstCell, glyphOn, glyphsOn}
+use Rattle.render_glyphs.specs.RenderGlyphs.{glyphCell, firstCell, glyphOn, glyphsOn}
 use Rattle.render_line.specs.RenderLine.{drawnStarts, lineOn}
 use Rattle.render_line.proofs.Moving.{glyphs-before}
 use Rattle.pages.specs.Pages.{solidPlaced}
@@ -50,7 +50,7 @@ module _ (styles : List ℕ) (style width page row x : ℕ) where
 
   -- a placed glyph's first cell gets its symbol
   glyph-symbol : (s : Start) (cell : ℕ) → placeIn width s ≡ Placed → cellFrom (glyphOn styles style width s (s .start) cell) .symbol ≡ s .glyph .symbol
-  unfolding glyphOn firstCell withGlyph
+  unfolding glyphOn firstCell glyphCell
   glyph-symbol s cell p = simp (p, eq-eqb (s .start) (s .start) refl) (styled-symbol _ _ ∙ styled-symbol _ _ ∙ symbol-set (s .glyph .symbol) cell)
 
   -- the cells right of it are unchanged

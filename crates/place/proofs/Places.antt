@@ -1,15 +1,16 @@
 -- The place of a glyph: one law for each path through `of_glyph`, and what each place says of start and width.
--- Theorem `taken-inside`: no cell that a glyph takes is at the edge or past it.
+-- Theorems `counted-once`: a glyph of width above 0 is placed or clipped; `taken-inside`: no cell that a glyph takes is at the edge or
+-- past it.
 use Prim.Native.Nat.{ℕ, _+_, _≤_, _<_}
-use mathlib.Core.Path.{_≡_, refl, sym, ap, _∙_, subst}
-use mathlib.Core.Bool.{Bool, true, false, cond, true≢false}
+use mathlib.Core.Path.{_≡_, refl}
+use mathlib.Core.Bool.{not}
 use native.Mathlib.Omega.{arith}
 use borrow.Author.Tests.{eq-eqb, ne-eqb, le-leb, lt-leb, lt-ltb, le-ltb, eqb-true, eqb-false, leb-true, leb-false, ltb-true, ltb-false}
 use lib.Dec.{eqb, leb, ltb}
 use Rattle.text.proofs.Bools.{cond-cases}
 use Rattle.place.specs.declared.Place.{Place}
 use Rattle.place.specs.declared.Place.the-variants.{ZeroWidth, Placed, Halved, Outside}
-use Rattle.place.specs.Place.{placeOf, countsAsPlaced, cellsTaken}
+use Rattle.place.specs.Place.{placeOf, countsAsPlaced, countsAsClipped, cellsTaken}
 
 module _ (edge start width : ℕ) where
   pub place-zero : width ≡ 0 → ZeroWidth ≡ placeOf edge start width
@@ -49,6 +50,12 @@ by-place edge start width P zero outside halved placed =
     cond-cases P (ltb edge (start + width)) _ _
     (λ g. halved (eqb-false width 0 e) (leb-false edge start f) (ltb-true edge (start + width) g))
     (λ g. placed (eqb-false width 0 e) (leb-false edge start f) (ltb-false edge (start + width) g))))
+
+-- a glyph of width above 0 counts as placed or as clipped, never both
+pub counted-once : (edge start width : ℕ) → (width ≡ 0 → ⊥)
+    → countsAsClipped (placeOf edge start width) ≡ not (countsAsPlaced (placeOf edge start width))
+counted-once edge start width some =
+    by-place edge start width (λ p. countsAsClipped p ≡ not (countsAsPlaced p)) (λ none. absurd (some none)) (λ _ _. refl) (λ _ _ _. refl) (λ _ _ _. refl)
 
 -- no glyph takes a cell at the edge or past it
 pub taken-inside : (edge start width k : ℕ) → k < cellsTaken (placeOf edge start width) width → start + k < edge

@@ -31,8 +31,8 @@ countsAsClipped Placed = false
 countsAsClipped Halved = true
 countsAsClipped Outside = true
 
--- the cells that a glyph takes on the screen, from its first on: a placed one as many as it is wide, a halved one its first, which
--- shows a blank
+-- the cells that a glyph takes on the screen, from its first on: a placed one as many as it is wide; a halved one its first alone, as
+-- the blank symbol that it gets is one cell wide
 abbrev pub cellsTaken : Place → ℕ → ℕ
 cellsTaken ZeroWidth width = 0
 cellsTaken Placed width = width

@@ -1,5 +1,5 @@
 // Writes a row of cells as text, with escape sequences for colours and modifiers if asked. The bits of a cell that drawing never
-// touches hold the width of its symbol here; cells that a wide symbol covers are skipped.
+// touches hold the width of its symbol here, or 0, which covers no more cells than 1; cells that a wide symbol covers are skipped.
 use append_bytes::put;
 use preview_sgr::put_style;
 use preview_utf8::put_symbol;

@@ -40,7 +40,7 @@ use Rattle.line_composer.specs.Wrap.{methodOf, ruleAt}
 use Rattle.line_composer.specs.Lines.{Line, wrappedLineOf, lineAt}
 use Rattle.line_composer.proofs.ReadBack.{ReadBack, read-back}
 use Rattle.render_block.proofs.KeepsSymbols.{inside-between}
-use Rattle.render_glyphs.specs.RenderGlyphs.{withGlyph, firstCell, glyphOn, glyphsOn}
+use Rattle.render_glyphs.specs.RenderGlyphs.{glyphCell, firstCell, glyphOn, glyphsOn}
 use Rattle.render_line.specs.RenderLine.{drawnStarts, lineOn}
 use Rattle.render_lines.specs.Rows.{noLine}
 use Rattle.block.specs.Inner.{titleIsAt, hasTitleAt, innerOf}
@@ -111,8 +111,8 @@ module _ (styles : List ℕ) (style width column : ℕ) where
   abbrev Ends : ℕ → Type 0
   Ends cell = column + cellFrom cell .symbol % 2 ^ 3 ≤ width
 
-  drawn-ends : (symbol number cell : ℕ) → column + symbol % 2 ^ 3 ≤ width → Ends (withGlyph styles (styleAt styles style) symbol number cell)
-  unfolding withGlyph
+  drawn-ends : (symbol number cell : ℕ) → column + symbol % 2 ^ 3 ≤ width → Ends (glyphCell styles (styleAt styles style) symbol number cell)
+  unfolding glyphCell
   drawn-ends symbol number cell = subst (λ (s : ℕ). column + s % 2 ^ 3 ≤ width) (sym (styled-symbol _ _ ∙ styled-symbol _ _ ∙ symbol-set symbol cell))
 
   glyph-ends : (s : Start) (cell : ℕ) → (0 < s .glyph .width → s .glyph .symbol ≡ s .glyph .width) → Ends cell → Ends (glyphOn styles style width s column cell)

@@ -1,4 +1,5 @@
--- Not in the papers: a notice with widths as symbols: drawn like the notice, each cell then holds its symbol's width.
+-- Not in the papers: a notice with widths as symbols: drawn like the notice, each cell then holds its symbol's width, or the blank
+-- symbol, 32, where a halved glyph is drawn.
 use Prim.Native.Nat.{ℕ, _%_, _^_}
 use mathlib.Core.Bool.{cond}
 use mathlib.Core.List.{List, [], _∷_}

@@ -1,4 +1,5 @@
-// Replaces the symbols of a notice by their widths: drawn like the notice, each cell then holds the width of its symbol.
+// Replaces the symbols of a notice by their widths: drawn like the notice, each cell then holds the width of its symbol, or the blank
+// symbol where a halved glyph is drawn. Of that 3 bits are read, which are 0: it covers no other cell.
 use flat::FlatBlock;
 use text::AmbiguousWidth;
 use text::glyph;

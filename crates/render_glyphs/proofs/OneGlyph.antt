@@ -17,7 +17,7 @@ use Rattle.place.specs.declared.Place.the-variants.{ZeroWidth, Placed, Halved, 
 use Rattle.place.specs.Place.{placeOf, countsAsPlaced, countsAsClipped}
 use Rattle.place.proofs.Places.{by-place}
 use Rattle.render_glyphs.specs.declared.GlyphCounts.{GlyphCounts}
-use Rattle.render_glyphs.specs.RenderGlyphs.{withGlyph, firstCell}
+use Rattle.render_glyphs.specs.RenderGlyphs.{glyphCell, firstCell}
 use Rattle.render_glyphs.specs.WritingExtra.{isWritten, symbolWritten, writtenAt, withPlace}
 
 -- the glyph of a record, with its record number and start column
@@ -28,8 +28,8 @@ startOf a number column word = record { start = column; glyph = glyphFrom a numb
 pub cell-written : (styles : List ℕ) (text-style column symbol number : ℕ) (row : List ℕ) (own-style with-symbol with-text-style cell : ℕ)
     → own-style ≡ styleAt styles number → with-symbol ≡ withSymbol symbol (getD row column 0)
     → with-text-style ≡ styled text-style with-symbol → cell ≡ styled own-style with-text-style
-    → set row column cell ≡ set row column (withGlyph styles text-style symbol number (getD row column 0))
-unfolding withGlyph
+    → set row column cell ≡ set row column (glyphCell styles text-style symbol number (getD row column 0))
+unfolding glyphCell
 cell-written styles text-style column symbol number row own-style with-symbol with-text-style cell r s t e = rw (e, t, s, r)
 
 -- ---- one law for each path through `write_glyph`
@@ -53,11 +53,11 @@ module _ (styles : List ℕ) (text-style column word : ℕ) (row : List ℕ) whe
   not-written Outside e = unchanged Outside (λ _. refl)
 
   written : (p : Place) → isWritten p ≡ true
-      → set row column (withGlyph styles text-style (symbolWritten p (symbolOf word)) (styleOf word) (getD row column 0)) ≡ writtenAt styles text-style p column word row
+      → set row column (glyphCell styles text-style (symbolWritten p (symbolOf word)) (styleOf word) (getD row column 0)) ≡ writtenAt styles text-style p column word row
   unfolding firstCell
   written ZeroWidth e = absurd (true≢false (sym e))
-  written Placed e = changed-one (withGlyph styles text-style (symbolOf word) (styleOf word)) column row
-  written Halved e = changed-one (withGlyph styles text-style blankSymbol (styleOf word)) column row
+  written Placed e = changed-one (glyphCell styles text-style (symbolOf word) (styleOf word)) column row
+  written Halved e = changed-one (glyphCell styles text-style blankSymbol (styleOf word)) column row
   written Outside e = absurd (true≢false (sym e))
 
   -- b is what `is_written` answers
@@ -66,7 +66,7 @@ module _ (styles : List ℕ) (text-style column word : ℕ) (row : List ℕ) whe
     glyph-unwritten f = not-written p (sym e ∙ f)
 
     pub glyph-written : b ≡ true → (next : List ℕ) (own symbol number : ℕ) → own ≡ symbolOf word → symbol ≡ symbolWritten p own → number ≡ styleOf word
-        → next ≡ set row column (withGlyph styles text-style symbol number (getD row column 0)) → next ≡ writtenAt styles text-style p column word row
+        → next ≡ set row column (glyphCell styles text-style symbol number (getD row column 0)) → next ≡ writtenAt styles text-style p column word row
     glyph-written t next own symbol number o s n f = f ∙ rw (n, s, o) (written p (sym e ∙ t))
 
 -- a glyph that is written starts left of the edge

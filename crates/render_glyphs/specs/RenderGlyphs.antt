@@ -11,16 +11,16 @@ use Rattle.place.specs.declared.Place.the-variants.{ZeroWidth, Placed, Halved, 
 use Rattle.line_composer.specs.Places.{placeIn}
 
 -- a cell that "gets the symbol, then the text style, then the glyph's own style"; the latter is given by its number
-unfoldable pub withGlyph : List ℕ → ℕ → ℕ → ℕ → ℕ → ℕ
-withGlyph styles textStyle symbol style cell = styled (styleAt styles style) (styled textStyle (withSymbol symbol cell))
+unfoldable pub glyphCell : List ℕ → ℕ → ℕ → ℕ → ℕ → ℕ
+glyphCell styles textStyle symbol style cell = styled (styleAt styles style) (styled textStyle (withSymbol symbol cell))
 
 -- The first cell of a glyph after it is drawn, by its place: "For each glyph of width above 0 its first cell gets the symbol, then
 -- the text style, then the glyph's own style"; C-14: if it "starts inside and runs past the right edge", "its first cell gets the
 -- blank symbol, then the text style and the glyph's own as before"; "such a glyph starting at or past the right edge isn't drawn".
 unfoldable pub firstCell : List ℕ → ℕ → Place → ℕ → ℕ → ℕ → ℕ
 firstCell styles textStyle ZeroWidth symbol style cell = cell
-firstCell styles textStyle Placed symbol style cell = withGlyph styles textStyle symbol style cell
-firstCell styles textStyle Halved symbol style cell = withGlyph styles textStyle blankSymbol style cell
+firstCell styles textStyle Placed symbol style cell = glyphCell styles textStyle symbol style cell
+firstCell styles textStyle Halved symbol style cell = glyphCell styles textStyle blankSymbol style cell
 firstCell styles textStyle Outside symbol style cell = cell
 
 -- the cell in a column of the area after a glyph is drawn

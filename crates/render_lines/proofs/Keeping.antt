@@ -16,14 +16,14 @@ use Rattle.place.specs.declared.Place.{Place}
 use Rattle.place.specs.declared.Place.the-variants.{ZeroWidth, Placed, Halved, Outside}
 use Rattle.line_composer.specs.Lines.{Line}
 use Rattle.line_composer.specs.Places.{placeIn}
-use Rattle.render_glyphs.specs.RenderGlyphs.{withGlyph, firstCell, glyphOn, glyphsOn}
+use Rattle.render_glyphs.specs.RenderGlyphs.{glyphCell, firstCell, glyphOn, glyphsOn}
 use Rattle.render_line.specs.RenderLine.{drawnStarts, lineOn}
 use Rattle.render_lines.specs.Rows.{noLine, textOn}
 
 module _ (read : ℕ → ℕ) (styles : List ℕ) (textStyle : ℕ) where
   -- a cell with a symbol, the text style and another style
-  with-keeps : (text number symbol : ℕ) → InksKeep read → CellKeeps read (withGlyph styles text symbol number)
-  unfolding withGlyph
+  with-keeps : (text number symbol : ℕ) → InksKeep read → CellKeeps read (glyphCell styles text symbol number)
+  unfolding glyphCell
   with-keeps text number symbol inks cell =
       inks .styles (styleAt styles number) (styled text (withSymbol symbol cell)) ∙ inks .styles text (withSymbol symbol cell) ∙ inks .symbols symbol cell
 

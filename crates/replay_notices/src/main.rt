@@ -1,6 +1,6 @@
 // Compares the port with the original Rust on notices: data/notices has the checksum of its answer to each case. If a glyph is
-// clipped, the Rust writes outside the area or panics, so the checksum is that of document 01's answer, from the independent
-// implementation in oracle/rules. Then prints document 01's examples of unwrapped lines as rows of symbols.
+// clipped, the Rust writes it, inside the area or outside, or panics, so the checksum is that of the answer of documents 01 and 02, from
+// the independent implementation in oracle/rules. Then prints document 01's examples of unwrapped lines as rows of symbols.
 mod examples;
 mod kinds;
 mod replaying;

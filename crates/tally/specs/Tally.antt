@@ -20,7 +20,8 @@ abbrev pub composed : Rule → List ℕ → List Line
 composed u text = lines u WordWrap Left text
 
 -- "gives lines, placed, clipped (emitted, of width above 0, start at or past the limit), zero-width (emitted, wherever they
--- start), over-wide (skipped in step 1) and dropped (let go in step 2, step 3 or at the line's end); all 0 at limit 0"
+-- start), over-wide (skipped in step 1) and dropped (let go in step 2, step 3 or at the line's end); all 0 at limit 0"; C-14: a
+-- glyph that starts below the limit and runs past it "counts as clipped in drawing and tally"
 unfoldable pub tallyOf : Rule → List ℕ → TallyCounts
 tallyOf u text =
     cond (eqb (u .limit) 0)

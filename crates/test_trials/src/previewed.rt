@@ -83,6 +83,7 @@ fn shown() {
     coloured(b"preview/12_widest"); // 512 columns
     plain(b"preview/13_ambiguous"); // in the text and in a title, read narrow
     wide(b"preview/13_ambiguous"); // and read wide
+    plain(b"preview/14_half_glyph"); // a wide glyph that would cover the border
 }
 
 fn bad() {
