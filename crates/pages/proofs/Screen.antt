@@ -93,12 +93,5 @@ module _ (i : Call) (w : WrappedNotice i) where
   unfolding innerArea innerAreaOf
   page-drawn scroll = record { accepted = accepted-at scroll; some-cell = w .some-cell }
 
-  pub met-some : isEmpty (met i) ≡ false
-  met-some = drawn-met i is-drawn
-
-  pub inner-there : AreaOnScreen (screenIn i) (length (blankCells i)) (innerArea i)
-  unfolding innerArea innerAreaOf
-  inner-there = drawn-there (callAt i 0) (page-drawn 0)
-
   pub inner-some : (0 < innerArea i .width) × (0 < innerArea i .height)
   inner-some = not-empty (innerArea i) (w .some-cell)
