@@ -67,7 +67,9 @@
    took a notice_ambiguous, and width code 7 was seven columns. A program for version 1 passes one to
    notice_list_lines, notice_tally, notice_draw_block and notice_line_width, sets the field of notice_text,
    which was 8 bytes long and is 10 (0 in it is answered with 255), and is compiled again: the functions' names
-   are the same, so an old object would link and pass the wrong arguments. */
+   are the same, so an old object would link and pass the wrong arguments. The first archives of version 2 placed
+   and drew a wide glyph of the text that starts before the right edge, or the limit, even if it runs past: counts
+   and cells of such texts differ from theirs, and no program has to be changed. */
 #define NOTICE_API_VERSION 2
 
 #ifdef __cplusplus

@@ -2,10 +2,10 @@
 use Prim.Native.Nat.{ℕ, _+_, _≤_}
 use mathlib.Core.Path.{_≡_, refl, ap}
 use mathlib.Core.Bool.{false}
-use mathlib.Core.List.{List, [], _∷_, _++_, map}
+use mathlib.Core.List.{List, [], _∷_, map}
 use native.Mathlib.Omega.{arith}
 use lib.Dec.{eqb}
-use lib.ListN.{take, drop, take-append-drop}
+use lib.ListN.{drop}
 use Rattle.text.specs.declared.Alignment.{Alignment}
 use Rattle.text.specs.Record.{alignmentOf}
 use Rattle.text.specs.Alignment.{resolved}
@@ -28,7 +28,7 @@ use Rattle.line_composer.specs.Places.{isClipped}
 use Rattle.render_line.specs.RenderLine.{lineOffset, drawnStarts, clippedIn}
 use Rattle.render_lines.specs.declared.DrawCounts.{DrawCounts}
 use Rattle.render_lines.specs.Rows.{linesDrawn, sumOf, clippedOn}
-use Rattle.render_lines.proofs.Bounds.{sum-append}
+use Rattle.render_lines.proofs.Bounds.{sum-append, sum-take, sum-drop}
 use Rattle.paragraph.specs.declared.Notice.{Notice}
 use Rattle.paragraph.specs.Notice.{noticeLines, innerAreaOf, insideCounts, noticeCounts, noDrawCounts}
 use Rattle.draw_notice.specs.Call.{Call, verdictOf, screenIn, rowsOf, countsOf}
@@ -77,14 +77,6 @@ module _ (u : Rule) (column : ℕ) where
   unfolding lines
   lines-unclipped default text = all-unclipped default (linesFrom 0 text)
 
--- a sum over consecutive lines is at most that over all
-part-sum : (f : Line → ℕ) (n k : ℕ) (ls : List Line) → sumOf f (take n (drop k ls)) ≤ sumOf f ls
-part-sum f n k ls =
-    let from : List Line = drop k ls in
-    let all : sumOf f (take k ls ++ from) ≡ sumOf f ls = ap (sumOf f) (take-append-drop k ls) in
-    let rest : sumOf f (take n from ++ drop n from) ≡ sumOf f from = ap (sumOf f) (take-append-drop n from) in
-    omega (arith, all, rest, sum-append f (take k ls) from, sum-append f (take n from) (drop n from))
-
 -- ---- an unwrapped notice
 
 module _ (n : Notice) (column : ℕ) (off : n .wrap ≡ Off column) (text : List ℕ) where
@@ -99,7 +91,8 @@ module _ (n : Notice) (column : ℕ) (off : n .wrap ≡ Off column) (text : List
       let composed : List Line = noticeLines n text (inner .width) in
       omega (
         arith,
-        part-sum count (inner .height) (n .scroll) composed,
+        sum-take count (inner .height) (drop (n .scroll) composed),
+        sum-drop count (n .scroll) composed,
         ap (sumOf count) (unwrapped-lines (inner .width)),
         lines-unclipped (ruleOf (n .ambiguous) (inner .width) false) column (n .alignment) text,
       )

@@ -23,7 +23,6 @@ use Rattle.cell.specs.Cell.{cellFrom, blankSymbol, blankCell, withSymbol}
 use Rattle.cell.proofs.Fields.{styled-symbol, symbol-set}
 use Rattle.layout.specs.declared.Rect.{Rect}
 use Rattle.layout.specs.Rect.{contains}
-use Rattle.buffer.specs.Drawing.{styleAt}
 use Rattle.refuse.specs.declared.Refusal.{Refusal}
 use Rattle.refuse.specs.declared.Refusal.the-variants.{TextHeads}
 use Rattle.refuse.specs.declared.Verdict.{Verdict}
@@ -111,7 +110,7 @@ module _ (styles : List ℕ) (style width column : ℕ) where
   abbrev Ends : ℕ → Type 0
   Ends cell = column + cellFrom cell .symbol % 2 ^ 3 ≤ width
 
-  drawn-ends : (symbol number cell : ℕ) → column + symbol % 2 ^ 3 ≤ width → Ends (glyphCell styles (styleAt styles style) symbol number cell)
+  drawn-ends : (symbol number cell : ℕ) → column + symbol % 2 ^ 3 ≤ width → Ends (glyphCell styles style symbol number cell)
   unfolding glyphCell
   drawn-ends symbol number cell = subst (λ (s : ℕ). column + s % 2 ^ 3 ≤ width) (sym (styled-symbol _ _ ∙ styled-symbol _ _ ∙ symbol-set symbol cell))
 
@@ -122,7 +121,7 @@ module _ (styles : List ℕ) (style width column : ℕ) where
       (λ e.
       let here = eqb-true column (s .start) e in
       by-place width (s .start) (s .glyph .width)
-      (λ (p : Place). Ends (firstCell styles (styleAt styles style) p (s .glyph .symbol) (s .glyph .style) cell))
+      (λ (p : Place). Ends (firstCell styles style p (s .glyph .symbol) (s .glyph .style) cell))
       (λ _. ends)
       (λ _ _. ends)
       (λ _ inside _. drawn-ends blankSymbol (s .glyph .style) cell (omega arith))

@@ -9,8 +9,9 @@ use lib.ListN.{getD, set}
 use Rattle.text.specs.declared.AmbiguousWidth.{AmbiguousWidth}
 use Rattle.text.specs.Record.{symbolOf, styleOf}
 use Rattle.text.specs.Line.{Start, glyphFrom}
+use Rattle.text.proofs.Bools.{cond-cases}
 use Rattle.cell.specs.Cell.{blankSymbol, withSymbol, styled}
-use Rattle.buffer.specs.Drawing.{styleAt}
+use Rattle.buffer.specs.Drawing.{changed, styleAt}
 use Rattle.buffer.proofs.Changed.{changed-same, changed-none, changed-one}
 use Rattle.place.specs.declared.Place.{Place}
 use Rattle.place.specs.declared.Place.the-variants.{ZeroWidth, Placed, Halved, Outside}
@@ -18,7 +19,7 @@ use Rattle.place.specs.Place.{placeOf, countsAsPlaced, countsAsClipped}
 use Rattle.place.proofs.Places.{by-place}
 use Rattle.render_glyphs.specs.declared.GlyphCounts.{GlyphCounts}
 use Rattle.render_glyphs.specs.RenderGlyphs.{glyphCell, firstCell}
-use Rattle.render_glyphs.specs.WritingExtra.{isWritten, symbolWritten, writtenAt, withPlace}
+use Rattle.render_glyphs.specs.WritingExtra.{isWritten, symbolWritten, cellWith, writtenAt, withPlace}
 
 -- the glyph of a record, with its record number and start column
 abbrev pub startOf : AmbiguousWidth → ℕ → ℕ → ℕ → Start
@@ -28,46 +29,38 @@ startOf a number column word = record { start = column; glyph = glyphFrom a numb
 pub cell-written : (styles : List ℕ) (text-style column symbol number : ℕ) (row : List ℕ) (own-style with-symbol with-text-style cell : ℕ)
     → own-style ≡ styleAt styles number → with-symbol ≡ withSymbol symbol (getD row column 0)
     → with-text-style ≡ styled text-style with-symbol → cell ≡ styled own-style with-text-style
-    → set row column cell ≡ set row column (glyphCell styles text-style symbol number (getD row column 0))
-unfolding glyphCell
+    → set row column cell ≡ set row column (cellWith styles text-style symbol number (getD row column 0))
+unfolding cellWith
 cell-written styles text-style column symbol number row own-style with-symbol with-text-style cell r s t e = rw (e, t, s, r)
 
--- ---- one law for each path through `write_glyph`
+-- ---- one law for each path through `write_glyph`; b is what `is_written` answers
 
-same-cell : (b : Bool) (cell : ℕ) → cond b cell cell ≡ cell
-same-cell true cell = refl
-same-cell false cell = refl
+module _ (styles : List ℕ) (text-style column word : ℕ) (row : List ℕ) (p : Place) (b : Bool) (e : b ≡ isWritten p) where
+  pub glyph-unwritten : b ≡ false → row ≡ writtenAt styles text-style p column word row
+  glyph-unwritten f = rw (← e, f) refl
 
-module _ (styles : List ℕ) (text-style column word : ℕ) (row : List ℕ) where
-  unchanged : (p : Place) → ((cell : ℕ) → firstCell styles text-style p (symbolOf word) (styleOf word) cell ≡ cell) → row ≡ writtenAt styles text-style p column word row
-  unchanged p same =
+  pub glyph-written : b ≡ true → (next : List ℕ) (own symbol number : ℕ) → own ≡ symbolOf word → symbol ≡ symbolWritten p own → number ≡ styleOf word
+      → next ≡ set row column (cellWith styles text-style symbol number (getD row column 0)) → next ≡ writtenAt styles text-style p column word row
+  glyph-written t next own symbol number o s n f = rw (← e, t) (f ∙ rw (n, s, o) refl)
+
+-- writing by a place draws by the rule
+module _ (styles : List ℕ) (style column word : ℕ) (row : List ℕ) where
+  -- the row with the glyph's first cell as the rule has it
+  abbrev ruled : Place → List ℕ
+  ruled p = changed (λ i cell. cond (eqb i column) (firstCell styles style p (symbolOf word) (styleOf word) cell) cell) row
+
+  kept : (p : Place) → ((cell : ℕ) → firstCell styles style p (symbolOf word) (styleOf word) cell ≡ cell) → row ≡ ruled p
+  kept p same =
       sym
-      (changed-same _ (λ i cell. cell) row (λ i cell _. ap (λ (new : ℕ). cond (eqb i column) new cell) (same cell) ∙ same-cell (eqb i column) cell)
+      (changed-same _ (λ i cell. cell) row (λ i cell _. cond-cases (λ (new : ℕ). new ≡ cell) (eqb i column) _ _ (λ _. same cell) (λ _. refl))
       ∙ changed-none row)
 
-  not-written : (p : Place) → isWritten p ≡ false → row ≡ writtenAt styles text-style p column word row
-  unfolding firstCell
-  not-written ZeroWidth e = unchanged ZeroWidth (λ _. refl)
-  not-written Placed e = absurd (true≢false e)
-  not-written Halved e = absurd (true≢false e)
-  not-written Outside e = unchanged Outside (λ _. refl)
-
-  written : (p : Place) → isWritten p ≡ true
-      → set row column (glyphCell styles text-style (symbolWritten p (symbolOf word)) (styleOf word) (getD row column 0)) ≡ writtenAt styles text-style p column word row
-  unfolding firstCell
-  written ZeroWidth e = absurd (true≢false (sym e))
-  written Placed e = changed-one (glyphCell styles text-style (symbolOf word) (styleOf word)) column row
-  written Halved e = changed-one (glyphCell styles text-style blankSymbol (styleOf word)) column row
-  written Outside e = absurd (true≢false (sym e))
-
-  -- b is what `is_written` answers
-  module _ (p : Place) (b : Bool) (e : b ≡ isWritten p) where
-    pub glyph-unwritten : b ≡ false → row ≡ writtenAt styles text-style p column word row
-    glyph-unwritten f = not-written p (sym e ∙ f)
-
-    pub glyph-written : b ≡ true → (next : List ℕ) (own symbol number : ℕ) → own ≡ symbolOf word → symbol ≡ symbolWritten p own → number ≡ styleOf word
-        → next ≡ set row column (glyphCell styles text-style symbol number (getD row column 0)) → next ≡ writtenAt styles text-style p column word row
-    glyph-written t next own symbol number o s n f = f ∙ rw (n, s, o) (written p (sym e ∙ t))
+  pub written-by-rule : (p : Place) → writtenAt styles (styleAt styles style) p column word row ≡ ruled p
+  unfolding firstCell glyphCell cellWith
+  written-by-rule ZeroWidth = kept ZeroWidth (λ _. refl)
+  written-by-rule Placed = changed-one (glyphCell styles style (symbolOf word) (styleOf word)) column row
+  written-by-rule Halved = changed-one (glyphCell styles style blankSymbol (styleOf word)) column row
+  written-by-rule Outside = kept Outside (λ _. refl)
 
 -- a glyph that is written starts left of the edge
 pub written-starts : (edge column width : ℕ) (p : Place) (b : Bool) → p ≡ placeOf edge column width → b ≡ isWritten p → b ≡ true → column < edge

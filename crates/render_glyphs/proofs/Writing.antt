@@ -30,7 +30,7 @@ use Rattle.line_composer.specs.Places.{isPlaced, isClipped}
 use Rattle.render_glyphs.specs.declared.GlyphCounts.{GlyphCounts}
 use Rattle.render_glyphs.specs.RenderGlyphs.{glyphOn, glyphsOn}
 use Rattle.render_glyphs.specs.WritingExtra.{writtenAt, withPlace, startsOf, Wrote}
-use Rattle.render_glyphs.proofs.OneGlyph.{startOf, place-counts, place-one}
+use Rattle.render_glyphs.proofs.OneGlyph.{startOf, written-by-rule, place-counts, place-one}
 
 -- the glyphs from record i on, the first starting in the given column
 abbrev pub startsLeft : Rule → List ℕ → ℕ → ℕ → List Start
@@ -53,7 +53,7 @@ pub record Writing (styles : List ℕ) (style text-style : ℕ) (u : Rule) (reco
 by-rule : (a : AmbiguousWidth) (styles : List ℕ) (style area number column word : ℕ) (row : List ℕ)
     → writtenAt styles (styleAt styles style) (placeOf area column (widthOf a word)) column word row ≡ changed (glyphOn styles style area (startOf a number column word)) row
 unfolding glyphOn
-by-rule a styles style area number column word row = refl
+by-rule a styles style area number column word row = written-by-rule styles style column word row (placeOf area column (widthOf a word))
 
 -- counting a glyph now or with the remaining ones gives the same sum
 counted : (test : Start → Bool) (n : ℕ) (s : Start) (ss : List Start) → n + cond (test s) 1 0 + countOf test ss ≡ n + countOf test (s ∷ ss)

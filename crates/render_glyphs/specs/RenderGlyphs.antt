@@ -10,9 +10,9 @@ use Rattle.place.specs.declared.Place.{Place}
 use Rattle.place.specs.declared.Place.the-variants.{ZeroWidth, Placed, Halved, Outside}
 use Rattle.line_composer.specs.Places.{placeIn}
 
--- a cell that "gets the symbol, then the text style, then the glyph's own style"; the latter is given by its number
+-- a cell that "gets the symbol, then the text style, then the glyph's own style"
 unfoldable pub glyphCell : List ℕ → ℕ → ℕ → ℕ → ℕ → ℕ
-glyphCell styles textStyle symbol style cell = styled (styleAt styles style) (styled textStyle (withSymbol symbol cell))
+glyphCell styles textStyle symbol style cell = styled (styleAt styles style) (styled (styleAt styles textStyle) (withSymbol symbol cell))
 
 -- The first cell of a glyph after it is drawn, by its place: "For each glyph of width above 0 its first cell gets the symbol, then
 -- the text style, then the glyph's own style"; C-14: if it "starts inside and runs past the right edge", "its first cell gets the
@@ -27,7 +27,7 @@ firstCell styles textStyle Outside symbol style cell = cell
 unfoldable pub glyphOn : List ℕ → ℕ → ℕ → Start → ℕ → ℕ → ℕ
 glyphOn styles textStyle area s column cell =
     cond (eqb column (s .start))
-    (firstCell styles (styleAt styles textStyle) (placeIn area s) (s .glyph .symbol) (s .glyph .style) cell)
+    (firstCell styles textStyle (placeIn area s) (s .glyph .symbol) (s .glyph .style) cell)
     cell
 
 -- the same, after all the glyphs are drawn in turn

@@ -4,20 +4,19 @@ use Prim.Native.Nat.{ℕ, _+_}
 use mathlib.Core.Path.{_≡_}
 use mathlib.Core.Bool.{Bool, true, false, cond}
 use mathlib.Core.List.{List}
-use lib.Dec.{eqb}
-use lib.ListN.{length}
+use lib.ListN.{length, getD, set}
 use Rattle.text.specs.Record.{symbolOf, styleOf}
 use Rattle.text.specs.Line.{Start, numbered, startsFrom}
 use Rattle.text.specs.Lists.{countOf}
 use Rattle.wrapping.specs.declared.Rule.{Rule}
 use Rattle.wrapping.specs.Wrapping.{notOverWide}
-use Rattle.cell.specs.Cell.{blankSymbol}
-use Rattle.buffer.specs.Drawing.{changed}
+use Rattle.cell.specs.Cell.{blankSymbol, withSymbol, styled}
+use Rattle.buffer.specs.Drawing.{changed, styleAt}
 use Rattle.place.specs.declared.Place.{Place}
 use Rattle.place.specs.declared.Place.the-variants.{ZeroWidth, Placed, Halved, Outside}
 use Rattle.line_composer.specs.Places.{isPlaced, isClipped}
 use Rattle.render_glyphs.specs.declared.GlyphCounts.{GlyphCounts}
-use Rattle.render_glyphs.specs.RenderGlyphs.{firstCell, glyphsOn}
+use Rattle.render_glyphs.specs.RenderGlyphs.{glyphsOn}
 
 -- whether a glyph is written, and which symbol for its own, by its place
 abbrev pub isWritten : Place → Bool
@@ -32,10 +31,16 @@ symbolWritten Placed symbol = symbol
 symbolWritten Halved symbol = blankSymbol
 symbolWritten Outside symbol = symbol
 
+-- a cell with a symbol, then the text style, which the row looks up once, then the style with the number given
+unfoldable pub cellWith : List ℕ → ℕ → ℕ → ℕ → ℕ → ℕ
+cellWith styles textStyle symbol style cell = styled (styleAt styles style) (styled textStyle (withSymbol symbol cell))
+
 -- a glyph's record written on a row, in its column and by its place; no width is read
 abbrev pub writtenAt : List ℕ → ℕ → Place → ℕ → ℕ → List ℕ → List ℕ
 writtenAt styles textStyle place column word row =
-    changed (λ i cell. cond (eqb i column) (firstCell styles textStyle place (symbolOf word) (styleOf word) cell) cell) row
+    cond (isWritten place)
+    (set row column (cellWith styles textStyle (symbolWritten place (symbolOf word)) (styleOf word) (getD row column 0)))
+    row
 
 -- the counts with one more glyph, by its place
 unfoldable pub withPlace : GlyphCounts → Place → GlyphCounts

@@ -9,8 +9,7 @@ ghost use Prim.Native.Nat.{_+_, _^_, _<_};
 ghost use lib.ListN.{length, getD, set};
 ghost use Rattle.text.specs.Line.{FewRecords};
 ghost use Rattle.place.specs.Place.{placeOf};
-ghost use Rattle.render_glyphs.specs.RenderGlyphs.{glyphCell};
-ghost use Rattle.render_glyphs.specs.WritingExtra.{isWritten, symbolWritten, writtenAt, withPlace, startsOf, Wrote};
+ghost use Rattle.render_glyphs.specs.WritingExtra.{isWritten, symbolWritten, cellWith, writtenAt, withPlace, startsOf, Wrote};
 
 // Counts of the glyphs placed and clipped on a row.
 pub struct GlyphCounts {
@@ -54,7 +53,7 @@ fn write_cell(
 )
     requires { ⌜ (column < length (now row)) × (symbol < 2 ^ 21) ⌝ }
     ensures { λ _.
-        let cell = glyphCell (now (styles .entry)) «text_style» symbol style (getD (now (row .entry)) column 0) in
+        let cell = cellWith (now (styles .entry)) «text_style» symbol style (getD (now (row .entry)) column 0) in
         ⌜ now (row .exit) ≡ set (now (row .entry)) column cell ⌝ }
 {
     let own_style = buffer::style_at(styles, style);

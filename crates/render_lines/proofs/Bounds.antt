@@ -32,12 +32,12 @@ pub sum-append : (f : Line → ℕ) (a b : List Line) → sumOf f (a ++ b) ≡ s
 sum-append f [] b = omega arith
 sum-append f (line ∷ a) b = omega (arith, sum-append f a b)
 
-sum-take : (f : Line → ℕ) (n : ℕ) (ls : List Line) → sumOf f (take n ls) ≤ sumOf f ls
+pub sum-take : (f : Line → ℕ) (n : ℕ) (ls : List Line) → sumOf f (take n ls) ≤ sumOf f ls
 sum-take f zero ls = omega arith
 sum-take f (suc n) [] = omega arith
 sum-take f (suc n) (line ∷ ls) = omega (arith, sum-take f n ls)
 
-sum-drop : (f : Line → ℕ) (n : ℕ) (ls : List Line) → sumOf f (drop n ls) ≤ sumOf f ls
+pub sum-drop : (f : Line → ℕ) (n : ℕ) (ls : List Line) → sumOf f (drop n ls) ≤ sumOf f ls
 sum-drop f zero ls = omega arith
 sum-drop f (suc n) [] = omega arith
 sum-drop f (suc n) (line ∷ ls) = omega (arith, sum-drop f n ls)

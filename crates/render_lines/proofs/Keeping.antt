@@ -21,24 +21,25 @@ use Rattle.render_line.specs.RenderLine.{drawnStarts, lineOn}
 use Rattle.render_lines.specs.Rows.{noLine, textOn}
 
 module _ (read : ℕ → ℕ) (styles : List ℕ) (textStyle : ℕ) where
-  -- a cell with a symbol, the text style and another style
-  with-keeps : (text number symbol : ℕ) → InksKeep read → CellKeeps read (glyphCell styles text symbol number)
+  cell-keeps : (number symbol : ℕ) → InksKeep read → CellKeeps read (glyphCell styles textStyle symbol number)
   unfolding glyphCell
-  with-keeps text number symbol inks cell =
-      inks .styles (styleAt styles number) (styled text (withSymbol symbol cell)) ∙ inks .styles text (withSymbol symbol cell) ∙ inks .symbols symbol cell
+  cell-keeps number symbol inks cell =
+      inks .styles (styleAt styles number) (styled (styleAt styles textStyle) (withSymbol symbol cell))
+      ∙ inks .styles (styleAt styles textStyle) (withSymbol symbol cell)
+      ∙ inks .symbols symbol cell
 
-  first-keeps : (text number symbol : ℕ) (p : Place) → InksKeep read → CellKeeps read (firstCell styles text p symbol number)
+  first-keeps : (number symbol : ℕ) (p : Place) → InksKeep read → CellKeeps read (firstCell styles textStyle p symbol number)
   unfolding firstCell
-  first-keeps text number symbol ZeroWidth inks cell = refl
-  first-keeps text number symbol Placed inks cell = with-keeps text number symbol inks cell
-  first-keeps text number symbol Halved inks cell = with-keeps text number blankSymbol inks cell
-  first-keeps text number symbol Outside inks cell = refl
+  first-keeps number symbol ZeroWidth inks cell = refl
+  first-keeps number symbol Placed inks cell = cell-keeps number symbol inks cell
+  first-keeps number symbol Halved inks cell = cell-keeps number blankSymbol inks cell
+  first-keeps number symbol Outside inks cell = refl
 
   glyph-keeps : (area : ℕ) (s : Start) (column : ℕ) → InksKeep read → CellKeeps read (glyphOn styles textStyle area s column)
   unfolding glyphOn
   glyph-keeps area s column inks cell =
       cond-cases (λ (new : ℕ). read new ≡ read cell) (eqb column (s .start)) _ _
-      (λ _. first-keeps (styleAt styles textStyle) (s .glyph .style) (s .glyph .symbol) (placeIn area s) inks cell)
+      (λ _. first-keeps (s .glyph .style) (s .glyph .symbol) (placeIn area s) inks cell)
       (λ _. refl)
 
   glyphs-keep : (area : ℕ) (ss : List Start) (column : ℕ) → InksKeep read → CellKeeps read (glyphsOn styles textStyle area ss column)
