@@ -69,7 +69,8 @@
    which was 8 bytes long and is 10 (0 in it is answered with 255), and is compiled again: the functions' names
    are the same, so an old object would link and pass the wrong arguments. The first archives of version 2 placed
    and drew a wide glyph of the text that starts before the right edge, or the limit, even if it runs past: counts
-   and cells of such texts differ from theirs, and no program has to be changed. */
+   and cells of such texts differ from theirs, and no program has to be changed. Entries of early archives have 0 in
+   the place of the mark; the readers of an entry are otherwise the same. */
 #define NOTICE_API_VERSION 2
 
 #ifdef __cplusplus
@@ -202,12 +203,14 @@ static inline uint8_t notice_cell_foreground(uint64_t cell) { return (uint8_t)(c
 static inline uint8_t notice_cell_background(uint64_t cell) { return (uint8_t)(cell >> 27 & 255); }
 static inline uint16_t notice_cell_modifiers(uint64_t cell) { return (uint16_t)(cell >> 18 & 511); }
 
-/* Fields of a list's entry, a composed line. */
+/* Fields of a list's entry, a composed line. The mark is 1 on the last composed line of each text line, 0 on
+   others; the 15 bits below it are 0. */
 
 static inline uint16_t notice_entry_first(uint64_t entry) { return (uint16_t)(entry >> 49); }
 static inline uint16_t notice_entry_end(uint64_t entry) { return (uint16_t)(entry >> 34 & 0x7FFF); }
 static inline uint16_t notice_entry_width(uint64_t entry) { return (uint16_t)(entry >> 18 & 0xFFFF); }
 static inline uint8_t notice_entry_alignment(uint64_t entry) { return (uint8_t)(entry >> 16 & 3); }
+static inline uint8_t notice_entry_mark(uint64_t entry) { return (uint8_t)(entry >> 15 & 1); }
 
 /* A rectangle of cells. Every rectangle is accepted. Drawing takes the part that is on the screen and frames
    that, so if the area overhangs the screen, the inner area as drawn is smaller than notice_inner says. */
@@ -338,7 +341,7 @@ typedef struct notice_measure_answer {
 /* Writes the composed lines of a text, wrapped at the limit, to the list from entry 0; later entries are
    kept. Ambiguous is a notice_ambiguous; an entry doesn't say which, so read its glyphs by the same one.
    Alignment is the default alignment, a notice_alignment other than default. Trim: 0 no, 1 yes. Limit 0
-   gives no line.
+   gives no line; at any other each text line, also an empty one, has one marked entry, its last.
    Refused with 3, 4, 8, 9; 255 for ambiguous, alignment and trim. */
 notice_list_answer notice_list_lines(const uint32_t *text, size_t text_len, uint8_t ambiguous,
                                      uint8_t alignment, uint16_t limit, uint8_t trim, uint64_t *list,

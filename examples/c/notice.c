@@ -213,7 +213,8 @@ static void print_measures(lent all, uint16_t width) {
            (unsigned)columns.value);
 }
 
-/* Lists the lines, one entry each, and checks that a shorter list is refused and unchanged. */
+/* Lists the lines, one entry each, with a bar where a text line ends, and checks that a shorter list is refused
+   and unchanged. */
 static void list_lines(records text, uint16_t limit, uint32_t lines) {
     uint64_t *list = allocated(lines * sizeof *list);
     notice_list_answer answer = notice_list_lines(text.at, text.count, SETTINGS.ambiguous,
@@ -221,7 +222,8 @@ static void list_lines(records text, uint16_t limit, uint32_t lines) {
     check(answer.number == NOTICE_ACCEPTED && answer.lines == lines, "lines listed");
     printf("lines:");
     for (size_t i = 0; i < answer.lines; i++) {
-        printf(" %u-%u", notice_entry_first(list[i]), notice_entry_end(list[i]));
+        printf(" %u-%u%s", notice_entry_first(list[i]), notice_entry_end(list[i]),
+               notice_entry_mark(list[i]) == 1 ? " |" : "");
     }
     printf("\n");
     uint64_t first = list[0];

@@ -39,6 +39,11 @@ impl<'a> LineComposer<'a> {
         Self { rule, method, default_alignment, text, wrapper, from: 0, to: 0, alignment }
     }
 
+    /// Returns the first record of the current text line.
+    pub fn from(&self) -> usize {
+        self.from
+    }
+
     /// Returns the next line of the current text line, if any.
     fn next_in_line(&mut self) -> Option<Run> {
         let records = &self.text[self.from..self.to];

@@ -22,6 +22,7 @@ use Rattle.line_composer.specs.declared.Method.{Method}
 use Rattle.line_composer.specs.declared.Method.the-variants.{WordWrap, Truncate}
 use Rattle.line_composer.specs.Wrap.{methodOf, ruleAt}
 use Rattle.line_composer.specs.Lines.{linesOf, lineLines, allLines, lines, allSkipped, skipped, allDropped, dropped}
+use Rattle.line_composer.specs.Marks.{allMarked, markedLines}
 use Rattle.refuse.specs.Causes.{mostAccepted, textCauses, lineCauses}
 use Rattle.layout.specs.declared.Rect.{Rect}
 use Rattle.block.specs.declared.Block.{Block}
@@ -59,6 +60,15 @@ module _ (a b : AmbiguousWidth) (limit : ℕ) (trim : Bool) where
   unfolding lines lineLines
   same-lines method default =
       lines-along a b (λ ls ks. allLines v method default ls ≡ allLines u method default ks) refl
+      (λ l k ls ks s e.
+      let alignment : Alignment = resolved (alignmentOf (k .head)) default in
+      rw (s .head, same-glyphs a b l k s, lines-unread a b limit trim method alignment (glyphsOf a k), e)) 0
+
+  -- with their marks
+  same-marked : (method : Method) (default : Alignment) (text : List ℕ) → markedLines v method default (replaced a text) ≡ markedLines u method default text
+  unfolding markedLines lineLines
+  same-marked method default =
+      lines-along a b (λ ls ks. allMarked v method default ls ≡ allMarked u method default ks) refl
       (λ l k ls ks s e.
       let alignment : Alignment = resolved (alignmentOf (k .head)) default in
       rw (s .head, same-glyphs a b l k s, lines-unread a b limit trim method alignment (glyphsOf a k), e)) 0
@@ -117,8 +127,11 @@ module _ (a b : AmbiguousWidth) (text : List ℕ) where
     list-verdict = rw (same-text-causes a text, same-lines a b limit trim WordWrap default text)
 
     list-resolved : (list.answerOf listedReplaced ≡ list.answerOf listed) × (list.listAfter listedReplaced ≡ list.listAfter listed)
-    unfolding list.answerOf list.listAfter list.linesOf
-    list-resolved = (rw (list-verdict, same-lines a b limit trim WordWrap default text), rw (list-verdict, same-lines a b limit trim WordWrap default text))
+    unfolding list.answerOf list.listAfter list.linesOf list.markedLinesOf
+    list-resolved = (
+      rw (list-verdict, same-lines a b limit trim WordWrap default text),
+      rw (list-verdict, same-lines a b limit trim WordWrap default text, same-marked a b limit trim WordWrap default text),
+    )
 
   -- `tally`
   tally-resolved : (limit : ℕ) (trim : Bool) → tally.answerOf (tally.callOf (replaced a text) b limit trim) ≡ tally.answerOf (tally.callOf text a limit trim)

@@ -38,7 +38,7 @@ module _ (u : Rule) (default : Alignment) (text : List ℕ) (c : LineComposer) (
     pub counting-less : length (linesLeft u default text d) < length (linesLeft u default text c)
     counting-less = omega (arith, one-fewer)
 
-    pub counting-more : n < length (lines u WordWrap default text)
+    counting-more : n < length (lines u WordWrap default text)
     counting-more = omega (arith, k .counted, one-fewer)
 
     pub counting-fits : FewRecords text → Fits w64 (n + 1)

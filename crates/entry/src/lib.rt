@@ -1,8 +1,8 @@
-// Entry of a composed line, 64 bits: first 15 | end 15 | width 16 | alignment 2 | 16 zeros.
+// Entry of a composed line, 64 bits: first 15 | end 15 | width 16 | alignment 2 | mark 1 | 15 zeros.
 use line_composer::WrappedLine;
 ghost use mathlib.Core.Path.{_≡_};
 ghost use Prim.Native.Nat.{_<_, _^_};
-ghost use Rattle.entry.specs.Entry.{entryFirst, entryEnd, entryWidth, entryAlignment, entryPacked};
+ghost use Rattle.entry.specs.Entry.{entryFirst, entryEnd, entryWidth, entryAlignment, entryMark, markNumber, entryMarked};
 
 // Number of values of a field.
 const RECORDS: u64 = 1 << 15;
@@ -11,7 +11,9 @@ const WIDTHS: u64 = 1 << 16;
 
 const ALIGNMENTS: u64 = 1 << 2;
 
-// Place value of a field's lowest bit. The zeros are below the alignment.
+const MARKS: u64 = 1 << 1;
+
+// Place value of a field's lowest bit. The zeros are below the mark.
 const FIRST_PLACE: u64 = 1 << 49;
 
 const END_PLACE: u64 = 1 << 34;
@@ -19,6 +21,8 @@ const END_PLACE: u64 = 1 << 34;
 const WIDTH_PLACE: u64 = 1 << 18;
 
 const ALIGNMENT_PLACE: u64 = 1 << 16;
+
+const MARK_PLACE: u64 = 1 << 15;
 
 pub fn first(entry: u64) -> u64
     ensures { λ r. ⌜ r ≡ entryFirst entry ⌝ }
@@ -44,14 +48,28 @@ pub fn alignment(entry: u64) -> u64
     entry / ALIGNMENT_PLACE % ALIGNMENTS
 }
 
-// Packs a composed line into an entry.
-pub fn pack(line: WrappedLine) -> u64
+pub fn mark(entry: u64) -> u64
+    ensures { λ r. ⌜ r ≡ entryMark entry ⌝ }
+{
+    entry / MARK_PLACE % MARKS
+}
+
+// Returns the number of a mark, its one bit.
+fn mark_number(mark: bool) -> u64
+    ensures { λ r. ⌜ (r ≡ markNumber mark) × (r < 2) ⌝ }
+{
+    if mark { 1 } else { 0 }
+}
+
+// Packs a composed line and its mark into an entry.
+pub fn pack(line: WrappedLine, mark: bool) -> u64
     requires { ⌜ (line .first < 2 ^ 15) × (line .end < 2 ^ 15) × (line .width < 2 ^ 16) ⌝ }
-    ensures { λ r. ⌜ r ≡ entryPacked line ⌝ }
+    ensures { λ r. ⌜ r ≡ entryMarked line mark ⌝ }
 {
     let alignment = line.alignment;
     line.first as u64 * FIRST_PLACE
         + line.end as u64 * END_PLACE
         + line.width as u64 * WIDTH_PLACE
         + text::alignment_number(alignment) as u64 * ALIGNMENT_PLACE
+        + mark_number(mark) * MARK_PLACE
 }

@@ -5,4 +5,5 @@ pub mod Opening
 pub mod Pulling
 pub mod ReadBack
 pub mod Pulled
+pub mod Marks
 pub mod Bounds

@@ -1,7 +1,7 @@
 -- A text line just opened: its lines, and the remaining lines of the text.
 use Prim.Native.Nat.{ℕ, suc, _+_, _-_, _<_}
 use mathlib.Core.Path.{_≡_, refl, sym, ap, _∙_}
-use mathlib.Core.List.{List, [], _∷_, map}
+use mathlib.Core.List.{List, [], _∷_, _++_, map}
 use native.Mathlib.Numerals.{add-one}
 use native.Mathlib.Omega.{arith}
 use lib.ListN.{length, getD, take, drop}
@@ -21,7 +21,8 @@ use Rattle.line_composer.specs.declared.LineComposer.{LineComposer}
 use Rattle.line_composer.specs.declared.Method.{Method}
 use Rattle.line_composer.specs.Lines.{aligned, linesOf, lineLines, allLines, lineAt}
 use Rattle.line_composer.specs.ComposersExtra.{lineRuns}
-use Rattle.line_composer.specs.ComposingExtra.{part, lineOfRun, linesLeft, Ready, Opened}
+use Rattle.line_composer.specs.Marks.{MarkedLine, marked, allMarked}
+use Rattle.line_composer.specs.ComposingExtra.{part, lineOfRun, currentLeft, laterLines, linesLeft, Ready, Opened}
 use Rattle.line_composer.proofs.Methods.{starts-sound, starts-runs, lines-read, linesOf-renumbered}
 use Rattle.line_composer.proofs.RunLines.{converted-glyphs}
 
@@ -54,6 +55,10 @@ module _ (u : Rule) (text : List ℕ) (from to : ℕ) (a : Alignment) where
         ∙ converted-lines (linesOf u method a (numbered (u .ambiguous) 0 records)) (lines-read u a method records)
         ∙ ap (map (aligned a)) numbered-lines
 
+-- the remaining lines with their marks, if none of the current text line was returned
+abbrev pub markedFrom : Rule → Alignment → List ℕ → LineComposer → List MarkedLine
+markedFrom u default text c = marked (currentLeft u text c) ++ allMarked u (c .method) default (laterLines text c)
+
 -- The state c is at the start of the text line whose head is at `at`, and the head is in the text.
 pub record OpenedInText (u : Rule) (method : Method) (default : Alignment) (text : List ℕ) (at : ℕ) (c : LineComposer) : Type 0 where
   pub in-text : at < length text
@@ -82,9 +87,7 @@ module _ (u : Rule) (method : Method) (default : Alignment) (text : List ℕ) (a
   abbrev line : TextLine
   line = record { head = getD text at 0; first = suc at; records = untilHead (drop (at + 1) text) }
 
-  opened-lines :
-      map (λ (run : Run). lineAt u text (lineOfRun (c .from) (c .alignment) run)) (lineRuns u (c .method) (c .alignment) (part text c) (c .wrapper))
-      ≡ lineLines u method default line
+  opened-lines : currentLeft u text c ≡ lineLines u method default line
   unfolding lineLines
   opened-lines =
       let f : c .from ≡ suc at = q .opened .from ∙ add-one at in
@@ -93,11 +96,16 @@ module _ (u : Rule) (method : Method) (default : Alignment) (text : List ℕ) (a
       ∙ ap (λ (rs : List ℕ). map (aligned (c .alignment)) (linesOf u method (c .alignment) (numbered (u .ambiguous) (c .from) rs))) opened-part
       ∙ rw (f, q .opened .alignment))
 
+  -- with the text lines after it
+  opened-text : line ∷ laterLines text c ≡ linesFrom at (drop at text)
+  opened-text = rw (q .opened .to) (sym (line-first text at (length (untilHead (drop (at + 1) text))) (q .in-text) (q .at-head) refl))
+
   pub opened-left : linesLeft u default text c ≡ allLines u method default (linesFrom at (drop at text))
   unfolding linesLeft
-  opened-left =
-      let n = length (untilHead (drop (at + 1) text)) in
-      rw (opened-lines, q .opened .composes, q .opened .to, line-first text at n (q .in-text) (q .at-head) refl)
+  opened-left = rw (opened-lines, q .opened .composes) (ap (allLines u method default) opened-text)
+
+  pub opened-marked : markedFrom u default text c ≡ allMarked u method default (linesFrom at (drop at text))
+  opened-marked = rw (opened-lines, q .opened .composes) (ap (allMarked u method default) opened-text)
 
 -- the state that `open` returns
 pub opened : (u : Rule) (method : Method) (default a : Alignment) (text : List ℕ) (at glyphs : ℕ) (w : WordWrapper)

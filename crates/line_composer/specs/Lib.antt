@@ -1,4 +1,5 @@
 pub mod Lines
+pub mod Marks
 pub mod Wrap
 pub mod Places
 pub mod ComposersExtra

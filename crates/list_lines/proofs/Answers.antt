@@ -17,7 +17,7 @@ use Rattle.refuse.proofs.Calls.{stop, pass, stop-early, pass-early, answer-refu
 use Rattle.refuse.proofs.Lowest.{InOrder, in-order}
 use Rattle.entry.specs.Entry.{listed}
 use Rattle.list_lines.specs.declared.ListAnswer.the-variants.{Written, Refused}
-use Rattle.list_lines.specs.Call.{Call, linesOf, causesOf, verdictOf, answerOf, listAfter, listAnswerNumber, listAnswerCount}
+use Rattle.list_lines.specs.Call.{Call, linesOf, markedLinesOf, causesOf, verdictOf, answerOf, listAfter, listAnswerNumber, listAnswerCount}
 
 -- the call is refused for the lowest cause that holds, and only for a cause that holds
 pub lowest-first : (most : Ceilings) (call : Call) → InOrder (causesOf most call)
@@ -32,6 +32,13 @@ answer-number call = answered-number Written Refused listAnswerNumber (λ count.
 pub answer-count : (call : Call) → listAnswerCount (answerOf call) ≡ unlessRefused (verdictOf call) (length (linesOf call)) 0
 unfolding answerOf
 answer-count call = answered-value Written Refused listAnswerCount (λ count. count) 0 (λ count. refl) (λ why. refl) (verdictOf call) (length (linesOf call))
+
+-- the list after an accepted call
+pub list-accepted : (call : Call) → verdictOf call ≡ Accepted → listAfter call ≡ map listed (markedLinesOf call) ++ drop (length (linesOf call)) (call .list)
+unfolding listAfter
+list-accepted call a =
+    let new = map listed (markedLinesOf call) ++ drop (length (linesOf call)) (call .list) in
+    sym (left-accepted (verdictOf call) new (call .list) a new refl)
 
 -- a list that isn't too short has an entry for each line
 pub list-room : (entries n count : ℕ) (b : Bool) → count ≡ n → b ≡ listTooShort entries count → b ≡ false → n ≤ entries
@@ -57,7 +64,7 @@ module _ (call : Call) (v : Verdict) (e : v ≡ firstCause (lineCauses mostAccep
           let k : verdictOf call ≡ RefusedFor ListLength = sym (pass-early (lineCauses mostAccepted (call .text) (call .limit)) _ v _ e a (stop ListLength _ b Accepted room t)) in
           (answer-refused Written Refused (verdictOf call) (length (linesOf call)) ListLength k, left-refused (verdictOf call) _ (call .list) ListLength k)
 
-      pub list-written : b ≡ false → (new : List ℕ) → new ≡ map listed (linesOf call) ++ drop (length (linesOf call)) (call .list)
+      pub list-written : b ≡ false → (new : List ℕ) → new ≡ map listed (markedLinesOf call) ++ drop (length (linesOf call)) (call .list)
           → (Written count ≡ answerOf call) × (new ≡ listAfter call)
       unfolding verdictOf causesOf answerOf listAfter
       list-written f new w =

@@ -1,3 +1,4 @@
 pub mod Writing
 pub mod Answers
 pub mod ReadsBack
+pub mod Marks

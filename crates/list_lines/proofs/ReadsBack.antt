@@ -1,9 +1,11 @@
--- Theorem `entries-read-back`: the entries of an accepted list call are unpacked to the fields of the composed lines.
+-- Theorem `entries-read-back`: the entries of an accepted list call are unpacked to the fields of the composed lines, and
+-- `marks-read-back`: with their marks.
 use Prim.Native.Nat.{ℕ, zero, suc, _+_, _-_, _^_, _<_, _≤_, min}
 use mathlib.Core.Path.{_≡_, refl, sym, ap, _∙_}
+use mathlib.Core.Bool.{false}
 use mathlib.Core.List.{List, [], _∷_, _++_, map}
 use native.Mathlib.Omega.{arith}
-use lib.ListN.{length, getD, take, drop, length-take, length-drop}
+use lib.ListN.{length, getD, take, drop, length-take, length-drop, length-map, List·getD-append, List·getD-map}
 use lib.Seq.{slice}
 use Rattle.text.specs.Alignment.{alignmentNumber}
 use Rattle.text.specs.Line.{Glyph, glyphFrom, numbered, total}
@@ -12,17 +14,20 @@ use Rattle.refuse.specs.declared.Refusal.the-variants.{TextLength, Limit}
 use Rattle.refuse.specs.declared.Verdict.the-variants.{Accepted}
 use Rattle.refuse.specs.Causes.{mostAccepted, textCauses, lineCauses}
 use Rattle.refuse.proofs.Accepted.{text-short, limit-low}
-use Rattle.refuse.proofs.Calls.{no-cause, left-accepted}
+use Rattle.refuse.proofs.Calls.{no-cause}
 use Rattle.wrapping.specs.declared.Rule.{Rule}
 use Rattle.wrapping.specs.Rule.{ruleOf}
 use Rattle.wrapping.specs.Wrapping.{overWide, notOverWide}
 use Rattle.line_composer.specs.declared.Method.the-variants.{WordWrap}
 use Rattle.line_composer.specs.Lines.{Line, firstOf, endOf, wrappedLineOf, lineAt}
+use Rattle.line_composer.specs.Marks.{MarkedLine, withMark}
+use Rattle.line_composer.proofs.Marks.{withoutMarks, lines-kept}
 use Rattle.line_composer.proofs.Bounds.{Narrow, narrow-lines}
 use Rattle.line_composer.proofs.ReadBack.{ReadBack, read-back}
-use Rattle.entry.specs.Entry.{listed, entryFirst, entryEnd, entryWidth, entryAlignment}
-use Rattle.entry.proofs.Fields.{entry-fields}
-use Rattle.list_lines.specs.Call.{Call, linesOf, causesOf, verdictOf, listAfter}
+use Rattle.entry.specs.Entry.{markNumber, entryMarked, listed, entryFirst, entryEnd, entryWidth, entryAlignment, entryMark}
+use Rattle.entry.proofs.Fields.{entry-fields, entry-mark}
+use Rattle.list_lines.specs.Call.{Call, linesOf, markedLinesOf, causesOf, verdictOf, listAfter}
+use Rattle.list_lines.proofs.Answers.{list-accepted}
 
 -- what holds of every line, at an index
 narrow-at : (most : ℕ) (ls : List Line) (i : ℕ) (none : Line) → i < length ls → Narrow most ls → total (getD ls i none .glyphs) ≤ most
@@ -35,11 +40,6 @@ back-at : (u : Rule) (text : List ℕ) (ls : List Line) (i : ℕ) (none : Line) 
 back-at u text [] i none h r = absurd (omega arith)
 back-at u text (line ∷ ls) zero none h r = r .0
 back-at u text (line ∷ ls) (suc i) none h r = back-at u text ls i none (omega arith) (r .1)
-
-entry-at : (ls : List Line) (rest : List ℕ) (i : ℕ) (none : Line) → i < length ls → getD (map listed ls ++ rest) i 0 ≡ listed (getD ls i none)
-entry-at [] rest i none h = absurd (omega arith)
-entry-at (line ∷ ls) rest zero none h = refl
-entry-at (line ∷ ls) rest (suc i) none h = entry-at ls rest i none (omega arith)
 
 -- glyphs of the records from number k end at most after the last of them
 end-within : (u : Rule) (k : ℕ) (rs : List ℕ) → endOf (notOverWide u (numbered (u .ambiguous) k rs)) ≤ k + length rs
@@ -75,6 +75,20 @@ end-in-text u text line e =
     within first end all zero e l b z = omega (arith, z refl)
     within first end all (suc n) e l b z = omega arith
 
+-- the lines without their marks
+pub lines-without-marks : (call : Call) → withoutMarks (markedLinesOf call) ≡ linesOf call
+unfolding linesOf markedLinesOf
+lines-without-marks call = lines-kept (ruleOf (call .ambiguous) (call .limit) (call .trim)) WordWrap (call .defaultAlignment) (call .text)
+
+pub marked-length : (call : Call) → length (markedLinesOf call) ≡ length (linesOf call)
+marked-length call = sym (length-map (markedLinesOf call) (λ (m : MarkedLine). m .line)) ∙ ap length (lines-without-marks call)
+
+-- an element of a list doesn't depend on the value given past its end
+getD-within : (l : List ℕ) (i a b : ℕ) → i < length l → getD l i a ≡ getD l i b
+getD-within [] i a b h = absurd (omega arith)
+getD-within (x ∷ l) zero a b h = refl
+getD-within (x ∷ l) (suc i) a b h = getD-within l i a b (omega arith)
+
 -- the bounds of an accepted call: causes 3 and 8 don't hold
 module _ (call : Call) (a : verdictOf call ≡ Accepted) where
   short : length (call .text) ≤ 16384
@@ -85,29 +99,40 @@ module _ (call : Call) (a : verdictOf call ≡ Accepted) where
   unfolding verdictOf causesOf lineCauses textCauses
   low = limit-low mostAccepted (call .limit) (no-cause (causesOf mostAccepted call) Limit a)
 
-  module _ (i : ℕ) (none : Line) (h : i < length (linesOf call)) where
+  module _ (i : ℕ) (none : MarkedLine) (h : i < length (linesOf call)) where
     abbrev line : Line
-    line = getD (linesOf call) i none
+    line = getD (linesOf call) i (none .line)
+
+    abbrev markedLine : MarkedLine
+    markedLine = getD (markedLinesOf call) i none
+
+    line-kept : line ≡ markedLine .line
+    line-kept =
+        ap (λ (ls : List Line). getD ls i (none .line)) (sym (lines-without-marks call))
+        ∙ List·getD-map (λ (m : MarkedLine). m .line) (markedLinesOf call) i none
 
     end-fits : endOf (line .glyphs) < 2 ^ 15
     unfolding linesOf
     end-fits =
         let u = ruleOf (call .ambiguous) (call .limit) (call .trim) in
         let text = call .text in
-        omega (arith, short, end-in-text u text line (back-at u text (linesOf call) i none h (read-back u WordWrap (call .defaultAlignment) text)))
+        omega (arith, short, end-in-text u text line (back-at u text (linesOf call) i (none .line) h (read-back u WordWrap (call .defaultAlignment) text)))
 
     width-fits : total (line .glyphs) < 2 ^ 16
     unfolding linesOf
     width-fits =
         let u = ruleOf (call .ambiguous) (call .limit) (call .trim) in
-        omega (arith, low, narrow-at (call .limit + 11) (linesOf call) i none h (narrow-lines u (call .defaultAlignment) (call .text)))
+        omega (arith, low, narrow-at (call .limit + 11) (linesOf call) i (none .line) h (narrow-lines u (call .defaultAlignment) (call .text)))
 
-    entry-is : getD (listAfter call) i 0 ≡ listed line
-    unfolding listAfter
+    entry-is : getD (listAfter call) i 0 ≡ entryMarked (wrappedLineOf line) (markedLine .mark)
+    unfolding listed
     entry-is =
-        let new = map listed (linesOf call) ++ drop (length (linesOf call)) (call .list) in
-        ap (λ (l : List ℕ). getD l i 0) (sym (left-accepted (verdictOf call) new (call .list) a new refl))
-        ∙ entry-at (linesOf call) (drop (length (linesOf call)) (call .list)) i none h
+        let n : i < length (map listed (markedLinesOf call)) = omega (arith, length-map (markedLinesOf call) listed, marked-length call) in
+        ap (λ (l : List ℕ). getD l i 0) (list-accepted call a)
+        ∙ List·getD-append (map listed (markedLinesOf call)) (drop (length (linesOf call)) (call .list)) 0 i n
+        ∙ getD-within (map listed (markedLinesOf call)) i 0 (listed none) n
+        ∙ List·getD-map listed (markedLinesOf call) i none
+        ∙ ap (λ (x : Line). entryMarked (wrappedLineOf x) (markedLine .mark)) (sym line-kept)
 
 -- the fields of each entry that an accepted call writes are first, end, width and alignment of its composed line
 pub entries-read-back :
@@ -118,7 +143,16 @@ pub entries-read-back :
     × (entryEnd entry ≡ endOf (line .glyphs))
     × (entryWidth entry ≡ total (line .glyphs))
     × (entryAlignment entry ≡ alignmentNumber (line .alignment))
-unfolding listed wrappedLineOf
+unfolding wrappedLineOf
 entries-read-back call a i none h =
-    rw (entry-is call a i none h)
-    (entry-fields (wrappedLineOf (line call a i none h)) (end-fits call a i none h) (width-fits call a i none h))
+    let m : MarkedLine = withMark none false in
+    rw (entry-is call a i m h)
+    (entry-fields (wrappedLineOf (line call a i m h)) (markedLine call a i m h .mark) (end-fits call a i m h) (width-fits call a i m h))
+
+-- and its mark is that of the line
+pub marks-read-back :
+    (call : Call) → verdictOf call ≡ Accepted → (i : ℕ) (none : MarkedLine) → i < length (linesOf call)
+    → (getD (linesOf call) i (none .line) ≡ getD (markedLinesOf call) i none .line)
+    × (entryMark (getD (listAfter call) i 0) ≡ markNumber (getD (markedLinesOf call) i none .mark))
+marks-read-back call a i none h =
+    (line-kept call a i none h, rw (entry-is call a i none h) (entry-mark (wrappedLineOf (line call a i none h)) (markedLine call a i none h .mark)))

@@ -1,11 +1,13 @@
 -- Laws of the loop of `write_lines`: each line that the composer returns is packed and written.
 use Prim.Native.Nat.{ℕ, _+_, _*_, _^_, _<_, _≤_}
 use mathlib.Core.Path.{_≡_, refl, sym, ap, _∙_}
+use mathlib.Core.Bool.{Bool, true, not}
 use mathlib.Core.List.{List, [], _∷_, _++_, map, append-nil, append-assoc}
 use native.Mathlib.Numerals.{add-one}
 use native.Mathlib.Omega.{arith}
 use mir.Val.{Fits}
 use mir.Syntax.{w64}
+use lib.Dec.{eqb}
 use lib.ListN.{length, take, drop, set, length-set, take-append-drop}
 use lib.Seq.{take-suc-set, drop-set-lt, drop-drop}
 use Rattle.text.specs.declared.Alignment.{Alignment}
@@ -16,11 +18,12 @@ use Rattle.line_composer.specs.declared.NextLine.{NextLine}
 use Rattle.line_composer.specs.declared.NextLine.the-variants.{OneLine, Done}
 use Rattle.line_composer.specs.declared.Method.the-variants.{WordWrap}
 use Rattle.line_composer.specs.Lines.{lines, wrappedLineOf, lineAt}
-use Rattle.line_composer.specs.ComposingExtra.{linesLeft, Started, ReadsBack, PulledLine}
-use Rattle.line_composer.proofs.Pulled.{pulled-left, pulled-reads-back}
+use Rattle.line_composer.specs.Marks.{MarkedLine, withMark, markedLines}
+use Rattle.line_composer.specs.ComposingExtra.{linesLeft, markedLeft, Started, ReadsBack, PulledLine}
+use Rattle.line_composer.proofs.Pulled.{pulled-left, pulled-reads-back, pulled-mark, last-marked, marked-from-first, nothing-marked}
 use Rattle.line_composer.proofs.Bounds.{Narrow, narrow-lines, lines-short}
-use Rattle.count_lines.proofs.Counting.{Counting, counting-starts, counting-goes, counting-more, counting-done}
-use Rattle.entry.specs.Entry.{entryPacked, listed}
+use Rattle.count_lines.proofs.Counting.{Counting, counting-starts, counting-goes, counting-done}
+use Rattle.entry.specs.Entry.{entryMarked, listed}
 
 -- Inputs of `write_lines`; `old` is the list before the call.
 pub record WriteInput : Type 0 where
@@ -29,88 +32,130 @@ pub record WriteInput : Type 0 where
   pub text : List ℕ
   pub old : List ℕ
 
--- Loop invariant: before each turn, the entries of the first n lines are written, later entries are unchanged, and the remaining
--- lines are no wider than the limit plus 11.
-pub record Writing (input : WriteInput) (list : List ℕ) (c : LineComposer) (n : ℕ) : Type 0 where
-  pub counting-on : Counting (input .rule) (input .default) (input .text) c n
-  pub done : take n list ++ map listed (linesLeft (input .rule) (input .default) (input .text) c) ≡ map listed (lines (input .rule) WordWrap (input .default) (input .text))
+-- Loop invariant: before each turn, the entries of the first n lines are written, `line` is the next one, c has the lines after it,
+-- and later entries are unchanged. No line is wider than the limit plus 11; text and limit are as the function requires.
+pub record Writing (input : WriteInput) (list : List ℕ) (line : WrappedLine) (c : LineComposer) (n : ℕ) : Type 0 where
+  pub counting-on : Counting (input .rule) (input .default) (input .text) c (n + 1)
+  pub done :
+      take n list ++ map listed (markedLeft (input .rule) (input .default) (input .text) (lineAt (input .rule) (input .text) line) c)
+      ≡ map listed (markedLines (input .rule) WordWrap (input .default) (input .text))
   pub after : drop n list ≡ drop n (input .old)
   pub same : length list ≡ length (input .old)
   pub room : length (lines (input .rule) WordWrap (input .default) (input .text)) ≤ length (input .old)
-  pub narrow : Narrow (input .rule .limit + 11) (linesLeft (input .rule) (input .default) (input .text) c)
+  pub reads-back : ReadsBack (input .rule) (input .text) line
+  pub narrow : Narrow (input .rule .limit + 11) (lineAt (input .rule) (input .text) line ∷ linesLeft (input .rule) (input .default) (input .text) c)
+  pub short : length (input .text) < 2 ^ 15
+  pub low : input .rule .limit + 11 < 2 ^ 16
 
-pub writing-starts : (input : WriteInput) (c : LineComposer) → Started (input .rule) WordWrap (input .text) c → length (lines (input .rule) WordWrap (input .default) (input .text)) ≤ length (input .old) → Writing input (input .old) c 0
-writing-starts input c s r =
-    record {
-      counting-on = counting-starts (input .rule) (input .default) (input .text) c s;
-      done = ap (map listed) (s .lines-left (input .default));
-      after = refl;
-      same = refl;
-      room = r;
-      narrow = rw (s .lines-left (input .default)) (narrow-lines (input .rule) (input .default) (input .text));
-    }
-
-module _ (input : WriteInput) (list : List ℕ) (c : LineComposer) (n : ℕ) (w : Writing input list c n) (o : NextLine)
+-- the first line, or none
+module _ (input : WriteInput) (c : LineComposer) (s : Started (input .rule) WordWrap (input .text) c) (o : NextLine)
     (p : PulledLine (input .rule) (input .default) (input .text) c o) where
-  module _ (line : WrappedLine) (d : LineComposer) (e : o ≡ OneLine line d) where
-    pub writing-room : n < length list
-    writing-room = omega (arith, counting-more (input .rule) (input .default) (input .text) c n (w .counting-on) o p line d e, w .room, w .same)
+  abbrev counting₀ : Counting (input .rule) (input .default) (input .text) c 0
+  counting₀ = counting-starts (input .rule) (input .default) (input .text) c s
 
-    bounded : length (input .text) < 2 ^ 15 → n + 1 < 2 ^ 15
-    bounded h = omega (arith, counting-more (input .rule) (input .default) (input .text) c n (w .counting-on) o p line d e, lines-short (input .rule) (input .default) (input .text))
+  pub writing-starts : (line : WrappedLine) (d : LineComposer) → o ≡ OneLine line d
+      → length (input .text) < 2 ^ 15 → input .rule .limit + 11 < 2 ^ 16
+      → length (lines (input .rule) WordWrap (input .default) (input .text)) ≤ length (input .old) → Writing input (input .old) line d 0
+  writing-starts line d e short low r =
+      let left = sym (s .lines-left (input .default)) ∙ pulled-left (input .rule) (input .default) (input .text) c o p line d e in
+      record {
+        counting-on = counting-goes (input .rule) (input .default) (input .text) c 0 counting₀ o p line d e;
+        done = ap (map listed) (marked-from-first (input .rule) (input .default) (input .text) c o p WordWrap s line d e);
+        after = refl;
+        same = refl;
+        room = r;
+        reads-back = pulled-reads-back (input .rule) (input .default) (input .text) c o p line d e;
+        narrow = rw left at (narrow-lines (input .rule) (input .default) (input .text));
+        short = short;
+        low = low;
+      }
 
-    pub writing-fits : length (input .text) < 2 ^ 15 → Fits w64 (n + 1)
-    writing-fits h = record { fits = omega (arith, bounded h) }
+  nothing-written : o ≡ Done →
+      input .old
+      ≡ map listed (markedLines (input .rule) WordWrap (input .default) (input .text)) ++ drop (length (lines (input .rule) WordWrap (input .default) (input .text))) (input .old)
+  nothing-written e =
+      let count = counting-done (input .rule) (input .default) (input .text) c 0 counting₀ o p e in
+      rw (nothing-marked (input .rule) (input .default) (input .text) c o p WordWrap s e, ← count)
 
-    pub writing-scaled : length (input .text) < 2 ^ 15 → Fits w64 (n * 8)
-    writing-scaled h = record { fits = omega (arith, bounded h) }
+module _ (input : WriteInput) (list : List ℕ) (line : WrappedLine) (c : LineComposer) (n : ℕ) (w : Writing input list line c n) where
+  fewer : n < length (lines (input .rule) WordWrap (input .default) (input .text))
+  fewer = omega (arith, w .counting-on .counted)
 
-    left-line-then-rest : linesLeft (input .rule) (input .default) (input .text) c ≡ lineAt (input .rule) (input .text) line ∷ linesLeft (input .rule) (input .default) (input .text) d
-    left-line-then-rest = pulled-left (input .rule) (input .default) (input .text) c o p line d e
+  pub writing-room : n < length list
+  writing-room = omega (arith, fewer, w .room, w .same)
 
-    reads-back : ReadsBack (input .rule) (input .text) line
-    reads-back = pulled-reads-back (input .rule) (input .default) (input .text) c o p line d e
+  bounded : n + 1 < 2 ^ 16
+  bounded = omega (arith, fewer, w .short, lines-short (input .rule) (input .default) (input .text))
 
-    both-narrow : Narrow (input .rule .limit + 11) (lineAt (input .rule) (input .text) line ∷ linesLeft (input .rule) (input .default) (input .text) d)
-    both-narrow = rw left-line-then-rest at (w .narrow)
+  pub writing-fits : Fits w64 (n + 1)
+  writing-fits = record { fits = omega (arith, bounded) }
 
-    pub first-fits : length (input .text) < 2 ^ 15 → line .first < 2 ^ 15
-    first-fits h = omega (arith, reads-back .ordered, reads-back .within)
+  pub writing-scaled : Fits w64 (n * 8)
+  writing-scaled = record { fits = omega (arith, bounded) }
 
-    pub end-fits : length (input .text) < 2 ^ 15 → line .end < 2 ^ 15
-    end-fits h = omega (arith, reads-back .within)
+  pub fields-fit : (line .first < 2 ^ 15) × (line .end < 2 ^ 15) × (line .width < 2 ^ 16)
+  unfolding wrappedLineOf
+  fields-fit = (
+    omega (arith, w .short, w .reads-back .ordered, w .reads-back .within),
+    omega (arith, w .short, w .reads-back .within),
+    omega (arith, w .low, w .narrow .0, ap (λ (x : WrappedLine). x .width) (w .reads-back .is)),
+  )
 
-    pub width-fits : input .rule .limit + 11 < 2 ^ 16 → line .width < 2 ^ 16
-    unfolding wrappedLineOf
-    width-fits h = omega (arith, both-narrow .0, ap (λ (x : WrappedLine). x .width) (reads-back .is))
+  -- the entry of the line with its mark
+  entry-is : (v : ℕ) (mark : Bool) → v ≡ entryMarked line mark → v ≡ listed (withMark (lineAt (input .rule) (input .text) line) mark)
+  unfolding listed
+  entry-is v mark f = f ∙ ap (λ (x : WrappedLine). entryMarked x mark) (w .reads-back .is)
 
-    pub writing-goes : (v : ℕ) → v ≡ entryPacked line → Writing input (set list n v) d (n + 1)
-    unfolding listed
-    writing-goes v f =
-        let v-is : v ≡ listed (lineAt (input .rule) (input .text) line) = f ∙ ap entryPacked (reads-back .is) in
-        record {
-          counting-on = counting-goes (input .rule) (input .default) (input .text) c n (w .counting-on) o p line d e;
-          done = rw (add-one n, take-suc-set list n v writing-room, append-assoc, v-is) (rw left-line-then-rest at (w .done));
-          after =
-              drop-set-lt (n + 1) list n v (omega arith)
-              ∙ sym (drop-drop 1 n list) ∙ ap (drop 1) (w .after) ∙ drop-drop 1 n (input .old);
-          same = length-set list n v ∙ w .same;
-          room = w .room;
-          narrow = both-narrow .1;
-        }
+  -- it is written, then the entries of the lines `left`
+  one-more : (v : ℕ) (mark : Bool) (left : List MarkedLine) → v ≡ entryMarked line mark
+      → markedLeft (input .rule) (input .default) (input .text) (lineAt (input .rule) (input .text) line) c ≡ withMark (lineAt (input .rule) (input .text) line) mark ∷ left
+      → take (n + 1) (set list n v) ++ map listed left ≡ map listed (markedLines (input .rule) WordWrap (input .default) (input .text))
+  one-more v mark left f e = rw (add-one n, take-suc-set list n v writing-room, append-assoc, entry-is v mark f) (rw e at (w .done))
 
-  written : o ≡ Done → let all = lines (input .rule) WordWrap (input .default) (input .text) in list ≡ map listed all ++ drop (length all) (input .old)
-  written e =
-      let all = lines (input .rule) WordWrap (input .default) (input .text) in
-      let z : linesLeft (input .rule) (input .default) (input .text) c ≡ [] = rw e at (p .pulled-lines) in
-      let t : take n list ≡ map listed all = sym (append-nil (take n list)) ∙ rw z at (w .done) in
-      let k : n ≡ length all = counting-done (input .rule) (input .default) (input .text) c n (w .counting-on) o p e in
-      sym (take-append-drop n list) ∙ cc (w .after)
+  kept : (v : ℕ) → drop (n + 1) (set list n v) ≡ drop (n + 1) (input .old)
+  kept v =
+      drop-set-lt (n + 1) list n v (omega arith)
+      ∙ sym (drop-drop 1 n list) ∙ ap (drop 1) (w .after) ∙ drop-drop 1 n (input .old)
 
--- `written` with the inputs apart, as `search` finds it
-pub writing-done : (u : Rule) (default : Alignment) (text old list : List ℕ) (c : LineComposer) (n : ℕ)
-    → Writing (record { rule = u; default = default; text = text; old = old }) list c n → (o : NextLine) → PulledLine u default text c o → o ≡ Done
-    → list ≡ map listed (lines u WordWrap default text) ++ drop (length (lines u WordWrap default text)) old
-writing-done u default text old list c n w o p e = written (record { rule = u; default = default; text = text; old = old }) list c n w o p e
+  module _ (o : NextLine) (p : PulledLine (input .rule) (input .default) (input .text) c o) where
+    module _ (next : WrappedLine) (d : LineComposer) (e : o ≡ OneLine next d) where
+      pub writing-goes : (v : ℕ) → v ≡ entryMarked line (not (eqb (d .from) (c .from))) → Writing input (set list n v) next d (n + 1)
+      writing-goes v f =
+          let left = pulled-left (input .rule) (input .default) (input .text) c o p next d e in
+          record {
+            counting-on = counting-goes (input .rule) (input .default) (input .text) c (n + 1) (w .counting-on) o p next d e;
+            done = one-more v _ _ f (pulled-mark (input .rule) (input .default) (input .text) c o p next d e (lineAt (input .rule) (input .text) line));
+            after = kept v;
+            same = length-set list n v ∙ w .same;
+            room = w .room;
+            reads-back = pulled-reads-back (input .rule) (input .default) (input .text) c o p next d e;
+            narrow = rw left at (w .narrow .1);
+            short = w .short;
+            low = w .low;
+          }
 
-pub ruleset writing = (writing-starts, writing-room, writing-fits, writing-scaled, first-fits, end-fits, width-fits, writing-goes, writing-done)
+    written : o ≡ Done → (v : ℕ) → v ≡ entryMarked line true →
+        set list n v
+        ≡ map listed (markedLines (input .rule) WordWrap (input .default) (input .text)) ++ drop (length (lines (input .rule) WordWrap (input .default) (input .text))) (input .old)
+    written e v f =
+        let all = markedLines (input .rule) WordWrap (input .default) (input .text) in
+        let t : take (n + 1) (set list n v) ≡ map listed all =
+        sym (append-nil (take (n + 1) (set list n v)))
+        ∙ one-more v true [] f (last-marked (input .rule) (input .default) (input .text) c o p e (lineAt (input .rule) (input .text) line)) in
+        let k : n + 1 ≡ length (lines (input .rule) WordWrap (input .default) (input .text)) = counting-done (input .rule) (input .default) (input .text) c (n + 1) (w .counting-on) o p e in
+        let rest = kept v in
+        sym (take-append-drop (n + 1) (set list n v)) ∙ cc
+
+-- the last two with the inputs apart, as `search` finds them
+module _ (u : Rule) (default : Alignment) (text old : List ℕ) (c : LineComposer) (o : NextLine) (p : PulledLine u default text c o) (e : o ≡ Done) where
+  abbrev after : List ℕ
+  after = map listed (markedLines u WordWrap default text) ++ drop (length (lines u WordWrap default text)) old
+
+  pub writing-none : Started u WordWrap text c → old ≡ after
+  writing-none s = nothing-written (record { rule = u; default = default; text = text; old = old }) c s o p e
+
+  pub writing-done : (list : List ℕ) (line : WrappedLine) (n : ℕ)
+      → Writing (record { rule = u; default = default; text = text; old = old }) list line c n → (v : ℕ) → v ≡ entryMarked line true → set list n v ≡ after
+  writing-done list line n w = written (record { rule = u; default = default; text = text; old = old }) list line c n w o p e
+
+pub ruleset writing = (writing-starts, writing-room, writing-fits, writing-scaled, fields-fit, writing-goes, writing-none, writing-done)

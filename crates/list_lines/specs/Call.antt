@@ -1,5 +1,5 @@
 -- Document 01, 'Why a call is refused': the causes, the answer and the entries of the call `list_lines`. Document 02, C-11: "each
--- call that reads widths takes an enum setting".
+-- call that reads widths takes an enum setting"; C-17: the marks of its entries.
 use Prim.Native.Nat.{ℕ}
 use mathlib.Core.Bool.{Bool}
 use mathlib.Core.List.{List, [], _∷_, _++_, map}
@@ -14,6 +14,7 @@ use Rattle.refuse.specs.Causes.{mostAccepted, lineCauses, listTooShort}
 use Rattle.wrapping.specs.Rule.{ruleOf}
 use Rattle.line_composer.specs.declared.Method.the-variants.{WordWrap}
 use Rattle.line_composer.specs.Lines.{Line, lines}
+use Rattle.line_composer.specs.Marks.{MarkedLine, markedLines}
 use Rattle.entry.specs.Entry.{listed}
 use Rattle.list_lines.specs.declared.ListAnswer.{ListAnswer}
 use Rattle.list_lines.specs.declared.ListAnswer.the-variants.{Written, Refused}
@@ -35,6 +36,10 @@ callOf text ambiguous default limit trim list =
 unfoldable pub linesOf : Call → List Line
 linesOf call = lines (ruleOf (call .ambiguous) (call .limit) (call .trim)) WordWrap (call .defaultAlignment) (call .text)
 
+-- each with its mark
+unfoldable pub markedLinesOf : Call → List MarkedLine
+markedLinesOf call = markedLines (ruleOf (call .ambiguous) (call .limit) (call .trim)) WordWrap (call .defaultAlignment) (call .text)
+
 -- causes 3, 4, 8, 9
 unfoldable pub causesOf : Ceilings → Call → List Cause
 causesOf most call =
@@ -51,7 +56,7 @@ answerOf call = answering Written Refused (verdictOf call) (length (linesOf call
 -- "An accepted list call writes its lines from entry 0 and keeps later entries." A refused one leaves the list unchanged.
 unfoldable pub listAfter : Call → List ℕ
 listAfter call =
-    unlessRefused (verdictOf call) (map listed (linesOf call) ++ drop (length (linesOf call)) (call .list)) (call .list)
+    unlessRefused (verdictOf call) (map listed (markedLinesOf call) ++ drop (length (linesOf call)) (call .list)) (call .list)
 
 -- number and count of an answer: 0 and the lines written, or the table's number and 0 ("number, counts 0")
 abbrev pub listAnswerNumber : ListAnswer → ℕ

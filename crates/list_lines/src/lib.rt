@@ -16,6 +16,7 @@ ghost use lib.ListN.{length, drop};
 ghost use Rattle.text.specs.Line.{Opens};
 ghost use Rattle.line_composer.specs.declared.Method.the-variants.{WordWrap};
 ghost use Rattle.line_composer.specs.Lines.{lines};
+ghost use Rattle.line_composer.specs.Marks.{markedLines};
 ghost use Rattle.entry.specs.Entry.{listed};
 ghost use Rattle.list_lines.specs.Call.{callOf, answerOf, listAfter};
 
@@ -25,21 +26,30 @@ pub enum ListAnswer {
     Refused(Refusal),
 }
 
-// Writes the composed lines of a text to a list that is long enough.
+// Writes the composed lines of a text to a list that is long enough. A line is written when the next one is known: it is marked, as
+// the last of its text line, if the next one is of another text line, or there is none.
 fn write_lines(rule: Rule, default_alignment: Alignment, text: &[u32], list: &mut [u64])
     requires { ⌜ (length (now text) < 2 ^ 15) × Opens (now text) × (rule .limit + 11 < 2 ^ 16) ⌝ }
     requires { ⌜ length (lines rule WordWrap «default_alignment» (now text)) ≤ length (now list) ⌝ }
     ensures { λ _.
-        let all = lines rule WordWrap «default_alignment» (now (text .entry)) in
-        ⌜ now (list .exit) ≡ map listed all ++ drop (length all) (now (list .entry)) ⌝ }
+        let count = length (lines rule WordWrap «default_alignment» (now (text .entry))) in
+        let all = markedLines rule WordWrap «default_alignment» (now (text .entry)) in
+        ⌜ now (list .exit) ≡ map listed all ++ drop count (now (list .entry)) ⌝ }
 {
-    let mut composer = LineComposer::new(rule, Method::WordWrap, text);
+    let start = LineComposer::new(rule, Method::WordWrap, text);
+    let NextLine::OneLine(first, opened) = start.next(rule, default_alignment, text) else {
+        return;
+    };
+    let mut line = first;
+    let mut composer = opened;
     let mut count = 0;
     loop {
-        let NextLine::OneLine(line, next) = composer.next(rule, default_alignment, text) else {
+        let NextLine::OneLine(after, next) = composer.next(rule, default_alignment, text) else {
+            list[count] = entry::pack(line, true);
             return;
         };
-        list[count] = entry::pack(line);
+        list[count] = entry::pack(line, next.from != composer.from);
+        line = after;
         composer = next;
         count += 1;
     }

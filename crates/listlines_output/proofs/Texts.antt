@@ -7,7 +7,7 @@ use native.Mathlib.Omega.{arith}
 use lib.ListN.{length, getD, take}
 use lib.Seq.{take-suc, take-length}
 use Rattle.io.specs.Digits.{digits, Fewest}
-use Rattle.entry.specs.Entry.{entryFirst, entryEnd, entryWidth, entryAlignment}
+use Rattle.entry.specs.Entry.{entryFirst, entryEnd, entryWidth, entryAlignment, entryMark}
 use Rattle.append_bytes.specs.WrittenExtra.{Written}
 use Rattle.append_bytes.proofs.Writing.{written-none, written-then}
 use Rattle.listlines_output.specs.Output.{blank, lineEnd, decimal, numberText, fieldsText, countText, refusedText}
@@ -48,26 +48,27 @@ module _ (old middle new : List ℕ) (at next to : ℕ) where
   lines-written entries n e v w = rw (← e) (written-then old at middle new next to (entriesText entries) (countText n) v w)
 
 -- the states between the fields of an entry
-module _ (entry : ℕ) (a b c d : ℕ) (f : a ≡ entryFirst entry) (g : b ≡ entryEnd entry) (h : c ≡ entryWidth entry) where
-  pub entry-written : (i : d ≡ entryAlignment entry) (old m₁ m₂ m₃ new : List ℕ) (at n₁ n₂ n₃ to : ℕ)
+module _ (entry : ℕ) (a b c d e : ℕ) (f : a ≡ entryFirst entry) (g : b ≡ entryEnd entry) (h : c ≡ entryWidth entry) (i : d ≡ entryAlignment entry) where
+  pub entry-written : (k : e ≡ entryMark entry) (old m₁ m₂ m₃ m₄ new : List ℕ) (at n₁ n₂ n₃ n₄ to : ℕ)
       → Written old at m₁ n₁ (numberText a 32) → Written m₁ n₁ m₂ n₂ (numberText b 32)
-      → Written m₂ n₂ m₃ n₃ (numberText c 32) → Written m₃ n₃ new to (numberText d 10)
+      → Written m₂ n₂ m₃ n₃ (numberText c 32) → Written m₃ n₃ m₄ n₄ (numberText d 32) → Written m₄ n₄ new to (numberText e 10)
       → Written old at new to (entryText entry)
   unfolding entryText fieldsText
-  entry-written i old m₁ m₂ m₃ new at n₁ n₂ n₃ to p q r s =
-      rw (← f, ← g, ← h, ← i)
+  entry-written k old m₁ m₂ m₃ m₄ new at n₁ n₂ n₃ n₄ to p q r s t =
+      rw (← f, ← g, ← h, ← i, ← k)
       (written-then old at m₁ new n₁ to (numberText a 32) _ p
       (written-then m₁ n₁ m₂ new n₂ to (numberText b 32) _ q
-      (written-then m₂ n₂ m₃ new n₃ to (numberText c 32) (numberText d 10) r s)))
+      (written-then m₂ n₂ m₃ new n₃ to (numberText c 32) _ r
+      (written-then m₃ n₃ m₄ new n₄ to (numberText d 32) (numberText e 10) s t))))
 
 entries-append : (a b : List ℕ) → entriesText (a ++ b) ≡ entriesText a ++ entriesText b
 entries-append [] b = refl
 entries-append (e ∷ a) b = ap (_++_ (entryText e)) (entries-append a b) ∙ sym (append-assoc (entryText e) (entriesText a) (entriesText b))
 
--- loop invariant: before each turn the lines of the first i entries are written, in at most 24 bytes each
+-- loop invariant: before each turn the lines of the first i entries are written, in at most 30 bytes each
 pub record Printing (old entries new : List ℕ) (next i : ℕ) : Type 0 where
   pub within : i ≤ length entries
-  pub near : next ≤ 24 * i
+  pub near : next ≤ 30 * i
   pub written : Written old 0 new next (entriesText (take i entries))
 
 module _ (old entries : List ℕ) where
@@ -78,10 +79,10 @@ module _ (old entries : List ℕ) where
     pub printing-length : length new ≡ length old
     printing-length = p .written .kept
 
-    pub printing-room : 24 * length entries ≤ length old → i < length entries → next + 24 ≤ length new
+    pub printing-room : 30 * length entries ≤ length old → i < length entries → next + 30 ≤ length new
     printing-room h k = omega (arith, p .near, printing-length)
 
-    pub printing-goes : (newer : List ℕ) (further : ℕ) → i < length entries → Written new next newer further (entryText (getD entries i 0)) → further ≤ next + 24
+    pub printing-goes : (newer : List ℕ) (further : ℕ) → i < length entries → Written new next newer further (entryText (getD entries i 0)) → further ≤ next + 30
         → Printing old entries newer further (i + 1)
     printing-goes newer further h w n =
         let e = getD entries i 0 in
@@ -103,7 +104,7 @@ module _ (old entries : List ℕ) where
       pub printing-ends : Written old 0 new next (entriesText entries)
       printing-ends = rw all-taken at (p .written)
 
-      pub printing-near : next ≤ 24 * length entries
+      pub printing-near : next ≤ 30 * length entries
       printing-near = omega (arith, p .near, p .within)
 
 pub ruleset printing = (printing-starts, printing-length, printing-room, printing-goes, printing-ends, printing-near)

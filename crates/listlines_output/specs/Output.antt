@@ -1,5 +1,5 @@
 -- Document 01, 'Small notices by hand': the lines that the program `listlines` prints, as bytes. Blanks and line ends are those of
--- the example.
+-- the example. Document 02, C-17: the fifth field.
 use Prim.Native.Nat.{ℕ, zero, suc, _+_, _/_, _%_}
 use mathlib.Core.Bool.{cond}
 use mathlib.Core.List.{List, [], _∷_, _++_}
@@ -28,10 +28,10 @@ lineEnd = 10
 unfoldable pub numberText : ℕ → ℕ → List ℕ
 numberText n after = decimal n ++ (after ∷ [])
 
--- "It prints first, end, width, alignment of each line"
-unfoldable pub fieldsText : ℕ → ℕ → ℕ → ℕ → List ℕ
-fieldsText first end width alignment =
-    numberText first blank ++ (numberText end blank ++ (numberText width blank ++ numberText alignment lineEnd))
+-- "It prints first, end, width, alignment of each line"; C-17: "`listlines` prints the mark as a fifth field"
+unfoldable pub fieldsText : ℕ → ℕ → ℕ → ℕ → ℕ → List ℕ
+fieldsText first end width alignment mark =
+    numberText first blank ++ (numberText end blank ++ (numberText width blank ++ (numberText alignment blank ++ numberText mark lineEnd)))
 
 -- "then `lines` and their count"
 unfoldable pub countText : ℕ → List ℕ

@@ -35,23 +35,24 @@ fn put_number(buffer: &mut [u8], at: usize, number: u64, after: u8) -> usize
     put(buffer, next, after)
 }
 
-// Writes the line of an entry, at most 24 bytes.
+// Writes the line of an entry, at most 30 bytes.
 fn put_entry(buffer: &mut [u8], at: usize, entry: u64) -> usize
-    requires { ⌜ at + 24 ≤ length (now buffer) ⌝ }
+    requires { ⌜ at + 30 ≤ length (now buffer) ⌝ }
     ensures { λ r. ⌜ Written (now (buffer .entry)) at (now (buffer .exit)) r (entryText entry) ⌝ }
-    ensures { λ r. ⌜ r ≤ at + 24 ⌝ }
+    ensures { λ r. ⌜ r ≤ at + 30 ⌝ }
 {
     let end = put_number(buffer, at, entry::first(entry), BLANK);
     let width = put_number(buffer, end, entry::end(entry), BLANK);
     let alignment = put_number(buffer, width, entry::width(entry), BLANK);
-    put_number(buffer, alignment, entry::alignment(entry), LINE_END)
+    let mark = put_number(buffer, alignment, entry::alignment(entry), BLANK);
+    put_number(buffer, mark, entry::mark(entry), LINE_END)
 }
 
 // Writes the lines of entries at the start of a buffer.
 fn put_entries(buffer: &mut [u8], entries: &[u64]) -> usize
-    requires { ⌜ 24 * length (now entries) ≤ length (now buffer) ⌝ }
+    requires { ⌜ 30 * length (now entries) ≤ length (now buffer) ⌝ }
     ensures { λ r. ⌜ Written (now (buffer .entry)) 0 (now (buffer .exit)) r (entriesText (now (entries .entry))) ⌝ }
-    ensures { λ r. ⌜ r ≤ 24 * length (now (entries .entry)) ⌝ }
+    ensures { λ r. ⌜ r ≤ 30 * length (now (entries .entry)) ⌝ }
 {
     let mut next = 0;
     let mut i = 0;
@@ -75,7 +76,7 @@ fn put_count(buffer: &mut [u8], at: usize, count: u64) -> usize
 // Writes the output for entries at the start of a buffer: their lines, then their count. Returns its length.
 pub fn put_lines(buffer: &mut [u8], entries: &[u64]) -> usize
     requires { ⌜ length (now entries) < 100000 ⌝ }
-    requires { ⌜ 24 * length (now entries) + 12 ≤ length (now buffer) ⌝ }
+    requires { ⌜ 30 * length (now entries) + 12 ≤ length (now buffer) ⌝ }
     ensures { λ r.
         let lines = entriesText (now (entries .entry)) ++ countText (length (now (entries .entry))) in
         ⌜ Written (now (buffer .entry)) 0 (now (buffer .exit)) r lines ⌝ }

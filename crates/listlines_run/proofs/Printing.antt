@@ -14,14 +14,15 @@ use Rattle.refuse.specs.declared.Verdict.{Verdict}
 use Rattle.refuse.specs.declared.Verdict.the-variants.{Accepted, Refused as RefusedFor}
 use Rattle.refuse.specs.Refusal.{Cause, _if_, firstCause, refusalNumber, answering}
 use Rattle.refuse.specs.Causes.{mostAccepted, lineCauses, listTooShort}
-use Rattle.refuse.proofs.Calls.{left-accepted}
 use Rattle.wrapping.specs.Rule.{ruleOf}
-use Rattle.line_composer.specs.Lines.{Line}
+use Rattle.line_composer.specs.Lines.{aligned}
+use Rattle.line_composer.specs.Marks.{MarkedLine, withMark}
 use Rattle.line_composer.proofs.Bounds.{lines-short}
 use Rattle.entry.specs.Entry.{listed}
-use Rattle.list_lines.specs.Call.{Call, linesOf, causesOf, verdictOf, answerOf as listAnswer, listAfter}
+use Rattle.list_lines.specs.Call.{Call, linesOf, markedLinesOf, causesOf, verdictOf, answerOf as listAnswer, listAfter}
 use Rattle.list_lines.specs.declared.ListAnswer.the-variants as listed-variant
-use Rattle.list_lines.proofs.ReadsBack.{entries-read-back}
+use Rattle.list_lines.proofs.Answers.{list-accepted}
+use Rattle.list_lines.proofs.ReadsBack.{marked-length, entries-read-back, marks-read-back}
 use Rattle.io.specs.Counts.{Counts}
 use Rattle.append_bytes.specs.WrittenExtra.{Written}
 use Rattle.listlines_input.specs.declared.Parsed.{Parsed}
@@ -42,7 +43,7 @@ cause-clear [] why b e = rw e
 cause-clear (c ∷ causes) why b e = ap (cond (c .holds) (RefusedFor (c .why))) (cause-clear causes why b e)
 
 -- lines that are equal one by one
-texts-same : (none : Line) (ls : List Line) (es : List ℕ) → length ls ≤ length es
+texts-same : (none : MarkedLine) (ls : List MarkedLine) (es : List ℕ) → length ls ≤ length es
     → ((i : ℕ) → i < length ls → entryText (getD es i 0) ≡ lineText (getD ls i none)) → entriesText (take (length ls) es) ≡ linesText ls
 texts-same none [] es h f = refl
 texts-same none (l ∷ ls) [] h f = absurd (omega arith)
@@ -51,27 +52,28 @@ texts-same none (l ∷ ls) (e ∷ es) h f =
     let rest : entriesText (take (length ls) es) ≡ linesText ls = texts-same none ls es (omega arith) (λ i (k : i < length ls). f (suc i) (omega arith)) in
     rw (first, rest)
 
-fields-same : (a b c d a′ b′ c′ d′ : ℕ) → a ≡ a′ → b ≡ b′ → c ≡ c′ → d ≡ d′ → fieldsText a b c d ≡ fieldsText a′ b′ c′ d′
-fields-same a b c d a′ b′ c′ d′ p q r s = rw (p, q, r, s)
+fields-same : (a b c d e a′ b′ c′ d′ e′ : ℕ) → a ≡ a′ → b ≡ b′ → c ≡ c′ → d ≡ d′ → e ≡ e′ → fieldsText a b c d e ≡ fieldsText a′ b′ c′ d′ e′
+fields-same a b c d e a′ b′ c′ d′ e′ p q r s t = rw (p, q, r, s, t)
 
 module _ (call : Call) (a : verdictOf call ≡ Accepted) where
-  left : listAfter call ≡ map listed (linesOf call) ++ drop (length (linesOf call)) (call .list)
-  unfolding listAfter
-  left =
-      let new = map listed (linesOf call) ++ drop (length (linesOf call)) (call .list) in
-      sym (left-accepted (verdictOf call) new (call .list) a new refl)
-
-  enough : length (linesOf call) ≤ length (listAfter call)
+  enough : length (markedLinesOf call) ≤ length (listAfter call)
   enough =
-      rw left
-      (omega (arith, length-append (map listed (linesOf call)) (drop (length (linesOf call)) (call .list)), length-map (linesOf call) listed))
+      rw (list-accepted call a)
+      (omega (arith, length-append (map listed (markedLinesOf call)) (drop (length (linesOf call)) (call .list)), length-map (markedLinesOf call) listed))
 
-  entries-are-lines : entriesText (take (length (linesOf call)) (listAfter call)) ≡ linesText (linesOf call)
+  -- the text of an entry is that of its line
+  entry-is-line : (i : ℕ) (none : MarkedLine) → i < length (markedLinesOf call) → entryText (getD (listAfter call) i 0) ≡ lineText (getD (markedLinesOf call) i none)
   unfolding entryText lineText
+  entry-is-line i none h =
+      let n : i < length (linesOf call) = omega (arith, marked-length call) in
+      let marks = marks-read-back call a i none n in
+      let fields = rw (marks .0) at (entries-read-back call a i (none .line) n) in
+      fields-same _ _ _ _ _ _ _ _ _ _ (fields .0) (fields .1) (fields .2) (fields .3) (marks .1)
+
+  entries-are-lines : entriesText (take (length (markedLinesOf call)) (listAfter call)) ≡ linesText (markedLinesOf call)
   entries-are-lines =
-      let none : Line = record { alignment = Left; glyphs = [] } in
-      texts-same none (linesOf call) (listAfter call) enough
-      (λ i h. let fields = entries-read-back call a i none h in fields-same _ _ _ _ _ _ _ _ (fields .0) (fields .1) (fields .2) (fields .3))
+      let none : MarkedLine = withMark (aligned Left []) false in
+      texts-same none (markedLinesOf call) (listAfter call) enough (λ i h. entry-is-line i none h)
 
 -- an answer's number, and its count
 numberIn : Answer → ℕ
@@ -115,26 +117,26 @@ module _ (limit : ℕ) (trim : Bool) (text list : List ℕ) where
       let clear : listTooShort (length list) (length (linesOf call)) ≡ false = rw h (long-enough (ruleOf Narrow limit trim) text k) in
       cause-clear (lineCauses mostAccepted text limit) ListLength (listTooShort (length list) (length (linesOf call))) clear
 
-  lines-few : length text ≤ mostRecords → length (linesOf call) ≤ mostRecords
+  lines-few : length text ≤ mostRecords → length (markedLinesOf call) ≤ mostRecords
   unfolding linesOf
-  lines-few k = omega (arith, lines-short (ruleOf Narrow limit trim) Left text)
+  lines-few k = omega (arith, marked-length call, lines-short (ruleOf Narrow limit trim) Left text)
 
   lines-by : (v : Verdict) → verdictOf call ≡ v → length text ≤ mostRecords → (count : ℕ)
       → answerFor (answering listed-variant.Written listed-variant.Refused v (length (linesOf call))) ≡ answer.Lines count
-      → LinesPrinted count (listAfter call) (listPrinted v (linesOf call))
+      → LinesPrinted count (listAfter call) (listPrinted v (markedLinesOf call))
   unfolding countIn
   lines-by Accepted a k count e =
-      let n : length (linesOf call) ≡ count = ap countIn e in
+      let n : length (markedLinesOf call) ≡ count = marked-length call ∙ ap countIn e in
       rw (← n)
       (record {
         fits = enough call a;
         few = lines-few k;
-        same = ap (λ (l : List ℕ). l ++ countText (length (linesOf call))) (entries-are-lines call a);
+        same = ap (λ (l : List ℕ). l ++ countText (length (markedLinesOf call))) (entries-are-lines call a);
       })
   lines-by (RefusedFor why) a k count e = absurd (let z : _≡_ {A = ℕ} 0 1 = cc in omega arith)
 
   refused-by : (v : Verdict) (number : ℕ) → answerFor (answering listed-variant.Written listed-variant.Refused v (length (linesOf call))) ≡ answer.Refused number
-      → RefusalPrinted number (listPrinted v (linesOf call))
+      → RefusalPrinted number (listPrinted v (markedLinesOf call))
   unfolding numberIn
   refused-by Accepted number e = absurd (let z : _≡_ {A = ℕ} 0 1 = cc in omega arith)
   refused-by (RefusedFor why) number e =
@@ -159,7 +161,7 @@ low-number input = low-of (incomplete input) (trimWrong input) (tooMany input) (
 
 lines-parsed : (p : Parsed) (text list : List ℕ) → Counted p (length text) → length list ≡ mostRecords → (count : ℕ) → answered p text list ≡ answer.Lines count
     → LinesPrinted count (entered p text list) (printed p text)
-unfolding Counted listAnswer linesOf
+unfolding Counted listAnswer linesOf markedLinesOf
 lines-parsed (Refused number) text list c h count e = absurd (let z : _≡_ {A = ℕ} 0 1 = cc in omega arith)
 lines-parsed (Text limit trim n) text list c h count e =
     let k : length text ≤ mostRecords = omega (arith, c .0, c .1) in
@@ -168,7 +170,7 @@ lines-parsed (Text limit trim n) text list c h count e =
 
 refused-parsed : (p : Parsed) (text list : List ℕ) → Counted p (length text) → LowNumber p → length list ≡ mostRecords → (number : ℕ) → answered p text list ≡ answer.Refused number
     → RefusalPrinted number (printed p text)
-unfolding Counted LowNumber listAnswer linesOf numberIn
+unfolding Counted LowNumber listAnswer linesOf markedLinesOf numberIn
 refused-parsed (Refused number) text list c l h m e = let n : number ≡ m = ap numberIn e in rw (← n) (record { low = l; same = refl })
 refused-parsed (Text limit trim n) text list c l h m e =
     let k : length text ≤ mostRecords = omega (arith, c .0, c .1) in

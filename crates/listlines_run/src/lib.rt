@@ -57,11 +57,11 @@ fn answer_to(input: &[u8], text: &mut [u32], list: &mut [u64]) -> Answer
     }
 }
 
-// Writes the output for an input at the start of `output` and returns its length in bytes: at most 24 for each line, 12 for their
+// Writes the output for an input at the start of `output` and returns its length in bytes: at most 30 for each line, 12 for their
 // count.
 fn output_for(input: &[u8], text: &mut [u32], list: &mut [u64], output: &mut [u8]) -> usize
     requires { ⌜ (mostRecords ≤ length (now text)) × (length (now list) ≡ mostRecords) ⌝ }
-    requires { ⌜ 24 * mostRecords + 12 ≤ length (now output) ⌝ }
+    requires { ⌜ 30 * mostRecords + 12 ≤ length (now output) ⌝ }
     ensures { λ r. ⌜ Counts r (now (output .exit)) ⌝ }
     ensures { λ r. ⌜ take r (now (output .exit)) ≡ printedOf (now (input .entry)) ⌝ }
 {
@@ -77,7 +77,7 @@ pub fn run(fd: i32) {
     let length = read::read_all(fd, &mut buffer);
     let mut text = [0u32; 4096];
     let mut list = [0u64; 4096];
-    let mut output = [0u8; 98316];
+    let mut output = [0u8; 122892];
     let bytes = output_for(&buffer[..length], &mut text, &mut list, &mut output);
     io::write_all(STDOUT_FILENO, &output[..bytes]);
 }

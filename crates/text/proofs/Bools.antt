@@ -1,6 +1,12 @@
--- Case analysis on a test, and what follows if neither of two tests holds.
+-- Case analysis on a test, what follows if neither of two tests holds, and the bit of a test.
+use Prim.Native.Nat.{_<_}
 use mathlib.Core.Path.{_≡_, refl}
 use mathlib.Core.Bool.{Bool, true, false, cond, _||_, true≢false}
+use native.Mathlib.Omega.{arith}
+
+pub bit-small : (on : Bool) → cond on 1 0 < 2
+bit-small true = omega arith
+bit-small false = omega arith
 
 pub neither : (a b : Bool) → (a || b) ≡ false → (a ≡ false) × (b ≡ false)
 neither true b e = absurd (true≢false e)

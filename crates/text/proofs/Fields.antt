@@ -8,6 +8,7 @@ use lib.Dec.{eqb}
 use Rattle.text.specs.declared.AmbiguousWidth.{AmbiguousWidth}
 use Rattle.text.specs.Record.{isHead, symbolOf, widthCodeOf, readWidth, whitespaceOf, styleOf, glyphRecord, alignmentOf, positionOf, zerosOf, headRecord}
 use Rattle.text.specs.Line.{glyphFrom}
+use Rattle.text.proofs.Bools.{bit-small}
 
 -- space is the whitespace bit
 module _ (symbol width space style : ℕ) (s : symbol < 2 ^ 21) (w : width < 2 ^ 3) (b : space < 2) (t : style < 2 ^ 6) where
@@ -31,10 +32,6 @@ module _ (symbol width space style : ℕ) (s : symbol < 2 ^ 21) (w : width < 2 ^
 
 -- the fields of a glyph
 module _ (symbol width : ℕ) (whitespace : Bool) (style : ℕ) (s : symbol < 2 ^ 21) (w : width < 2 ^ 3) (t : style < 2 ^ 6) where
-  bit-small : (on : Bool) → cond on 1 0 < 2
-  bit-small true = omega arith
-  bit-small false = omega arith
-
   read-bit : (on : Bool) (bit : ℕ) → bit ≡ cond on 1 0 → eqb bit 1 ≡ on
   read-bit true bit e = rw e
   read-bit false bit e = rw e

@@ -171,7 +171,8 @@ fn main() -> Result<(), Refusal> {
     let mut list = vec![0; lines as usize];
     let written =
         list_lines(&text, notice.ambiguous, Alignment::Left, inner.width, true, &mut list)?;
-    let line = |entry: &u64| format!(" {}-{}", entry >> 49, entry >> 34 & 0x7FFF);
+    let end = |entry: &u64| if entry >> 15 & 1 == 1 { " |" } else { "" };
+    let line = |entry: &u64| format!(" {}-{}{}", entry >> 49, entry >> 34 & 0x7FFF, end(entry));
     println!("lines:{}", list[..written].iter().map(line).collect::<String>());
     print_readings()?;
 

@@ -1,13 +1,14 @@
 //! The expected answer of a call: the Rust's, or if the Rust has none that of documents 01 and 02,
 //! by the crate `rules`.
 
-use oracle::{Alignment, AmbiguousWidth, ComposedLine, Drawn, Notice, Outcome, Tally, Wrap};
+use oracle::{AmbiguousWidth, ComposedLine, Drawn, Notice, Outcome, Tally, Wrap};
 use rules::compose::{Composed, compose, tally};
 use rules::screen::{Area, Screen};
-use rules::{frame, lines, measure, notice, width};
+use rules::{frame, lines, measure, notice};
 
 use crate::answer::Answer;
 use crate::input::{Call, Input};
+use crate::records::is_marked;
 use crate::{refusals, settings};
 
 /// Answers that the call must all match, each with its source, and the kind of the input.
@@ -19,6 +20,10 @@ pub struct Expected {
     /// A clipped glyph starts inside and runs past the right edge.
     pub halved: bool,
     pub panicked: bool,
+    /// How many entries of the list have C-17's mark: the last composed line of each text line.
+    pub marked: u64,
+    /// A text line has two or more entries.
+    pub broken: bool,
 }
 
 const RUST: &str = "the Rust";
@@ -66,40 +71,31 @@ fn settled<T>(
 }
 
 fn list_lines(input: &Input) -> Expected {
-    let Input { ref text, limit, trim, .. } = *input;
+    let Input { ref text, limit, .. } = *input;
     let ambiguous = settings::ambiguous(input.settings);
-    let (default_alignment, trim) = (settings::alignment(input.settings.alignment), trim == 1);
-    let outcome = oracle::wrapped_lines(text, ambiguous, default_alignment, limit, trim);
-    let rules = || listed(text, ambiguous, default_alignment, limit, trim);
-    let mut short = false;
-    let expected = settled(outcome, rules, |lines| {
-        let mut list = input.list.clone();
-        short = lines.len() > list.len();
-        for (entry, line) in list.iter_mut().zip(&lines) {
-            *entry = line.packed();
-        }
-        Answer::drawn([lines.len() as u64], list)
-    });
-    if short { refused(refusals::SHORT_LIST, Call::ListLines, input) } else { expected }
-}
-
-fn listed(
-    text: &[u32],
-    ambiguous: AmbiguousWidth,
-    default_alignment: Alignment,
-    limit: u16,
-    trim: bool,
-) -> Vec<ComposedLine> {
-    let line = |line: Composed| ComposedLine {
-        glyphs: line.glyphs.iter().map(|glyph| glyph.number).collect(),
-        width: width(&line.glyphs) as u16,
-        alignment: line.alignment,
+    let (default_alignment, trim) =
+        (settings::alignment(input.settings.alignment), input.trim == 1);
+    let outcome = oracle::wrapped_lines(text, ambiguous, default_alignment, limit, trim)
+        .map(|lines| lines.iter().map(ComposedLine::packed).collect());
+    let rules = || {
+        let wrap = Wrap::On { trim };
+        let lines = compose(text, ambiguous, default_alignment, limit.into(), wrap).lines;
+        lines.iter().map(Composed::entry).collect()
     };
-    compose(text, ambiguous, default_alignment, limit.into(), Wrap::On { trim })
-        .lines
-        .into_iter()
-        .map(line)
-        .collect()
+    let mut entries: Vec<u64> = Vec::new();
+    let expected = settled(outcome, rules, |all| {
+        entries = all;
+        let mut list = input.list.clone();
+        for (place, entry) in list.iter_mut().zip(&entries) {
+            *place = *entry;
+        }
+        Answer::drawn([entries.len() as u64], list)
+    });
+    if entries.len() > input.list.len() {
+        return refused(refusals::SHORT_LIST, Call::ListLines, input);
+    }
+    let marked = entries.iter().filter(|entry| is_marked(**entry)).count();
+    Expected { marked: marked as u64, broken: marked < entries.len(), ..expected }
 }
 
 /// If a glyph is clipped, the tally must also equal that of the crate `rules`.
@@ -188,7 +184,8 @@ fn draw_notice(input: &Input) -> Expected {
         answers.push((COUNTS, answer(counts, screen.cells)));
     }
     let Drawn { clipped, halved, .. } = drawn;
-    Expected { answers, refused: false, clipped: clipped > 0, halved: halved > 0, panicked }
+    let (clipped, halved) = (clipped > 0, halved > 0);
+    Expected { answers, clipped, halved, panicked, ..Expected::default() }
 }
 
 /// Pages are lines / height of the inner area, rounded up.

@@ -1,7 +1,7 @@
 //! The inputs of all calls in one struct; each call uses some of its fields.
 
 use crate::raw::{Area, Block, Text};
-use crate::records::is_ambiguous;
+use crate::records::{is_ambiguous, is_head};
 
 #[derive(Clone, Copy, PartialEq, Eq)]
 pub enum Call {
@@ -116,6 +116,12 @@ impl Input {
     pub fn holds_ambiguous(&self, call: Call) -> bool {
         call.reads_text() && self.text.iter().copied().any(is_ambiguous)
             || call.draws_titles() && self.titles.iter().copied().any(is_ambiguous)
+    }
+
+    /// Whether a text line has no glyph: its head is the last record, or another head is next.
+    pub fn holds_empty_line(&self) -> bool {
+        let ends = self.text.last().is_some_and(|record| is_head(*record));
+        ends || self.text.windows(2).any(|pair| is_head(pair[0]) && is_head(pair[1]))
     }
 }
 

@@ -3,8 +3,8 @@
 //! Usage: `compare [short] [--cases N] [--seed S] [--threads T]`. Every short input is tried, then
 //! random ones until there are N cases. A case is one call on one input, and everything that it
 //! returns and writes is compared. If the Rust has no valid answer, the crate `rules`, an
-//! independent implementation of document 01 and of document 02's C-11 and C-14, gives it. The exit
-//! status is 1 if a case differs.
+//! independent implementation of document 01 and of document 02's C-11, C-14 and C-17, gives it.
+//! The exit status is 1 if a case differs.
 #![deny(unsafe_code)]
 
 mod answer;

@@ -1,4 +1,4 @@
-//! Records, and the letters of glyphs.
+//! Records, entries, and the letters of glyphs.
 
 /// "Width code 7 now means ambiguous."
 pub const AMBIGUOUS: u32 = 7;
@@ -32,3 +32,8 @@ pub const BLANK: u64 = 32 << 43;
 
 /// The first symbol that is refused.
 pub const SYMBOLS: u32 = 1 << 21;
+
+/// Whether an entry has C-17's mark: "the first of the 16 zero bits of a composed line".
+pub const fn is_marked(entry: u64) -> bool {
+    entry >> 15 & 1 == 1
+}

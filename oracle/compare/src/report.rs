@@ -10,7 +10,7 @@ use crate::expected::Expected;
 use crate::input::{Call, Input};
 
 /// The columns of the table.
-const NAMES: [&str; 10] = [
+const NAMES: [&str; 12] = [
     "compared",
     "refused",
     "hold a code 7, narrow",
@@ -20,11 +20,13 @@ const NAMES: [&str; 10] = [
     "halve one",
     "panic in the Rust",
     "of these clip none",
+    "break a text line",
+    "list an empty one",
     "differ",
 ];
 const COMPARED: usize = 0;
 const REFUSED: usize = 1;
-const DIFFER: usize = 9;
+const DIFFER: usize = 11;
 
 /// The counts of one call.
 #[derive(Default)]
@@ -36,26 +38,37 @@ struct Row {
 
 pub struct Report {
     rows: [Row; Call::ALL.len()],
+    /// Entries with C-17's mark in the lists of accepted calls.
+    marked: AtomicU64,
     printing: Mutex<()>,
     start: Instant,
 }
 
 impl Report {
     pub fn new() -> Self {
-        Self { rows: Default::default(), printing: Mutex::new(()), start: Instant::now() }
+        Self {
+            rows: Default::default(),
+            marked: AtomicU64::new(0),
+            printing: Mutex::new(()),
+            start: Instant::now(),
+        }
     }
 
     pub fn count(&self, call: Call, input: &Input, expected: &Expected, differ: bool) {
-        let Expected { refused, clipped, halved, panicked, .. } = *expected;
+        let Expected { refused, clipped, halved, panicked, marked, broken, .. } = *expected;
         let places = expected.answers.iter().any(|(_, answer)| answer.named(call, "placed") > 0);
         let holds = !refused && input.holds_ambiguous(call);
         let [narrow, wide] = [1, 2].map(|number| holds && input.settings.ambiguous == number);
         let clips_none = panicked && !clipped;
-        let kinds: [bool; NAMES.len()] =
-            [true, refused, narrow, wide, places, clipped, halved, panicked, clips_none, differ];
+        let empty = marked > 0 && input.holds_empty_line();
+        let kinds: [bool; NAMES.len()] = [
+            true, refused, narrow, wide, places, clipped, halved, panicked, clips_none, broken,
+            empty, differ,
+        ];
         for (count, is_so) in self.rows[call as usize].counts.iter().zip(kinds) {
             count.fetch_add(is_so.into(), Ordering::Relaxed);
         }
+        self.marked.fetch_add(marked, Ordering::Relaxed);
     }
 
     /// Whether this is the first difference of the call; no later one is.
@@ -100,9 +113,10 @@ impl Report {
         let sums: Vec<_> = (0..NAMES.len()).map(|column| self.sum(column).to_string()).collect();
         println!("| all | {} |\n", sums.join(" | "));
         println!(
-            "{:.0} seconds, {} accepted",
+            "{:.0} seconds, {} accepted, {} marked entries",
             self.start.elapsed().as_secs_f64(),
-            self.cases() - self.sum(REFUSED)
+            self.cases() - self.sum(REFUSED),
+            self.marked.load(Ordering::Relaxed)
         );
         println!("{} cases, {} differ", self.cases(), self.sum(DIFFER));
         if self.sum(DIFFER) == 0 { ExitCode::SUCCESS } else { ExitCode::FAILURE }

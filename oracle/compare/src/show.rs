@@ -136,7 +136,8 @@ fn words(
 fn entry(word: u64) -> String {
     let [first, end] = [word >> 49, word >> 34 & 0x7fff];
     let [width, alignment] = [word >> 18 & 0xffff, word >> 16 & 3];
-    format!("first {first} end {end} width {width} alignment {alignment} rest {}", word & 0xffff)
+    let [mark, rest] = [word >> 15 & 1, word & 0x7fff];
+    format!("first {first} end {end} width {width} alignment {alignment} mark {mark} rest {rest}")
 }
 
 fn cell(word: u64) -> String {

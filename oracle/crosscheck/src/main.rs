@@ -1,7 +1,8 @@
-//! Compares the crate `rules`, an independent implementation of document 01 and of C-11 and C-14,
-//! with the Rust. `rules` reads each width code 7 itself, the Rust is given the 1 or 2 read for it.
-//! C-14: "Inputs with such a glyph leave the cell comparison with the crate, while composed lines
-//! remain in it."
+//! Compares the crate `rules`, an independent implementation of document 01 and of C-11, C-14 and
+//! C-17, with the Rust. `rules` reads each width code 7 itself, the Rust is given the 1 or 2 read
+//! for it. C-14: "Inputs with such a glyph leave the cell comparison with the crate, while composed
+//! lines remain in it." `rules` marks composed lines itself, the Rust's are given C-17's mark "by
+//! counting lines per input line".
 //!
 //! Usage: `crosscheck [SEED]`. Short texts are tried exhaustively, long texts and whole notices at
 //! random. Prints what was compared, what was skipped and why, and the smallest input of each kind
@@ -23,6 +24,7 @@ fn main() -> ExitCode {
     let mut random = Random::new(seed.unwrap_or(1));
     let mut report = Report::default();
     texts::exhaustive(&mut report);
+    texts::of_several_lines(&mut report);
     texts::at_random(&mut report, &mut random, 50_000);
     notices::at_random(&mut report, &mut random, 100_000);
     report.finish()

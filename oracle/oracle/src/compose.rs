@@ -1,5 +1,7 @@
 //! The composed lines of a text, pulled from the crate's `LineComposer`s.
 
+use std::slice;
+
 use ratatui_core::glyph::Glyph;
 use ratatui_core::layout::Alignment;
 use ratatui_core::style::Style;
@@ -10,12 +12,15 @@ use crate::outcome::{Outcome, ask};
 use crate::records::{HeadedLine, Records};
 use crate::settings::AmbiguousWidth;
 
-/// A composed line: the record numbers of its glyphs, and the width and alignment from the crate.
+/// A composed line: the record numbers of its glyphs, the width and alignment from the crate, and
+/// C-17's mark.
 #[derive(Debug, Clone, PartialEq, Eq)]
 pub struct ComposedLine {
     pub glyphs: Vec<u32>,
     pub width: u16,
     pub alignment: Alignment,
+    /// Whether it is the last composed line of its text line.
+    pub last: bool,
 }
 
 impl ComposedLine {
@@ -38,12 +43,19 @@ impl ComposedLine {
         }
     }
 
+    /// Returns the number of the mark: 1 on the last composed line of a text line, 0 on others.
+    pub fn mark_number(&self) -> u32 {
+        u32::from(self.last)
+    }
+
     /// "Composed line, 64 bits: first 15 | end 15 | width 16 | alignment 2 (resolved) | 16 zeros."
+    /// C-17: "The first of the 16 zero bits of a composed line becomes a mark."
     pub fn packed(&self) -> u64 {
         u64::from(self.first()) << 49
             | u64::from(self.end()) << 34
             | u64::from(self.width) << 18
             | u64::from(self.alignment_number()) << 16
+            | u64::from(self.mark_number()) << 15
     }
 }
 
@@ -66,8 +78,10 @@ pub fn wrapped(
 ) -> Outcome<Vec<ComposedLine>> {
     ask(|| {
         let lines = text.lines(None);
-        pulled(WordWrapper::new(styled(&lines, default_alignment), limit, trim))
+        let wrapper = |part| WordWrapper::new(styled(part, default_alignment), limit, trim);
+        (pulled(wrapper(&lines)), counts(&lines, wrapper))
     })
+    .map(marked)
 }
 
 /// Returns the truncated lines of a text, scrolled right by `column`: `LineTruncator::next_line`
@@ -90,10 +104,14 @@ pub fn truncated(
 ) -> Outcome<Vec<ComposedLine>> {
     ask(|| {
         let lines = text.lines(None);
-        let mut truncator = LineTruncator::new(styled(&lines, default_alignment), limit);
-        truncator.set_horizontal_offset(column);
-        pulled(truncator)
+        let truncator = |part| {
+            let mut truncator = LineTruncator::new(styled(part, default_alignment), limit);
+            truncator.set_horizontal_offset(column);
+            truncator
+        };
+        (pulled(truncator(&lines)), counts(&lines, truncator))
     })
+    .map(marked)
 }
 
 /// Returns what paragraph.rs passes to a composer: each line's glyphs and its resolved alignment.
@@ -108,6 +126,7 @@ fn styled<'a>(
     })
 }
 
+/// Returns the lines of a composer, none of them marked.
 fn pulled<'a>(mut composer: impl LineComposer<'a>) -> Vec<ComposedLine> {
     let mut lines = Vec::new();
     while let Some(line) = composer.next_line() {
@@ -116,7 +135,41 @@ fn pulled<'a>(mut composer: impl LineComposer<'a>) -> Vec<ComposedLine> {
             glyphs: shown.filter_map(Glyph::decode).map(|glyph| glyph.number).collect(),
             width: line.width,
             alignment: line.alignment,
+            last: false,
         });
+    }
+    lines
+}
+
+/// Returns how many composed lines each text line gives alone.
+fn counts<'a, C: LineComposer<'a>>(
+    lines: &'a [HeadedLine<'a>],
+    composer: impl Fn(&'a [HeadedLine<'a>]) -> C,
+) -> Vec<usize> {
+    let count = |line| {
+        let mut alone = composer(slice::from_ref(line));
+        let mut count = 0;
+        while alone.next_line().is_some() {
+            count += 1;
+        }
+        count
+    };
+    lines.iter().map(count).collect()
+}
+
+/// Marks the composed lines of a text, given how many belong to each text line. C-17: "The oracle's
+/// lists are given the mark by counting lines per input line." Counts that don't fit are an error
+/// here and no answer of the Rust, so nothing catches the panic.
+fn marked((mut lines, counts): (Vec<ComposedLine>, Vec<usize>)) -> Vec<ComposedLine> {
+    let counted: usize = counts.iter().sum();
+    assert_eq!(counted, lines.len(), "the text lines alone give as many lines as the whole text");
+    let mut rest = lines.as_mut_slice();
+    for count in counts {
+        let (own, others) = rest.split_at_mut(count);
+        if let Some(line) = own.last_mut() {
+            line.last = true;
+        }
+        rest = others;
     }
     lines
 }

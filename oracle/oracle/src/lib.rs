@@ -2,9 +2,10 @@
 //!
 //! Every function takes packed input as document 01 defines it, runs the unchanged Rust files over
 //! the stand-ins and packs their result. Where widths are read it also takes document 02's setting
-//! for width code 7, and gives the Rust the 1 or 2 read for it. The oracle has no refusals: its
-//! answers to inputs that document 01 refuses are meaningless. A panic of the Rust is an answer as
-//! well, [`Outcome::Panicked`].
+//! for width code 7, and gives the Rust the 1 or 2 read for it. Composed lines are given document
+//! 02's mark by counting the lines of each text line alone. The oracle has no refusals: its answers
+//! to inputs that document 01 refuses are meaningless. A panic of the Rust is an answer as well,
+//! [`Outcome::Panicked`].
 
 mod compose;
 mod draw;

@@ -5,11 +5,39 @@ use oracle::{Alignment, AmbiguousWidth, Tally, Wrap};
 use crate::place::{Place, places};
 use crate::{Glyph, Line, lines, width};
 
-/// A composed line.
+/// A composed line. C-17: "a mark: 1 on the last composed line of each text line, 0 on others".
 #[derive(Debug, PartialEq)]
 pub struct Composed {
     pub glyphs: Vec<Glyph>,
     pub alignment: Alignment,
+    pub mark: u64,
+}
+
+impl Composed {
+    /// Returns the entry: "first 15 | end 15 | width 16 | alignment 2 (resolved) | 16 zeros. First
+    /// and end are record numbers, end one past, both 0 where the line holds no glyph." C-17: "The
+    /// first of the 16 zero bits of a composed line becomes a mark."
+    pub fn entry(&self) -> u64 {
+        let [first, end] = match &self.glyphs[..] {
+            [] => [0, 0],
+            [only] => [only.number, only.number + 1],
+            [first, .., last] => [first.number, last.number + 1],
+        };
+        let alignment = match self.alignment {
+            Alignment::Left => 0,
+            Alignment::Center => 1,
+            Alignment::Right => 2,
+        };
+        let fields = [
+            (u64::from(first), 15),
+            (u64::from(end), 15),
+            (width(&self.glyphs) as u64, 16),
+            (alignment, 2),
+            (self.mark, 1),
+            (0, 15),
+        ];
+        fields.into_iter().fold(0, |entry, (field, bits)| entry * 2_u64.pow(bits) + field)
+    }
 }
 
 /// The composed lines of a text, and the glyphs that wrapping skips or drops.
@@ -38,10 +66,16 @@ pub fn compose(
             Wrap::On { trim } => wrapped(&line, limit, trim, &mut text),
             Wrap::Off { column } => vec![truncated(&line, limit, i64::from(column), alignment)],
         };
-        let aligned = composed.into_iter().map(|glyphs| Composed { glyphs, alignment });
-        text.lines.extend(aligned);
+        text.lines.extend(marked(composed, alignment));
     }
     text
+}
+
+/// Marks the last of the lines composed from one text line.
+fn marked(mut composed: Vec<Vec<Glyph>>, alignment: Alignment) -> Vec<Composed> {
+    let last = composed.pop().map(|glyphs| Composed { glyphs, alignment, mark: 1 });
+    let others = composed.into_iter().map(|glyphs| Composed { glyphs, alignment, mark: 0 });
+    others.chain(last).collect()
 }
 
 fn wrapped(line: &Line, limit: i64, trim: bool, text: &mut Text) -> Vec<Vec<Glyph>> {

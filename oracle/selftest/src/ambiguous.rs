@@ -48,7 +48,7 @@ fn entries(report: &mut Report) {
     let packed = |lines: Vec<ComposedLine>| lines.iter().map(ComposedLine::packed).collect();
     for (ambiguous, width) in [(Narrow, 1), (Wide, 0)] {
         let got = wrapped_lines(&line(0, "ZAZ"), ambiguous, Alignment::Left, 1, true).map(packed);
-        let expected = vec![1 << 49 | 4 << 34 | width << 18];
+        let expected = vec![1 << 49 | 4 << 34 | width << 18 | 1 << 15];
         let name = format!("entry of \"ZAZ\" limit 1, {ambiguous:?}");
         report.same(&name, Outcome::Value(expected), got);
     }

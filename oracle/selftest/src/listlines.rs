@@ -1,5 +1,5 @@
-//! Document 01's example of the program `listlines`, to the byte, and one with ambiguous glyphs:
-//! "`listlines` reads narrow."
+//! Document 01's example of the program `listlines`, to the byte, with C-17's fifth field, one with
+//! ambiguous glyphs ("`listlines` reads narrow") and some of several text lines.
 
 use std::fmt::Write;
 
@@ -9,14 +9,20 @@ use crate::notation::line;
 use crate::report::Report;
 
 pub fn run(report: &mut Report) {
-    let examples =
-        [("___abc", 5, "0 0 0 0\n4 7 3 0\nlines 2\n"), ("AbA", 2, "1 3 2 0\n3 4 1 0\nlines 2\n")];
+    let examples: [(&[&str], _, _); 6] = [
+        (&["___abc"], 5, "0 0 0 0 0\n4 7 3 0 1\nlines 2\n"),
+        (&["AbA"], 2, "1 3 2 0 0\n3 4 1 0 1\nlines 2\n"),
+        (&["abc__"], 3, "1 4 3 0 0\n0 0 0 0 1\nlines 2\n"),
+        (&["ab_c", "", "d"], 2, "1 3 2 0 0\n4 5 1 0 1\n0 0 0 0 1\n7 8 1 0 1\nlines 4\n"),
+        (&["abc", ""], 0, "lines 0\n"),
+        (&[], 3, "lines 0\n"),
+    ];
     for (letters, limit, expected) in examples {
         let mut input = vec![0, limit, 1];
-        for record in line(0, letters) {
+        for record in letters.iter().flat_map(|letters| line(0, letters)) {
             input.extend(record.to_be_bytes());
         }
-        let name = format!("listlines of {letters:?}");
+        let name = format!("listlines of {letters:?} limit {limit}");
         report.same(&name, Outcome::Value(expected.to_owned()), listed(&input));
     }
 }
@@ -32,8 +38,9 @@ fn listed(input: &[u8]) -> Outcome<String> {
     wrapped_lines(&text, AmbiguousWidth::Narrow, Alignment::Left, limit, trim).map(|lines| {
         let mut output = String::new();
         for line in &lines {
-            let (first, end, alignment) = (line.first(), line.end(), line.alignment_number());
-            writeln!(output, "{first} {end} {} {alignment}", line.width).expect("a string");
+            let (first, end, width) = (line.first(), line.end(), line.width);
+            let (alignment, mark) = (line.alignment_number(), line.mark_number());
+            writeln!(output, "{first} {end} {width} {alignment} {mark}").expect("a string");
         }
         writeln!(output, "lines {}", lines.len()).expect("a string");
         output

@@ -1,5 +1,5 @@
-//! Checks the oracle on the worked examples of document 01, and of C-11 and C-14 in document 02;
-//! on those of C-14 the crate `rules` too.
+//! Checks the oracle on the worked examples of document 01, and of C-11, C-14 and C-17 in document
+//! 02; on those of C-14 and C-17 the crate `rules` too.
 //!
 //! Prints `ok NAME` or `FAILED NAME: expected .. got ..` for each, then `N passed, M failed`; the
 //! exit status is 1 if one failed.
@@ -8,6 +8,7 @@ mod ambiguous;
 mod frame;
 mod halved;
 mod listlines;
+mod marks;
 mod notation;
 mod notices;
 mod report;
@@ -28,5 +29,6 @@ fn main() -> ExitCode {
     listlines::run(&mut report);
     ambiguous::run(&mut report);
     halved::run(&mut report);
+    marks::run(&mut report);
     report.finish()
 }

@@ -42,21 +42,21 @@ fn wrapped_examples(report: &mut Report) {
     report.same("limit 0 gives no line", Outcome::Value(vec![]), none);
 }
 
-/// First, end, width and alignment, and the packed entry.
+/// The packed entries: first, end, width, alignment and C-17's mark.
 fn entries(report: &mut Report) {
     let packed = |lines: Vec<ComposedLine>| lines.iter().map(ComposedLine::packed).collect();
     let text = line(0, "___abc");
     let got = wrapped_lines(&text, Narrow, Alignment::Left, 5, true).map(packed);
-    let expected = vec![0, 4 << 49 | 7 << 34 | 3 << 18];
+    let expected = vec![0, 4 << 49 | 7 << 34 | 3 << 18 | 1 << 15];
     report.same("entries of \"___abc\"", Outcome::Value(expected), got);
 
     let got = wrapped_lines(&line(0, "abW"), Narrow, Alignment::Left, 3, true).map(packed);
-    let expected = vec![1 << 49 | 4 << 34 | 4 << 18];
+    let expected = vec![1 << 49 | 4 << 34 | 4 << 18 | 1 << 15];
     report.same("entry of \"abW\" has width 4", Outcome::Value(expected), got);
 
     let two_lines = [line(3, "a"), line(1, "")].concat();
     let got = wrapped_lines(&two_lines, Narrow, Alignment::Right, 3, true).map(packed);
-    let expected = vec![1 << 49 | 2 << 34 | 1 << 18 | 2 << 16, 1 << 16];
+    let expected = vec![1 << 49 | 2 << 34 | 1 << 18 | 2 << 16 | 1 << 15, 1 << 16 | 1 << 15];
     report.same("alignments are resolved", Outcome::Value(expected), got);
 }
 

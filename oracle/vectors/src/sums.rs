@@ -30,7 +30,7 @@ pub fn sum_counts(tally: Tally) -> u32 {
     sum_numbers([lines, placed, clipped, zero_width, over_wide, dropped])
 }
 
-/// Returns the checksum of composed lines: of the four fields of each, then of their count.
+/// Returns the checksum of composed lines: of first, end, width and alignment of each, then of their count.
 pub fn sum_lines(lines: &[ComposedLine]) -> u32 {
     let fields = lines.iter().flat_map(|line| {
         [line.first(), line.end(), u32::from(line.width), line.alignment_number()]

@@ -1,6 +1,6 @@
 -- `list_lines::list_lines` meets its contract.
 use Rattle.refuse.proofs.Accepted.{lines-sound, lines-limit}
-use Rattle.list_lines.specs.Call.{linesOf}
+use Rattle.list_lines.specs.Call.{linesOf, markedLinesOf}
 use Rattle.list_lines.proofs.Answers.{list-refused, list-short, list-room, list-written}
 use native.Mathlib.Omega.{arith}
 use borrow.Author.Needs.{needs}
@@ -43,7 +43,7 @@ same-length : tie.Need-same-length
 same-length c = search needs
 
 returns-3 : tie.Need-returns-3
-unfolding linesOf
+unfolding linesOf markedLinesOf
 returns-3 c =
     list-written _ _ (c .before .before .before .before .before .before .before .before .before .line-verdict .ensures) (search needs) _ (c .before .before .before .before .before .before .count-lines .ensures) _ (c .before .before .before .before .before .list-too-short .ensures) (c .before .before .before .before .if1 .left) _ (c .before .before .write-lines .ensures)
 
