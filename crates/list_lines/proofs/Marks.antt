@@ -13,15 +13,13 @@ use Rattle.text.proofs.Bools.{cond-cases}
 use Rattle.refuse.specs.declared.Verdict.{Verdict}
 use Rattle.refuse.specs.declared.Verdict.the-variants.{Accepted, Refused}
 use Rattle.refuse.specs.Refusal.{unlessRefused}
-use Rattle.wrapping.specs.declared.Rule.{Rule}
-use Rattle.wrapping.specs.Rule.{ruleOf}
 use Rattle.line_composer.specs.declared.Method.the-variants.{WordWrap}
 use Rattle.line_composer.specs.Lines.{Line, wrappedLineOf, lines}
 use Rattle.line_composer.specs.Marks.{MarkedLine, withMark, marked, allMarked, markedLines}
 use Rattle.line_composer.proofs.Marks.{withoutMarks, marked-kept, no-lines, some-lines}
 use Rattle.entry.specs.Entry.{entryOf, listed, unmarked}
 use Rattle.entry.proofs.Fields.{entry-mark, entry-unmarked}
-use Rattle.list_lines.specs.Call.{Call, linesOf, markedLinesOf, verdictOf, listAfter}
+use Rattle.list_lines.specs.Call.{Call, ruleFor, linesOf, markedLinesOf, verdictOf, listAfter}
 use Rattle.list_lines.specs.Marks.{entriesOf, textLines, composedOf, owned, isMarked, markedEntries, lastOf, lastEntry, OneMarkEach}
 use Rattle.list_lines.proofs.Answers.{list-accepted}
 use Rattle.list_lines.proofs.ReadsBack.{lines-without-marks, marked-length}
@@ -55,19 +53,16 @@ one-marked none line [] = rw (last-is-marked line)
 one-marked none line (next ∷ rest) = rw (other-is-unmarked line) (one-marked line next rest)
 
 module _ (call : Call) (some : 1 ≤ call .limit) (none : Line) where
-  abbrev rule : Rule
-  rule = ruleOf (call .ambiguous) (call .limit) (call .trim)
-
   -- the entries of a text line, and of the text lines after it
   abbrev own : TextLine → List ℕ
   own l = map listed (marked (composedOf call l))
 
   abbrev later : List TextLine → List ℕ
-  later ls = map listed (allMarked rule WordWrap (call .defaultAlignment) ls)
+  later ls = map listed (allMarked (ruleFor call) WordWrap (call .defaultAlignment) ls)
 
   own-then-later : (l : TextLine) (ls : List TextLine) → later (l ∷ ls) ≡ own l ++ later ls
   unfolding composedOf
-  own-then-later l ls = map-append listed (marked (composedOf call l)) (allMarked rule WordWrap (call .defaultAlignment) ls)
+  own-then-later l ls = map-append listed (marked (composedOf call l)) (allMarked (ruleFor call) WordWrap (call .defaultAlignment) ls)
 
   own-length : (l : TextLine) → length (own l) ≡ length (composedOf call l)
   own-length l =
@@ -77,7 +72,7 @@ module _ (call : Call) (some : 1 ≤ call .limit) (none : Line) where
 
   own-marked : (l : TextLine) → markedEntries (own l) ≡ lastEntry call none l ∷ []
   unfolding composedOf lastEntry
-  own-marked l = go (composedOf call l) (some-lines rule (call .defaultAlignment) some l)
+  own-marked l = go (composedOf call l) (some-lines (ruleFor call) (call .defaultAlignment) some l)
     where
       go : (ls : List Line) → 1 ≤ length ls → markedEntries (map listed (marked ls)) ≡ listed (withMark (lastOf none ls) true) ∷ []
       go [] h = absurd (omega arith)
@@ -116,7 +111,7 @@ kept-either-way (Refused why) list = refl
 pub none-at-zero : (call : Call) → call .limit ≡ 0 → (linesOf call ≡ []) × (listAfter call ≡ call .list)
 unfolding linesOf markedLinesOf listAfter
 none-at-zero call e =
-    let u = ruleOf (call .ambiguous) (call .limit) (call .trim) in
+    let u = ruleFor call in
     let none : lines u WordWrap (call .defaultAlignment) (call .text) ≡ [] = no-lines u (call .defaultAlignment) e (call .text) in
     let bare-none : length (markedLines u WordWrap (call .defaultAlignment) (call .text)) ≡ 0 = marked-length call ∙ ap length none in
     (none, rw (none, nil-of (markedLines u WordWrap (call .defaultAlignment) (call .text)) bare-none) (kept-either-way (verdictOf call) (call .list)))

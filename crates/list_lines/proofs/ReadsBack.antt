@@ -3,7 +3,7 @@
 use Prim.Native.Nat.{ℕ, zero, suc, _+_, _-_, _^_, _<_, _≤_, min}
 use mathlib.Core.Path.{_≡_, refl, sym, ap, _∙_}
 use mathlib.Core.Bool.{false}
-use mathlib.Core.List.{List, [], _∷_, _++_, map}
+use mathlib.Core.List.{List, [], _∷_, map}
 use native.Mathlib.Omega.{arith}
 use lib.ListN.{length, getD, take, drop, length-take, length-drop, length-map, List·getD-append, List·getD-map}
 use lib.Seq.{slice}
@@ -16,7 +16,6 @@ use Rattle.refuse.specs.Causes.{mostAccepted, textCauses, lineCauses}
 use Rattle.refuse.proofs.Accepted.{text-short, limit-low}
 use Rattle.refuse.proofs.Calls.{no-cause}
 use Rattle.wrapping.specs.declared.Rule.{Rule}
-use Rattle.wrapping.specs.Rule.{ruleOf}
 use Rattle.wrapping.specs.Wrapping.{overWide, notOverWide}
 use Rattle.line_composer.specs.declared.Method.the-variants.{WordWrap}
 use Rattle.line_composer.specs.Lines.{Line, firstOf, endOf, wrappedLineOf, lineAt}
@@ -26,7 +25,7 @@ use Rattle.line_composer.proofs.Bounds.{Narrow, narrow-lines}
 use Rattle.line_composer.proofs.ReadBack.{ReadBack, read-back}
 use Rattle.entry.specs.Entry.{markNumber, entryMarked, listed, entryFirst, entryEnd, entryWidth, entryAlignment, entryMark}
 use Rattle.entry.proofs.Fields.{entry-fields, entry-mark}
-use Rattle.list_lines.specs.Call.{Call, linesOf, markedLinesOf, causesOf, verdictOf, listAfter}
+use Rattle.list_lines.specs.Call.{Call, ruleFor, linesOf, markedLinesOf, causesOf, verdictOf, listAfter}
 use Rattle.list_lines.proofs.Answers.{list-accepted}
 
 -- what holds of every line, at an index
@@ -78,7 +77,7 @@ end-in-text u text line e =
 -- the lines without their marks
 pub lines-without-marks : (call : Call) → withoutMarks (markedLinesOf call) ≡ linesOf call
 unfolding linesOf markedLinesOf
-lines-without-marks call = lines-kept (ruleOf (call .ambiguous) (call .limit) (call .trim)) WordWrap (call .defaultAlignment) (call .text)
+lines-without-marks call = lines-kept (ruleFor call) WordWrap (call .defaultAlignment) (call .text)
 
 pub marked-length : (call : Call) → length (markedLinesOf call) ≡ length (linesOf call)
 marked-length call = sym (length-map (markedLinesOf call) (λ (m : MarkedLine). m .line)) ∙ ap length (lines-without-marks call)
@@ -114,14 +113,14 @@ module _ (call : Call) (a : verdictOf call ≡ Accepted) where
     end-fits : endOf (line .glyphs) < 2 ^ 15
     unfolding linesOf
     end-fits =
-        let u = ruleOf (call .ambiguous) (call .limit) (call .trim) in
+        let u = ruleFor call in
         let text = call .text in
         omega (arith, short, end-in-text u text line (back-at u text (linesOf call) i (none .line) h (read-back u WordWrap (call .defaultAlignment) text)))
 
     width-fits : total (line .glyphs) < 2 ^ 16
     unfolding linesOf
     width-fits =
-        let u = ruleOf (call .ambiguous) (call .limit) (call .trim) in
+        let u = ruleFor call in
         omega (arith, low, narrow-at (call .limit + 11) (linesOf call) i (none .line) h (narrow-lines u (call .defaultAlignment) (call .text)))
 
     entry-is : getD (listAfter call) i 0 ≡ entryMarked (wrappedLineOf line) (markedLine .mark)

@@ -11,6 +11,7 @@ use Rattle.refuse.specs.declared.Refusal.the-variants.{ListLength}
 use Rattle.refuse.specs.declared.Verdict.{Verdict}
 use Rattle.refuse.specs.Refusal.{Cause, _if_, firstCause, refusalNumber, answering, unlessRefused}
 use Rattle.refuse.specs.Causes.{mostAccepted, lineCauses, listTooShort}
+use Rattle.wrapping.specs.declared.Rule.{Rule}
 use Rattle.wrapping.specs.Rule.{ruleOf}
 use Rattle.line_composer.specs.declared.Method.the-variants.{WordWrap}
 use Rattle.line_composer.specs.Lines.{Line, lines}
@@ -33,12 +34,15 @@ callOf text ambiguous default limit trim list =
     record { text = text; ambiguous = ambiguous; defaultAlignment = default; limit = limit; trim = trim; list = list }
 
 -- the lines to write
+abbrev pub ruleFor : Call → Rule
+ruleFor call = ruleOf (call .ambiguous) (call .limit) (call .trim)
+
 unfoldable pub linesOf : Call → List Line
-linesOf call = lines (ruleOf (call .ambiguous) (call .limit) (call .trim)) WordWrap (call .defaultAlignment) (call .text)
+linesOf call = lines (ruleFor call) WordWrap (call .defaultAlignment) (call .text)
 
 -- each with its mark
 unfoldable pub markedLinesOf : Call → List MarkedLine
-markedLinesOf call = markedLines (ruleOf (call .ambiguous) (call .limit) (call .trim)) WordWrap (call .defaultAlignment) (call .text)
+markedLinesOf call = markedLines (ruleFor call) WordWrap (call .defaultAlignment) (call .text)
 
 -- causes 3, 4, 8, 9
 unfoldable pub causesOf : Ceilings → Call → List Cause

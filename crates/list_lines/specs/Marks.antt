@@ -3,16 +3,15 @@
 use Prim.Native.Nat.{ℕ}
 use mathlib.Core.Path.{_≡_}
 use mathlib.Core.Bool.{Bool, true, cond}
-use mathlib.Core.List.{List, [], _∷_, _++_, map}
+use mathlib.Core.List.{List, [], _∷_, map}
 use lib.Dec.{eqb}
 use lib.ListN.{length, take, drop}
 use Rattle.text.specs.Line.{TextLine, linesFrom}
-use Rattle.wrapping.specs.Rule.{ruleOf}
 use Rattle.line_composer.specs.declared.Method.the-variants.{WordWrap}
 use Rattle.line_composer.specs.Lines.{Line, lineLines}
 use Rattle.line_composer.specs.Marks.{withMark}
 use Rattle.entry.specs.Entry.{listed, entryMark}
-use Rattle.list_lines.specs.Call.{Call, linesOf, listAfter}
+use Rattle.list_lines.specs.Call.{Call, ruleFor, linesOf, listAfter}
 
 -- the entries that an accepted call writes
 unfoldable pub entriesOf : Call → List ℕ
@@ -23,7 +22,7 @@ abbrev pub textLines : Call → List TextLine
 textLines call = linesFrom 0 (call .text)
 
 unfoldable pub composedOf : Call → TextLine → List Line
-composedOf call line = lineLines (ruleOf (call .ambiguous) (call .limit) (call .trim)) WordWrap (call .defaultAlignment) line
+composedOf call line = lineLines (ruleFor call) WordWrap (call .defaultAlignment) line
 
 -- entries cut by text lines: each text line owns as many as it has composed lines
 abbrev pub owned : Call → List TextLine → List ℕ → List (List ℕ)
