@@ -204,7 +204,8 @@ static inline uint8_t notice_cell_background(uint64_t cell) { return (uint8_t)(c
 static inline uint16_t notice_cell_modifiers(uint64_t cell) { return (uint16_t)(cell >> 18 & 511); }
 
 /* Fields of a list's entry, a composed line. The mark is 1 on the last composed line of each text line, 0 on
-   others; the 15 bits below it are 0. */
+   others, so there are as many marks as text lines; the 15 bits below it are 0. A marked line may hold no glyph:
+   abc and two blanks, wrapped at 3 and trimmed, are two lines, and the second, empty, is marked. */
 
 static inline uint16_t notice_entry_first(uint64_t entry) { return (uint16_t)(entry >> 49); }
 static inline uint16_t notice_entry_end(uint64_t entry) { return (uint16_t)(entry >> 34 & 0x7FFF); }

@@ -63,7 +63,7 @@ pub record Opened (u : Rule) (method : Method) (default : Alignment) (text : Lis
   pub to : c .to ≡ at + 1 + length (untilHead (drop (at + 1) text))
   pub alignment : c .alignment ≡ resolved (alignmentOf (getD text at 0)) default
 
--- the state c is at the start of the text. No line was returned: one before it would be the last of a text line without other lines.
+-- the state c is at the start of the text; a line before it, if there were one, would be the last of its text line
 pub record Started (u : Rule) (method : Method) (text : List ℕ) (c : LineComposer) : Type 0 where
   pub ready : Ready u text c
   pub lines-left : (default : Alignment) → linesLeft u default text c ≡ lines u method default text

@@ -1,15 +1,16 @@
 -- Theorem `one-mark-each`: at limit 1 or more, of the entries of an accepted list call each text line owns exactly one that is marked,
--- that of its last composed line. `none-at-zero`: at limit 0 there is no line, and the list is kept. `marks-aside`: with mark 0 each entry
+-- its last. `none-at-zero`: at limit 0 there is no line, and the list is kept. `marks-aside`: with mark 0 each entry
 -- is document 01's.
 use Prim.Native.Nat.{ℕ, _≤_}
 use mathlib.Core.Path.{_≡_, refl, sym, ap, _∙_}
-use mathlib.Core.Bool.{true, false}
+use mathlib.Core.Bool.{Bool, true, false}
 use mathlib.Core.List.{List, [], _∷_, _++_, map, map-append}
 use native.Mathlib.Omega.{arith}
 use lib.ListN.{length, take, drop, length-map}
 use lib.Seq.{take-at, drop-at}
 use Rattle.text.specs.Line.{TextLine}
-use Rattle.text.proofs.Bools.{cond-cases}
+use Rattle.text.specs.Lists.{countOf}
+use Rattle.text.proofs.Lists.{count-append}
 use Rattle.refuse.specs.declared.Verdict.{Verdict}
 use Rattle.refuse.specs.declared.Verdict.the-variants.{Accepted, Refused}
 use Rattle.refuse.specs.Refusal.{unlessRefused}
@@ -17,10 +18,10 @@ use Rattle.line_composer.specs.declared.Method.the-variants.{WordWrap}
 use Rattle.line_composer.specs.Lines.{Line, wrappedLineOf, lines}
 use Rattle.line_composer.specs.Marks.{MarkedLine, withMark, marked, allMarked, markedLines}
 use Rattle.line_composer.proofs.Marks.{withoutMarks, marked-kept, no-lines, some-lines}
-use Rattle.entry.specs.Entry.{entryOf, listed, unmarked}
+use Rattle.entry.specs.Entry.{entryOf, listed, entryMark, unmarked}
 use Rattle.entry.proofs.Fields.{entry-mark, entry-unmarked}
 use Rattle.list_lines.specs.Call.{Call, ruleFor, linesOf, markedLinesOf, verdictOf, listAfter}
-use Rattle.list_lines.specs.Marks.{entriesOf, textLines, composedOf, owned, isMarked, markedEntries, lastOf, lastEntry, OneMarkEach}
+use Rattle.list_lines.specs.Marks.{entriesOf, textLines, composedOf, owned, isMarked, lastOnly, OneMarkEach}
 use Rattle.list_lines.proofs.Answers.{list-accepted}
 use Rattle.list_lines.proofs.ReadsBack.{lines-without-marks, marked-length}
 
@@ -33,36 +34,34 @@ entries-are call a =
 
 -- ---- one mark for each text line
 
-last-is-marked : (line : Line) → isMarked (listed (withMark line true)) ≡ true
+mark-told : (line : Line) (mark : Bool) → isMarked (listed (withMark line mark)) ≡ mark
 unfolding listed
-last-is-marked line = rw (entry-mark (wrappedLineOf line) true)
+mark-told line true = rw (entry-mark (wrappedLineOf line) true)
+mark-told line false = rw (entry-mark (wrappedLineOf line) false)
 
-other-is-unmarked : (line : Line) → isMarked (listed (withMark line false)) ≡ false
+-- of the lines of one text line the last is marked, and no other
+last-of-line : (ls : List Line) → map entryMark (map listed (marked ls)) ≡ lastOnly (length ls)
 unfolding listed
-other-is-unmarked line = rw (entry-mark (wrappedLineOf line) false)
+last-of-line [] = refl
+last-of-line (line ∷ []) = rw (entry-mark (wrappedLineOf line) true)
+last-of-line (line ∷ next ∷ rest) = rw (entry-mark (wrappedLineOf line) false) (ap {B = List ℕ} (_∷_ 0) (last-of-line (next ∷ rest)))
 
-marked-append : (a b : List ℕ) → markedEntries (a ++ b) ≡ markedEntries a ++ markedEntries b
-marked-append [] b = refl
-marked-append (e ∷ a) b =
-    cond-cases (λ (l : List ℕ). l ≡ markedEntries (e ∷ a) ++ markedEntries b) (isMarked e) _ _
-    (λ t. rw (t, marked-append a b)) (λ f. rw (f, marked-append a b))
+one-of-line : (ls : List Line) → 1 ≤ length ls → countOf isMarked (map listed (marked ls)) ≡ 1
+one-of-line [] h = absurd (omega arith)
+one-of-line (line ∷ []) h = rw (mark-told line true) (omega arith)
+one-of-line (line ∷ next ∷ rest) h = rw (mark-told line false) (omega (arith, one-of-line (next ∷ rest) (omega arith)))
 
--- of the lines of one text line the last is marked
-one-marked : (none line : Line) (rest : List Line) → markedEntries (map listed (marked (line ∷ rest))) ≡ listed (withMark (lastOf none (line ∷ rest)) true) ∷ []
-one-marked none line [] = rw (last-is-marked line)
-one-marked none line (next ∷ rest) = rw (other-is-unmarked line) (one-marked line next rest)
-
-module _ (call : Call) (some : 1 ≤ call .limit) (none : Line) where
-  -- the entries of a text line, and of the text lines after it
+module _ (call : Call) where
+  -- the entries of a text line, and of several
   abbrev own : TextLine → List ℕ
   own l = map listed (marked (composedOf call l))
 
-  abbrev later : List TextLine → List ℕ
-  later ls = map listed (allMarked (ruleFor call) WordWrap (call .defaultAlignment) ls)
+  abbrev all : List TextLine → List ℕ
+  all ls = map listed (allMarked (ruleFor call) WordWrap (call .defaultAlignment) ls)
 
-  own-then-later : (l : TextLine) (ls : List TextLine) → later (l ∷ ls) ≡ own l ++ later ls
+  own-then-all : (l : TextLine) (ls : List TextLine) → all (l ∷ ls) ≡ own l ++ all ls
   unfolding composedOf
-  own-then-later l ls = map-append listed (marked (composedOf call l)) (allMarked (ruleFor call) WordWrap (call .defaultAlignment) ls)
+  own-then-all l ls = map-append listed (marked (composedOf call l)) (allMarked (ruleFor call) WordWrap (call .defaultAlignment) ls)
 
   own-length : (l : TextLine) → length (own l) ≡ length (composedOf call l)
   own-length l =
@@ -70,37 +69,41 @@ module _ (call : Call) (some : 1 ≤ call .limit) (none : Line) where
       ∙ sym (length-map (marked (composedOf call l)) (λ (m : MarkedLine). m .line))
       ∙ ap length (marked-kept (composedOf call l))
 
-  own-marked : (l : TextLine) → markedEntries (own l) ≡ lastEntry call none l ∷ []
-  unfolding composedOf lastEntry
-  own-marked l = go (composedOf call l) (some-lines (ruleFor call) (call .defaultAlignment) some l)
-    where
-      go : (ls : List Line) → 1 ≤ length ls → markedEntries (map listed (marked ls)) ≡ listed (withMark (lastOf none ls) true) ∷ []
-      go [] h = absurd (omega arith)
-      go (line ∷ rest) h = one-marked none line rest
+  owned-is : (ls : List TextLine) → owned call ls (all ls) ≡ map own ls
+  owned-is [] = refl
+  owned-is (l ∷ ls) =
+      let n = length (composedOf call l) in
+      let t : take n (all (l ∷ ls)) ≡ own l = ap (take n) (own-then-all l ls) ∙ take-at (own l) (all ls) n (own-length l) in
+      let d : drop n (all (l ∷ ls)) ≡ all ls = ap (drop n) (own-then-all l ls) ∙ drop-at (own l) (all ls) n (own-length l) in
+      rw (t, d, owned-is ls)
 
-  each-owned : (ls : List TextLine) → map markedEntries (owned call ls (later ls)) ≡ map (λ (l : TextLine). lastEntry call none l ∷ []) ls
-  each-owned [] = refl
-  each-owned (l ∷ ls) =
-      let t : take (length (composedOf call l)) (later (l ∷ ls)) ≡ own l =
-      ap (take (length (composedOf call l))) (own-then-later l ls) ∙ take-at (own l) (later ls) (length (composedOf call l)) (own-length l) in
-      let d : drop (length (composedOf call l)) (later (l ∷ ls)) ≡ later ls =
-      ap (drop (length (composedOf call l))) (own-then-later l ls) ∙ drop-at (own l) (later ls) (length (composedOf call l)) (own-length l) in
-      rw (t, d, own-marked l, each-owned ls)
+  last-each-of : (ls : List TextLine) → map (map entryMark) (map own ls) ≡ map (λ (l : TextLine). lastOnly (length (composedOf call l))) ls
+  last-each-of [] = refl
+  last-each-of (l ∷ ls) = rw (last-of-line (composedOf call l), last-each-of ls)
 
-  all-marked : (ls : List TextLine) → markedEntries (later ls) ≡ map (lastEntry call none) ls
-  all-marked [] = refl
-  all-marked (l ∷ ls) =
-      ap markedEntries (own-then-later l ls) ∙ marked-append (own l) (later ls) ∙ rw (own-marked l, all-marked ls)
+  module _ (some : 1 ≤ call .limit) where
+    one-of : (l : TextLine) → countOf isMarked (own l) ≡ 1
+    unfolding composedOf
+    one-of l = one-of-line (composedOf call l) (some-lines (ruleFor call) (call .defaultAlignment) some l)
 
-  pub one-mark-each : verdictOf call ≡ Accepted → OneMarkEach call none
-  unfolding markedLinesOf markedLines
-  one-mark-each a =
-      let all : markedEntries (entriesOf call) ≡ map (lastEntry call none) (textLines call) = ap markedEntries (entries-are call a) ∙ all-marked (textLines call) in
-      record {
-        one-each = ap (λ (es : List ℕ). map markedEntries (owned call (textLines call) es)) (entries-are call a) ∙ each-owned (textLines call);
-        in-order = all;
-        as-many = ap length all ∙ length-map (textLines call) (lastEntry call none);
-      }
+    one-each-of : (ls : List TextLine) → map (countOf isMarked) (map own ls) ≡ map (λ (l : TextLine). 1) ls
+    one-each-of [] = refl
+    one-each-of (l ∷ ls) = rw (one-of l, one-each-of ls)
+
+    as-many-of : (ls : List TextLine) → countOf isMarked (all ls) ≡ length ls
+    as-many-of [] = refl
+    as-many-of (l ∷ ls) = ap (countOf isMarked) (own-then-all l ls) ∙ count-append isMarked (own l) (all ls) ∙ omega (arith, one-of l, as-many-of ls)
+
+    pub one-mark-each : verdictOf call ≡ Accepted → OneMarkEach call
+    unfolding markedLinesOf markedLines
+    one-mark-each a =
+        let e : entriesOf call ≡ all (textLines call) = entries-are call a in
+        let o : owned call (textLines call) (entriesOf call) ≡ map own (textLines call) = ap (owned call (textLines call)) e ∙ owned-is (textLines call) in
+        record {
+          one-each = ap (map (countOf isMarked)) o ∙ one-each-of (textLines call);
+          last-each = ap (map (map entryMark)) o ∙ last-each-of (textLines call);
+          as-many = ap (countOf isMarked) e ∙ as-many-of (textLines call);
+        }
 
 -- ---- limit 0
 

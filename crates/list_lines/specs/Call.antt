@@ -33,10 +33,11 @@ abbrev pub callOf : List ℕ → AmbiguousWidth → Alignment → ℕ → Bool �
 callOf text ambiguous default limit trim list =
     record { text = text; ambiguous = ambiguous; defaultAlignment = default; limit = limit; trim = trim; list = list }
 
--- the lines to write
+-- the rule that the text is wrapped by
 abbrev pub ruleFor : Call → Rule
 ruleFor call = ruleOf (call .ambiguous) (call .limit) (call .trim)
 
+-- the lines to write
 unfoldable pub linesOf : Call → List Line
 linesOf call = lines (ruleFor call) WordWrap (call .defaultAlignment) (call .text)
 
