@@ -57,10 +57,15 @@ static void draw_block(void) {
                                block);
 }
 
-static void draw_notice(void) {
+static void draw_frame(void) {
     AT_CALL();
-    number = notice_draw_notice(COLUMNS, ROWS, cells, CELLS, styles, 1, text, text_len, titles, titles_len, area,
-                                block, settings).number;
+    number = notice_draw_frame(COLUMNS, ROWS, cells, CELLS, styles, 1, titles, titles_len, settings.ambiguous, area,
+                               settings.style, block).number;
+}
+
+static void draw_text(void) {
+    AT_CALL();
+    number = notice_draw_text(COLUMNS, ROWS, cells, CELLS, styles, 1, text, text_len, area, settings).number;
 }
 
 static void pages(void) {
@@ -83,9 +88,9 @@ static const struct {
     const char *name;
     void (*make)(void);
 } CALLS[] = {
-    {"notice_draw_block", draw_block}, {"notice_draw_notice", draw_notice}, {"notice_inner", inner},
-    {"notice_line_count", line_count}, {"notice_line_width", line_width},   {"notice_list_lines", list_lines},
-    {"notice_pages", pages},           {"notice_tally", tally},
+    {"notice_draw_block", draw_block}, {"notice_draw_frame", draw_frame}, {"notice_draw_text", draw_text},
+    {"notice_inner", inner},           {"notice_line_count", line_count}, {"notice_line_width", line_width},
+    {"notice_list_lines", list_lines}, {"notice_pages", pages},           {"notice_tally", tally},
 };
 
 /* Makes a call on the painted stack and returns how far below the caller's stack pointer it wrote. */

@@ -15,16 +15,16 @@
      style, 64 bits          foreground given 1 | foreground 8 | background given 1 | background 8 |
                              add 9 | remove 9 | zeros 28
      cell, 64 bits           symbol 21 | foreground 8 | background 8 | modifiers 9 | never touched 18
-     composed line, 64 bits  first 15 | end 15 | width 16 | alignment 2 | zeros 16
+     composed line, 64 bits  first 15 | end 15 | width 16 | alignment 2 | mark 1 | zeros 15
 
    - Glyph: a symbol is any number below 2,097,152, read as a code point; 32 is the blank symbol. Width is
      in columns, 0 to 6; 7 is ambiguous (Unicode UAX 11): each call that reads widths takes a
      notice_ambiguous, by which it is read as 1 or 2. Drawing writes the symbol to the first cell and leaves
-     the symbols of the others that the glyph covers; those of a text's glyph are all in the inner area. A glyph
-     of the text that starts in the inner area and would run past its right edge is clipped: its first cell gets
-     the blank symbol, in the text's and the glyph's styles, and no other cell changes. One that starts at the edge
-     or past it is clipped too, and changes no cell. Glyphs of width 0 aren't drawn. Lines break at glyphs with
-     whitespace 1, whatever their symbols.
+     the symbols of the others that the glyph covers; those of a text's glyph are all in its area, as far as that is
+     on the screen. A glyph of the text that starts there and would run past the right edge is clipped: its first
+     cell gets the blank symbol, in the text's and the glyph's styles, and no other cell changes. One that starts
+     at the edge or past it is clipped too, and changes no cell. Glyphs of width 0 aren't drawn. Lines break at
+     glyphs with whitespace 1, whatever their symbols.
    - Head: alignment is a notice_alignment, where 3 is the default alignment in a text, and "none given" in
      a title. Position is 0 in a text, and a notice_position in a title.
    - Style: sets the given colours, then sets the modifiers to add, then clears those to remove. Colours and
@@ -35,12 +35,24 @@
      that are read as no wider than the limit; their width can exceed the limit, and those that run past it are
      clipped. Alignment is a notice_alignment other than default.
 
+   A notice is drawn by two calls: first notice_draw_frame, which draws its frame and returns the inner area, then
+   notice_draw_text, which lays its text into that area. Give both the same cells, style table, `style` and
+   `ambiguous`. Look at the frame's number before the text's: a refused frame returns an area of four zeros, and a
+   text that is laid into an area without a cell is accepted and draws nothing. A frame drawn after its text gives
+   the text's cells its styles again.
+
+   To redraw a word, call notice_draw_text with the word's own area: it changes no cell outside it, and takes time
+   for the word alone, whatever the screen and the frame. Cells without a glyph keep their symbols, so a shorter word
+   needs blanks up to the length of the one before; and cells keep the colours and modifiers that no style gives or
+   removes.
+
    Pages: notice_pages returns the number of lines n, the number of pages that they take, and the inner
-   area as drawn, h rows high. Page p, from 0, is drawn by notice_draw_notice with scroll p x h, which is
-   below 16,384, each page on blank cells. If that area has a cell and the text is wrapped, notice_tally at
-   its width, with trim and ambiguous as the notice has them, returns the same n, and the pages are n / h,
-   rounded up. The pages show all lines, but not always all glyphs. If none may be lost, check the tally at
-   that width: every glyph that isn't dropped whitespace is shown if clipped, zero_width and over_wide are 0.
+   area as drawn, h rows high, which is the one that notice_draw_frame returns. Page p, from 0, is drawn by
+   notice_draw_frame, then notice_draw_text into that area, with scroll p x h, which is below 16,384, each page on
+   blank cells. If that area has a cell and the text is wrapped, notice_tally at its width, with trim and
+   ambiguous as the notice has them, returns the same n, and the pages are n / h, rounded up. The pages show all
+   lines, but not always all glyphs. If none may be lost, check the tally at that width: every glyph that isn't
+   dropped whitespace is shown if clipped, zero_width and over_wide are 0.
    Of an unwrapped text the pages show only what fits the width. No page and a text that isn't empty: nothing
    can be shown, since the inner area has no cell.
 
@@ -53,8 +65,8 @@
    pointer with length 0 is fine. The calls keep nothing afterwards, allocate nothing and have no state:
    calls on different cells and lists may run at the same time.
 
-   Stack use is bounded, as no function calls itself. In the archive built here notice_draw_notice takes the
-   most, at most 2,024 bytes whatever it is given. Arguments and answer are in the caller's frame besides,
+   Stack use is bounded, as no function calls itself. In the archive built here notice_draw_frame takes the
+   most, at most 1,448 bytes whatever it is given. Arguments and answer are in the caller's frame besides,
    under 200 bytes. This is read from the machine code, not proved: `tools/stack` prints the bytes of each
    call of any archive. */
 #ifndef NOTICE_H
@@ -63,7 +75,11 @@
 #include <stddef.h>
 #include <stdint.h>
 
-/* Raised when programs written for an earlier version of this header have to be changed. In version 1 no call
+/* Raised when programs written for an earlier version of this header have to be changed. In version 2 one call,
+   notice_draw_notice, drew a whole notice: a program for it makes two, notice_draw_frame and notice_draw_text, as
+   said above. Together they draw what it drew, and at least one of them is refused where it was. But where it was
+   refused for the text alone (3, 4, 6) and left all cells, the frame is drawn now; notice_pages, asked first, is
+   refused with the number that it had. In version 1 no call
    took a notice_ambiguous, and width code 7 was seven columns. A program for version 1 passes one to
    notice_list_lines, notice_tally, notice_draw_block and notice_line_width, sets the field of notice_text,
    which was 8 bytes long and is 10 (0 in it is answered with 255), and is compiled again: the functions' names
@@ -71,7 +87,7 @@
    and drew a wide glyph of the text that starts before the right edge, or the limit, even if it runs past: counts
    and cells of such texts differ from theirs, and no program has to be changed. Entries of early archives have 0 in
    the place of the mark; the readers of an entry are otherwise the same. */
-#define NOTICE_API_VERSION 2
+#define NOTICE_API_VERSION 3
 
 #ifdef __cplusplus
 extern "C" {
@@ -261,21 +277,21 @@ typedef struct notice_block {
     uint8_t shadow_style;
 } notice_block;
 
-/* Settings of a notice other than its block. With all other fields 0 it isn't wrapped: lines are cut off at
-   the width. `ambiguous` has no case 0, so a notice whose fields are all 0 is answered with 255. */
+/* Settings of a notice other than its block: those of its text. With all other fields 0 it isn't wrapped: lines
+   are cut off at the width. `ambiguous` has no case 0, so settings whose fields are all 0 are answered with 255. */
 typedef struct notice_text {
     /* Index of the first line drawn, from 0. */
     uint16_t scroll;
     /* Unwrapped: first column shown of left-aligned lines, from 0; other lines aren't scrolled. */
     uint16_t column;
-    /* Style numbers of the notice's whole area, and of its glyphs, which then get their own style. */
+    /* Style numbers of the area that the text is laid into, and of its glyphs, which then get their own style. */
     uint8_t style;
     uint8_t text_style;
     /* Default alignment, of lines whose heads have alignment 3: a notice_alignment other than default. */
     uint8_t alignment;
     /* A notice_wrap. */
     uint8_t wrap;
-    /* A notice_ambiguous, for the glyphs of text and titles. */
+    /* A notice_ambiguous, for the glyphs of the text. */
     uint8_t ambiguous;
 } notice_text;
 
@@ -303,7 +319,7 @@ typedef struct notice_tally_answer {
     uint32_t dropped;
 } notice_tally_answer;
 
-/* 0 or the refusal number, and the inner area. */
+/* 0 or the refusal number, and the inner area, four zeros if refused. */
 typedef struct notice_area_answer {
     uint32_t number;
     uint16_t x;
@@ -312,7 +328,7 @@ typedef struct notice_area_answer {
     uint16_t height;
 } notice_area_answer;
 
-/* 0 or the refusal number; rows drawn, glyphs of the text placed, whose cells are all in the inner area, and
+/* 0 or the refusal number; rows drawn, glyphs of the text placed, whose cells are all in its area, and
    glyphs clipped: those of width above 0 that run past its right edge, or start at or past it. Glyphs of an
    unwrapped text that are cut off or scrolled out are in neither count. */
 typedef struct notice_draw_answer {
@@ -369,20 +385,29 @@ uint32_t notice_draw_block(uint32_t columns, uint32_t rows, uint64_t *cells, siz
                            const uint64_t *styles, size_t styles_len, const uint32_t *titles,
                            size_t titles_len, uint8_t ambiguous, notice_area area, notice_block block);
 
-/* Draws a notice on the cells: its block and titles, and in the inner area its lines from the scroll
-   row on. Inner cells without a glyph keep their symbols, so start on blank cells unless the old symbols
-   are to show through.
-   Refused with 1 to 7; 255 for block and settings. */
-notice_draw_answer notice_draw_notice(uint32_t columns, uint32_t rows, uint64_t *cells,
-                                      size_t cells_len, const uint64_t *styles, size_t styles_len,
-                                      const uint32_t *text, size_t text_len, const uint32_t *titles,
-                                      size_t titles_len, notice_area area, notice_block block,
-                                      notice_text settings);
+/* Draws the frame of a notice on the cells: the notice's style, a style number, over the part of the area that is
+   on the screen, then its block with its titles, as notice_draw_block does. Ambiguous is a notice_ambiguous, for
+   the titles' glyphs. Returns the inner area of that part, for notice_draw_text: unlike notice_inner's it is the
+   one that is drawn in. It may have no cell. Inner cells keep their symbols.
+   Refused with 1, 2, 5, 6, 7; 255 for ambiguous and the block. */
+notice_area_answer notice_draw_frame(uint32_t columns, uint32_t rows, uint64_t *cells, size_t cells_len,
+                                     const uint64_t *styles, size_t styles_len, const uint32_t *titles,
+                                     size_t titles_len, uint8_t ambiguous, notice_area area,
+                                     uint8_t style, notice_block block);
 
-/* Returns the pages of a notice, given as it is to notice_draw_notice; its scroll row is ignored, and the
-   cells are neither read nor written, only their number is checked. Lines and pages are 0 if the inner area
-   has no cell, and also for an empty text: to show its frame, draw it once.
-   Refused as notice_draw_notice is. */
+/* Lays the text of a notice into the part of an area that is on the screen: the notice's style, then its lines
+   from the scroll row on, wrapped and clipped at the width of that part. Changes no cell outside the area. Cells
+   without a glyph keep their symbols, so start on blank cells unless the old symbols are to show through.
+   Refused with 1, 2, 3, 4, 6; 255 for the settings. */
+notice_draw_answer notice_draw_text(uint32_t columns, uint32_t rows, uint64_t *cells, size_t cells_len,
+                                    const uint64_t *styles, size_t styles_len, const uint32_t *text,
+                                    size_t text_len, notice_area area, notice_text settings);
+
+/* Returns the pages of a notice, given as it is to notice_draw_frame and notice_draw_text together; its scroll
+   row is ignored, and the cells are neither read nor written, only their number is checked. Lines and pages are 0
+   if the inner area has no cell, and also for an empty text: to show its frame, draw it once.
+   Refused with 1 to 7, exactly if one of those two calls is, so that it tells beforehand whether a notice can be
+   drawn; 255 for block and settings. */
 notice_pages_answer notice_pages(uint32_t columns, uint32_t rows, const uint64_t *cells,
                                  size_t cells_len, const uint64_t *styles, size_t styles_len,
                                  const uint32_t *text, size_t text_len, const uint32_t *titles,

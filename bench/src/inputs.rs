@@ -33,6 +33,15 @@ pub fn one_word(records: usize, _: u32) -> Vec<u32> {
     opened(std::iter::repeat_n(LETTER, records - 1))
 }
 
+/// Glyphs of a clock's word.
+pub const CLOCK_GLYPHS: u16 = 5;
+
+/// Returns the word that a clock shows a number of minutes after 13:00.
+pub fn clock(_: usize, number: u32) -> Vec<u32> {
+    let glyph = |symbol| u32::from(symbol) << 10 | 1 << 7;
+    opened(format!("13:{number:02}").chars().map(glyph))
+}
+
 /// Returns text lines of 31 glyphs in words.
 pub fn short_lines(records: usize, number: u32) -> Vec<u32> {
     (1 + 1_000 * number..).flat_map(|seed| opened(worded(seed).take(31))).take(records).collect()

@@ -13,6 +13,7 @@ mod inputs;
 mod original;
 mod report;
 mod rows;
+mod scene;
 mod sides;
 mod translated;
 
@@ -27,7 +28,8 @@ mod records;
 /// Under the name that the oracle's modules included here use.
 mod settings {
     pub use oracle::{
-        AmbiguousWidth, Block, BorderSet, Borders, Effect, Notice, Shadow, TitlePosition, Wrap,
+        AmbiguousWidth, Block, BorderSet, Borders, Effect, Shadow, TextSettings, TitlePosition,
+        Wrap,
     };
 }
 #[path = "../../oracle/oracle/src/widgets.rs"]
@@ -82,7 +84,10 @@ fn print_round(row: &Row) {
 
 fn print_tables() {
     let found = all_rounds(&ROWS);
-    println!("Nanoseconds a record, or a cell in the last row; the least of {ROUNDS} rounds.\n");
+    println!(
+        "Nanoseconds a record; a cell in the rows of a style and of a frame, a word in the row of \
+         one word redrawn. The least of {ROUNDS} rounds.\n"
+    );
     report::print_times(&found);
     println!();
     report::print_growth(&found);

@@ -2,7 +2,7 @@
 
 use oracle::AmbiguousWidth;
 
-use crate::drawing::Scene;
+use crate::scene::Scene;
 use crate::sides::Sides;
 use crate::{composing, drawing, inputs};
 
@@ -13,8 +13,14 @@ pub enum Call {
     List { limit: u16, trim: bool },
     /// `tally` at a limit, trimmed or untrimmed.
     Tally { limit: u16, trim: bool },
-    /// `draw_notice` of a framed notice on a screen.
+    /// A framed notice on a screen: `draw_frame`, then `draw_text` into the area that it returns.
     Notice { screen: [u16; 2], method: Method, page: Page },
+    /// `draw_text` into the inner area of such a notice.
+    Text { screen: [u16; 2], method: Method, page: Page },
+    /// `draw_frame` of such a notice.
+    Frame,
+    /// `draw_text` of one word into an area of its size.
+    Word,
     /// `draw_block` of a block that has only a style, on a whole screen.
     Style,
 }
@@ -44,18 +50,27 @@ pub struct Row {
 /// Generates the text with a size in records and a number; some kinds have only one text of a size.
 type Making = fn(usize, u32) -> Vec<u32>;
 
-/// The screens of the row without a text, one for each size.
+/// The screens of the rows whose sizes are screens: those without a text, and that of one word.
 const SCREENS: [[u16; 2]; 3] = [[80, 24], [200, 60], [512, 256]];
 const SIZES: [usize; 3] = [1_000, 4_000, 16_384];
 /// Total records of the texts of each size. With a single small text, the processor would predict
 /// its branches from the previous run.
 const RECORDS: usize = SIZES[2];
 
+/// Number of words drawn one after the other, on every screen.
+const WORDS: usize = 60;
+
+fn screen_cells(size: usize) -> usize {
+    SCREENS[size].map(usize::from).iter().product()
+}
+
 impl Row {
-    /// Returns the total records of the texts of a size, or the number of cells of the screen.
+    /// Returns the total records of the texts of a size, the number of cells of the screen, or the
+    /// number of words.
     pub fn units(&self, size: usize) -> usize {
         match self.call {
-            Call::Style => SCREENS[size].map(usize::from).iter().product(),
+            Call::Frame | Call::Style => screen_cells(size),
+            Call::Word => WORDS,
             _ => SIZES[size] * (RECORDS / SIZES[size]),
         }
     }
@@ -63,9 +78,19 @@ impl Row {
     /// Returns the size to print: of one text, or of the screen.
     pub fn size(&self, size: usize) -> usize {
         match self.call {
-            Call::Style => self.units(size),
+            Call::Frame | Call::Word | Call::Style => screen_cells(size),
             _ => SIZES[size],
         }
+    }
+
+    /// Returns the texts of a size.
+    fn texts(&self, size: usize) -> Vec<Vec<u32>> {
+        let count = match self.call {
+            Call::Word => WORDS,
+            _ => RECORDS / SIZES[size],
+        };
+        let text = |number| self.given((self.text)(SIZES[size], number));
+        (0..count as u32).map(text).collect()
     }
 
     /// Returns records as the row has them: half of the letters are ambiguous if they are read wide.
@@ -78,16 +103,23 @@ impl Row {
 
     /// Prepares a size of the row for every side and passes the sides to `work`.
     pub fn with_sides<T>(&self, size: usize, work: impl FnOnce(&mut Sides) -> T) -> T {
-        let numbers = 0..(RECORDS / SIZES[size]) as u32;
-        let text = |number| self.given((self.text)(SIZES[size], number));
-        let texts: Vec<Vec<u32>> = numbers.map(text).collect();
+        let (texts, titles) = (self.texts(size), self.given(inputs::titles()));
         let ambiguous = self.ambiguous;
         match self.call {
             Call::List { limit, trim } => composing::list(&texts, ambiguous, limit, trim, work),
             Call::Tally { limit, trim } => composing::tally(&texts, ambiguous, limit, trim, work),
             Call::Notice { screen, method, page } => {
-                let scene = Scene::framed(screen, self.given(inputs::titles()), ambiguous);
-                drawing::notice(&scene, &texts, method, page, work)
+                let scene = Scene::framed(screen, titles, ambiguous);
+                drawing::texts(&scene, &texts, method, page, work)
+            }
+            Call::Text { screen, method, page } => {
+                let scene = Scene::inside(screen, titles, ambiguous);
+                drawing::texts(&scene, &texts, method, page, work)
+            }
+            Call::Frame => drawing::frame(&Scene::framed(SCREENS[size], titles, ambiguous), work),
+            Call::Word => {
+                let scene = Scene::line(SCREENS[size], inputs::CLOCK_GLYPHS);
+                drawing::texts(&scene, &texts, Method::Wrapped, Page::First, work)
             }
             Call::Style => drawing::style(SCREENS[size], work),
         }
@@ -115,10 +147,14 @@ const fn draw(screen: [u16; 2], method: Method, page: Page) -> Call {
     Call::Notice { screen, method, page }
 }
 
+const fn text(screen: [u16; 2], method: Method, page: Page) -> Call {
+    Call::Text { screen, method, page }
+}
+
 const SMALL: [u16; 2] = SCREENS[0];
 const LARGE: [u16; 2] = SCREENS[1];
 
-pub const ROWS: [Row; 30] = [
+pub const ROWS: [Row; 34] = [
     row("list, words, 20", inputs::words, list(20, false)),
     row("list, words, 20, trimmed", inputs::words, list(20, true)),
     row("list, words, 80", inputs::words, list(80, false)),
@@ -189,4 +225,12 @@ pub const ROWS: [Row; 30] = [
         draw(SMALL, Method::Wrapped, Page::Last),
     ),
     row("whole-screen style", inputs::words, Call::Style),
+    row(
+        "text, words, 80 × 24, first page",
+        inputs::words,
+        text(SMALL, Method::Wrapped, Page::First),
+    ),
+    row("text, words, 80 × 24, last page", inputs::words, text(SMALL, Method::Wrapped, Page::Last)),
+    row("frame, four titles and shadow", inputs::words, Call::Frame),
+    row("one word redrawn, 5 × 1", inputs::clock, Call::Word),
 ];

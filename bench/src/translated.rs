@@ -1,15 +1,16 @@
 //! Converts the oracle's settings to those of the plain translation, which has its own types.
 
-use oracle::{Alignment, AmbiguousWidth, Block, Effect, Notice, Rect, Shadow, TitlePosition, Wrap};
+use oracle::{
+    Alignment, AmbiguousWidth, Block, Effect, Rect, Shadow, TextSettings, TitlePosition, Wrap,
+};
 use plain::block;
 
 pub fn rect(area: Rect) -> plain::Rect {
     plain::Rect { x: area.x, y: area.y, width: area.width, height: area.height }
 }
 
-pub fn notice(settings: Notice) -> plain::Notice {
-    plain::Notice {
-        block: self::block(settings.block),
+pub fn text(settings: TextSettings) -> plain::TextSettings {
+    plain::TextSettings {
         style: settings.style,
         text_style: settings.text_style,
         alignment: alignment(settings.alignment),

@@ -142,11 +142,26 @@ typedef struct lent {
     records titles;
 } lent;
 
-static notice_draw_answer drawn(lent all, notice_area area, notice_block block,
+static notice_area_answer framed(lent all, notice_area area, notice_block block) {
+    return notice_draw_frame(COLUMNS, ROWS, all.cells, CELLS, all.styles, all.style_count,
+                             all.titles.at, all.titles.count, SETTINGS.ambiguous, area,
+                             SETTINGS.style, block);
+}
+
+static notice_draw_answer laid(lent all, notice_area area, notice_text settings) {
+    return notice_draw_text(COLUMNS, ROWS, all.cells, CELLS, all.styles, all.style_count, all.text.at,
+                            all.text.count, area, settings);
+}
+
+/* Draws a page: the frame, then the text into the inner area that it returns. */
+static notice_draw_answer drawn(lent all, notice_area area, notice_pages_answer pages,
                                 notice_text settings) {
-    return notice_draw_notice(COLUMNS, ROWS, all.cells, CELLS, all.styles, all.style_count,
-                              all.text.at, all.text.count, all.titles.at, all.titles.count, area,
-                              block, settings);
+    notice_area_answer inner = framed(all, area, BLOCK);
+    check(inner.number == NOTICE_ACCEPTED, "frame accepted");
+    check(inner.x == pages.x && inner.y == pages.y, "the inner area starts where pages says");
+    check(inner.width == pages.width && inner.height == pages.height, "and has its size");
+    notice_area inside = {inner.x, inner.y, inner.width, inner.height};
+    return laid(all, inside, settings);
 }
 
 static notice_pages_answer counted(lent all, notice_area area, notice_block block) {
@@ -181,7 +196,7 @@ static notice_pages_answer draw_pages(lent all, notice_area area) {
         notice_text settings = SETTINGS;
         settings.scroll = (uint16_t)(page * pages.height);
         clear(all.cells);
-        notice_draw_answer answer = drawn(all, area, BLOCK, settings);
+        notice_draw_answer answer = drawn(all, area, pages, settings);
         check(answer.number == NOTICE_ACCEPTED, "page accepted");
         rows += answer.rows;
         placed += answer.placed;
@@ -274,33 +289,49 @@ static void draw_frames(lent all) {
     check(none.number == NOTICE_ACCEPTED && none.lines == 0, "no text and no list, null");
 }
 
-/* Tries a style number out of range and invalid settings: nothing is drawn. */
-static void draw_refused(lent all) {
-    uint64_t *before = allocated(CELLS * sizeof *before);
-    memcpy(before, all.cells, CELLS * sizeof *before);
+/* Tries style numbers out of range: of the two calls only the one that looks at it is refused, and pages is
+   refused too. */
+static void refuse_styles(lent all) {
     notice_block block = BLOCK;
     block.border_style = (uint8_t)all.style_count;
-    notice_draw_answer answer = drawn(all, AREA, block, SETTINGS);
-    check(answer.number == NOTICE_REFUSED_STYLE_NUMBER, "a style number too high");
-    check(counted(all, AREA, block).number == answer.number, "pages refused as drawing is");
-    printf("a style number too high: %u\n", (unsigned)answer.number);
-    block = BLOCK;
+    notice_area_answer frame = framed(all, AREA, block);
+    check(frame.number == NOTICE_REFUSED_STYLE_NUMBER, "a style number of the frame too high");
+    check(frame.x + frame.y + frame.width + frame.height == 0, "four zeros");
+    check(counted(all, AREA, block).number == frame.number, "pages refused as the frame is");
+    notice_text settings = SETTINGS;
+    settings.text_style = (uint8_t)all.style_count;
+    notice_draw_answer text = laid(all, AREA, settings);
+    check(text.number == NOTICE_REFUSED_STYLE_NUMBER, "a style number of the text too high");
+    check(text.rows + text.placed + text.clipped == 0, "counts are 0");
+    printf("a style number too high: %u, %u\n", (unsigned)frame.number, (unsigned)text.number);
+}
+
+/* Tries settings whose numbers name no case. */
+static void refuse_settings(lent all) {
+    notice_block block = BLOCK;
     block.shadow = NOTICE_SHADOW_SYMBOL + 1;
     notice_text settings = SETTINGS;
     settings.wrap = NOTICE_WRAP_TRIM + 1;
-    notice_draw_answer kind = drawn(all, AREA, block, SETTINGS);
-    notice_draw_answer wrap = drawn(all, AREA, BLOCK, settings);
+    notice_area_answer kind = framed(all, AREA, block);
+    notice_draw_answer wrap = laid(all, AREA, settings);
     check(kind.number == NOTICE_UNKNOWN_SETTING, "a shadow that names no case");
     check(wrap.number == NOTICE_UNKNOWN_SETTING, "a wrap that names no case");
     printf("a number that names no case: %u\n", (unsigned)kind.number);
-    check(answer.rows + answer.placed + kind.rows + kind.placed == 0, "counts are 0");
     notice_tally_answer trim =
         notice_tally(all.text.at, all.text.count, SETTINGS.ambiguous, 20, 2);
     check(trim.number == NOTICE_UNKNOWN_SETTING, "trim 2");
     settings = SETTINGS;
     settings.ambiguous = 0;
-    notice_draw_answer unset = drawn(all, AREA, BLOCK, settings);
+    notice_draw_answer unset = laid(all, AREA, settings);
     check(unset.number == NOTICE_UNKNOWN_SETTING, "ambiguous 0, as in settings that are all 0");
+}
+
+/* Makes calls that are refused, and checks that nothing is drawn. */
+static void draw_refused(lent all) {
+    uint64_t *before = allocated(CELLS * sizeof *before);
+    memcpy(before, all.cells, CELLS * sizeof *before);
+    refuse_styles(all);
+    refuse_settings(all);
     check(memcmp(before, all.cells, CELLS * sizeof *before) == 0, "cells as they were");
     free(before);
 }

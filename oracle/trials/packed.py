@@ -1,13 +1,15 @@
 """The packed form of a notice (defined in crates/preview_file), and the files of crates/test_trials/data: calls, each a header of
 40 bytes and then a notice. The header's fields, with their sizes in bytes:
 
-  kind (0 draws the block, 1 the notice, 2 all pages of the notice) 1 | expected number (0: it draws) 1
-  cells to pass 2 | text records to pass 2 | bytes of the notice 2 | description, padded with blanks 32
+  kind 1 | expected number (0: it is accepted) 1 | cells to pass 2 | text records to pass 2 | bytes of the notice 2
+  description, padded with blanks 32
 
-Numbers are high byte first. The text passed starts with the notice's records; all later ones are the glyph A of width 1.
-Nothing is proved about this script."""
+Kinds: 0 `draw_block`, 1 `draw_frame`, 2 all pages of the notice, drawn and read back, 3 `draw_text`, 4 `pages`. Each call takes those
+parts of the notice that it has inputs for; `draw_text` draws into the notice's area. Numbers are high byte first. The text passed
+starts with the notice's records; all later ones are the glyph A of width 1. Nothing is proved about this script."""
 import os
 import struct
+import sys
 
 DATA = os.path.join(os.path.dirname(os.path.abspath(__file__)), "..", "..", "crates", "test_trials", "data")
 
@@ -31,5 +33,7 @@ def call(which, answer, cells, records, name, packed):
 
 
 def write(name, calls):
-    with open(os.path.join(DATA, name), "wb") as file:
+    """Writes a file of calls, into the folder given to the script, if any."""
+    folder = sys.argv[1] if len(sys.argv) > 1 else DATA
+    with open(os.path.join(folder, name), "wb") as file:
         file.write(b"".join(calls))

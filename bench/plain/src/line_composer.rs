@@ -13,6 +13,13 @@ pub struct WrappedLine {
     pub alignment: Alignment,
 }
 
+/// Whether a text is wrapped, trimmed or not, or truncated and scrolled right by `column`.
+#[derive(Clone, Copy)]
+pub enum Wrap {
+    Off { column: u16 },
+    On { trim: bool },
+}
+
 /// How lines are composed: wrapped, or truncated and scrolled right by a number of columns.
 #[derive(Clone, Copy)]
 pub enum Method {

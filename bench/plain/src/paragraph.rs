@@ -1,71 +1,51 @@
-//! Draws a notice.
+//! Draws a notice, its frame and its text apart.
 
 use crate::block::Block;
 use crate::buffer::{Ink, Screen, paint_area, style_at};
 use crate::layout::Rect;
-use crate::line_composer::Method;
-use crate::render_block::render_frame;
-use crate::render_lines::{DrawCounts, TextOptions, render_lines};
-use crate::text::{Alignment, AmbiguousWidth};
-use crate::word_wrapper::Rule;
+use crate::render_block;
+use crate::render_lines::DrawCounts;
+use crate::render_text::{TextSettings, render_text};
+use crate::text::AmbiguousWidth;
 
-#[derive(Clone, Copy)]
-pub enum Wrap {
-    Off { column: u16 },
-    On { trim: bool },
-}
-
-/// A notice: its block, its style, its text style, its default alignment, how its lines are
-/// composed, the first line drawn, and how ambiguous glyphs of its text and titles are read.
-#[derive(Clone, Copy)]
-pub struct Notice {
-    pub block: Block,
-    pub style: u8,
-    pub text_style: u8,
-    pub alignment: Alignment,
-    pub wrap: Wrap,
-    pub scroll: u16,
-    pub ambiguous: AmbiguousWidth,
-}
-
-impl Notice {
-    /// Returns the settings for composing and drawing its lines in `width` columns.
-    fn text_options(&self, width: u16) -> TextOptions {
-        let (trim, method) = match self.wrap {
-            Wrap::On { trim } => (trim, Method::WordWrap),
-            Wrap::Off { column } => (false, Method::Truncate(column.into())),
-        };
-        TextOptions {
-            rule: Rule { limit: width.into(), trim, ambiguous: self.ambiguous },
-            method,
-            default_alignment: self.alignment,
-            style: self.text_style,
-            scroll: self.scroll,
-        }
+/// Draws the frame of a notice over the intersection of its area and the screen, the notice's style
+/// first, with its shadow.
+#[expect(clippy::too_many_arguments, reason = "as many as in the proved code")]
+pub fn render_frame(
+    screen: Screen,
+    cells: &mut [u64],
+    styles: &[u64],
+    titles: &[u32],
+    ambiguous: AmbiguousWidth,
+    area: Rect,
+    style: u8,
+    block: &Block,
+) {
+    let met = area.intersection(screen.area());
+    if met.is_empty() {
+        return;
     }
+    paint_area(screen, cells, met, Ink::Style(style_at(styles, style)));
+    render_block::render_frame(screen, cells, styles, titles, ambiguous, block, met);
 }
 
-/// Draws a notice over the intersection of its area and the screen, with its shadow.
-pub fn render(
+/// Returns the inner area of the intersection of a notice's area and the screen.
+pub fn inner_area(screen: Screen, titles: &[u32], block: &Block, area: Rect) -> Rect {
+    block.inner_area(titles, area.intersection(screen.area()))
+}
+
+/// Lays the notice's style and its lines into the intersection of an area and the screen.
+pub fn render_paragraph(
     screen: Screen,
     cells: &mut [u64],
     styles: &[u64],
     text: &[u32],
-    titles: &[u32],
     area: Rect,
-    notice: &Notice,
+    settings: TextSettings,
 ) -> DrawCounts {
     let met = area.intersection(screen.area());
     if met.is_empty() {
         return DrawCounts::default();
     }
-    let ink = Ink::Style(style_at(styles, notice.style));
-    paint_area(screen, cells, met, ink);
-    render_frame(screen, cells, styles, titles, notice.ambiguous, &notice.block, met);
-    let inner = notice.block.inner_area(titles, met);
-    if inner.is_empty() {
-        return DrawCounts::default();
-    }
-    paint_area(screen, cells, inner, ink);
-    render_lines(screen, cells, styles, text, inner, notice.text_options(inner.width))
+    render_text(screen, cells, styles, text, met, settings)
 }

@@ -28,8 +28,10 @@ use Rattle.layout.specs.declared.Rect.{Rect}
 use Rattle.block.specs.declared.Block.{Block}
 use Rattle.check_block.specs.Causes.{frameCauses}
 use Rattle.check_block.specs.Styles.{frameStyles}
+use Rattle.render_text.specs.declared.TextSettings.{TextSettings}
 use Rattle.paragraph.specs.declared.Notice.{Notice}
-use Rattle.paragraph.specs.Notice.{noticeLines, innerAreaOf, insideOf, noticeOf, insideCounts, noticeCounts}
+use Rattle.paragraph.specs.Notice.{noticeLines, innerAreaOf, insideOf, insideCounts}
+use Rattle.paragraph.specs.Apart.{paragraphOf, paragraphCounts}
 use Rattle.list_lines.specs.Call as list
 use Rattle.tally.specs.Tally.{tallyOf}
 use Rattle.tally.specs.Call as tally
@@ -37,10 +39,13 @@ use Rattle.measure_text.specs.Measures.{linesAt, lineCount, widest, lineWidth}
 use Rattle.measure.specs.LineCount as count
 use Rattle.measure.specs.LineWidth as width
 use Rattle.draw_block.specs.Call as block
+use Rattle.draw_frame.specs.Call as frame
+use Rattle.draw_text.specs.Call as text
+use Rattle.draw_text.specs.Call.{textStyles}
 use Rattle.draw_notice.specs.Call as notice
 use Rattle.pages.specs.Pages.{innerArea, composedLines, pagesOf}
 use Rattle.count_pages.specs.Call as pages
-use Rattle.ambiguous_resolved.specs.Replaced.{isAmbiguous, replaced, codeReplaced, readAs}
+use Rattle.ambiguous_resolved.specs.Replaced.{isAmbiguous, replaced, codeReplaced, readAs, settingsReadAs}
 use Rattle.ambiguous_resolved.specs.AmbiguousResolved.{AmbiguousResolved}
 use Rattle.ambiguous_resolved.proofs.Lines.{same-glyphs, lines-along, same-titles}
 use Rattle.ambiguous_resolved.proofs.SettingUnread.{wrap-unread, over-unread, lines-unread}
@@ -171,7 +176,42 @@ module _ (a b : AmbiguousWidth) (columns rows : ℕ) (cells styles titles : List
     unfolding block.answerOf block.cellsAfter block.drawingOf
     block-resolved = (rw block-verdict, rw (block-verdict, same-titles a b titles))
 
-  -- `draw_notice` and `pages`
+  -- `draw_frame`
+  module _ (style : ℕ) (framed : Block) where
+    abbrev enframed : frame.Call
+    enframed = frame.callOf columns rows cells styles titles a area style framed
+
+    abbrev enframedReplaced : frame.Call
+    enframedReplaced = frame.callOf columns rows cells styles (replaced a titles) b area style framed
+
+    frame-verdict : frame.verdictOf enframedReplaced ≡ frame.verdictOf enframed
+    unfolding frame.verdictOf frame.causesOf frame.noticeFrameStyles
+    frame-verdict = rw (titles-wrong-same a mostAccepted titles, same-frame-styles a framed titles)
+
+    frame-resolved : (frame.answerOf enframedReplaced ≡ frame.answerOf enframed) × (frame.cellsAfter enframedReplaced ≡ frame.cellsAfter enframed)
+    unfolding frame.answerOf frame.innerIn innerAreaOf frame.cellsAfter frame.drawingOf
+    frame-resolved = (rw (frame-verdict, inner-same a framed titles _), rw (frame-verdict, same-titles a b titles))
+
+  -- `draw_text`
+  module _ (records : List ℕ) (s : TextSettings) where
+    abbrev laid : text.Call
+    laid = text.callOf columns rows cells styles records area (settingsReadAs a s)
+
+    abbrev laidReplaced : text.Call
+    laidReplaced = text.callOf columns rows cells styles (replaced a records) area (settingsReadAs b s)
+
+    text-verdict : text.verdictOf laidReplaced ≡ text.verdictOf laid
+    unfolding text.verdictOf text.causesOf text.textStyles
+    text-verdict = rw (same-text-causes a records, glyph-styles-same a records)
+
+    text-resolved : (text.answerOf laidReplaced ≡ text.answerOf laid) × (text.cellsAfter laidReplaced ≡ text.cellsAfter laid)
+    unfolding text.answerOf text.rowsOf text.cellsAfter text.drawingOf paragraphOf insideOf paragraphCounts insideCounts noticeLines
+    text-resolved = (
+      rw (text-verdict, same-composed a b (s .wrap) _ (s .alignment) records),
+      rw (text-verdict, same-composed a b (s .wrap) _ (s .alignment) records),
+    )
+
+  -- `pages`
   module _ (text : List ℕ) (n : Notice) where
     abbrev noticed : notice.Call
     noticed = notice.callOf columns rows cells styles text titles area (readAs a n)
@@ -180,15 +220,8 @@ module _ (a b : AmbiguousWidth) (columns rows : ℕ) (cells styles titles : List
     noticedReplaced = notice.callOf columns rows cells styles (replaced a text) (replaced a titles) area (readAs b n)
 
     notice-verdict : notice.verdictOf noticedReplaced ≡ notice.verdictOf noticed
-    unfolding notice.verdictOf notice.causesOf notice.noticeStyles
+    unfolding notice.verdictOf notice.causesOf notice.noticeStyles textStyles
     notice-verdict = rw (same-text-causes a text, titles-wrong-same a mostAccepted titles, glyph-styles-same a text, same-frame-styles a (n .block) titles)
-
-    notice-resolved : (notice.answerOf noticedReplaced ≡ notice.answerOf noticed) × (notice.cellsAfter noticedReplaced ≡ notice.cellsAfter noticed)
-    unfolding notice.answerOf notice.cellsAfter notice.rowsOf notice.drawingOf noticeOf insideOf noticeCounts insideCounts innerAreaOf noticeLines
-    notice-resolved = (
-      rw (notice-verdict, inner-same a (n .block) titles _, same-composed a b (n .wrap) _ (n .alignment) text),
-      rw (notice-verdict, same-titles a b titles, inner-same a (n .block) titles _, same-composed a b (n .wrap) _ (n .alignment) text),
-    )
 
     pages-resolved : pages.answerOf noticedReplaced ≡ pages.answerOf noticed
     unfolding pages.answerOf pages.pagesIn innerArea innerAreaOf composedLines pagesOf noticeLines
@@ -204,9 +237,9 @@ ambiguous-resolved a b =
       counted = count-resolved a b;
       measured = width-resolved a b;
       framed = block-resolved a b;
-      drawn = λ columns rows cells styles text titles area n.
-          let page = notice-resolved a b columns rows cells styles titles area text n in
-          (page .0, page .1, pages-resolved a b columns rows cells styles titles area text n);
+      frame-drawn = λ columns rows cells styles titles area style framed. frame-resolved a b columns rows cells styles titles area style framed;
+      text-drawn = λ columns rows cells styles records area s. text-resolved a b columns rows cells styles [] area records s;
+      paged = λ columns rows cells styles text titles area n. pages-resolved a b columns rows cells styles titles area text n;
     }
 
 -- records without a code 7 are what they were, so both settings read them alike

@@ -10,15 +10,18 @@ use Rattle.text.specs.declared.AmbiguousWidth.{AmbiguousWidth}
 use Rattle.layout.specs.declared.Rect.{Rect}
 use Rattle.line_composer.specs.declared.Wrap.{Wrap}
 use Rattle.block.specs.declared.Block.{Block}
+use Rattle.render_text.specs.declared.TextSettings.{TextSettings}
 use Rattle.paragraph.specs.declared.Notice.{Notice}
 use Rattle.list_lines.specs.Call as list
 use Rattle.tally.specs.Call as tally
 use Rattle.measure.specs.LineCount as count
 use Rattle.measure.specs.LineWidth as width
 use Rattle.draw_block.specs.Call as block
+use Rattle.draw_frame.specs.Call as frame
+use Rattle.draw_text.specs.Call as text
 use Rattle.draw_notice.specs.Call as notice
 use Rattle.count_pages.specs.Call as pages
-use Rattle.ambiguous_resolved.specs.Replaced.{replaced, readAs}
+use Rattle.ambiguous_resolved.specs.Replaced.{replaced, readAs, settingsReadAs}
 
 pub record AmbiguousResolved (a b : AmbiguousWidth) : Type 0 where
   -- a list call writes the same entries
@@ -38,8 +41,18 @@ pub record AmbiguousResolved (a b : AmbiguousWidth) : Type 0 where
       let old = block.callOf columns rows cells styles titles a area framed in
       let new = block.callOf columns rows cells styles (replaced a titles) b area framed in
       (block.answerOf new ≡ block.answerOf old) × (block.cellsAfter new ≡ block.cellsAfter old)
-  -- a notice, with the codes of its text and titles replaced; so are its pages
-  pub drawn : (columns rows : ℕ) (cells styles text titles : List ℕ) (area : Rect) (n : Notice) →
+  -- so is the frame of a notice
+  pub frame-drawn : (columns rows : ℕ) (cells styles titles : List ℕ) (area : Rect) (style : ℕ) (framed : Block) →
+      let old = frame.callOf columns rows cells styles titles a area style framed in
+      let new = frame.callOf columns rows cells styles (replaced a titles) b area style framed in
+      (frame.answerOf new ≡ frame.answerOf old) × (frame.cellsAfter new ≡ frame.cellsAfter old)
+  -- and its text, with its codes replaced
+  pub text-drawn : (columns rows : ℕ) (cells styles records : List ℕ) (area : Rect) (s : TextSettings) →
+      let old = text.callOf columns rows cells styles records area (settingsReadAs a s) in
+      let new = text.callOf columns rows cells styles (replaced a records) area (settingsReadAs b s) in
+      (text.answerOf new ≡ text.answerOf old) × (text.cellsAfter new ≡ text.cellsAfter old)
+  -- the pages of a notice, with the codes of its text and titles replaced
+  pub paged : (columns rows : ℕ) (cells styles text titles : List ℕ) (area : Rect) (n : Notice) →
       let old = notice.callOf columns rows cells styles text titles area (readAs a n) in
       let new = notice.callOf columns rows cells styles (replaced a text) (replaced a titles) area (readAs b n) in
-      (notice.answerOf new ≡ notice.answerOf old) × (notice.cellsAfter new ≡ notice.cellsAfter old) × (pages.answerOf new ≡ pages.answerOf old)
+      pages.answerOf new ≡ pages.answerOf old

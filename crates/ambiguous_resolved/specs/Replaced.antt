@@ -5,6 +5,7 @@ use mathlib.Core.List.{List, map}
 use lib.Dec.{eqb}
 use Rattle.text.specs.declared.AmbiguousWidth.{AmbiguousWidth}
 use Rattle.text.specs.Record.{isHead, symbolOf, widthCodeOf, ambiguousCells, whitespaceOf, styleOf, glyphRecord}
+use Rattle.render_text.specs.declared.TextSettings.{TextSettings}
 use Rattle.paragraph.specs.declared.Notice.{Notice}
 
 -- whether a record is a glyph of width code 7
@@ -29,5 +30,17 @@ readAs ambiguous n =
       alignment = n .alignment;
       wrap = n .wrap;
       scroll = n .scroll;
+      ambiguous = ambiguous;
+    }
+
+-- the settings of a text with another reading
+abbrev pub settingsReadAs : AmbiguousWidth → TextSettings → TextSettings
+settingsReadAs ambiguous s =
+    record {
+      style = s .style;
+      «text_style» = s .«text_style»;
+      alignment = s .alignment;
+      wrap = s .wrap;
+      scroll = s .scroll;
       ambiguous = ambiguous;
     }

@@ -13,6 +13,12 @@ pub drawn-length : (columns : ℕ) (d : Drawing) (cells : List ℕ) → length (
 unfolding drawn
 drawn-length columns d cells = length-changed _ cells
 
+-- cell i, which is in column i % columns and row i / columns, after a drawing
+pub drawn-cell : (columns : ℕ) (d : Drawing) (cells : List ℕ) (i : ℕ) → i < length cells
+    → getD (drawn columns d cells) i 0 ≡ d (i % columns) (i / columns) (getD cells i 0)
+unfolding drawn
+drawn-cell columns d cells i h = changed-at (λ i cell. d (i % columns) (i / columns) cell) cells i h
+
 -- the cell in a column and a row, after a drawing
 pub drawn-at : (columns : ℕ) (d : Drawing) (cells : List ℕ) (column row : ℕ) → column < columns → row * columns + column < length cells
     → getD (drawn columns d cells) (row * columns + column) 0 ≡ d column row (getD cells (row * columns + column) 0)

@@ -21,8 +21,9 @@ use Rattle.line_composer.specs.Lines.{aligned, linesOf, lineLines, allLines, li
 use Rattle.line_composer.specs.Wrap.{methodOf, ruleAt}
 use Rattle.line_composer.proofs.Bounds.{lines-short}
 use Rattle.measure.proofs.Lines.{text-lines-few}
+use Rattle.render_text.specs.declared.TextSettings.{TextSettings}
 use Rattle.paragraph.specs.declared.Notice.{Notice}
-use Rattle.paragraph.specs.Notice.{noticeLines}
+use Rattle.paragraph.specs.Notice.{settingsOf, noticeLines}
 
 -- at a limit above 0, truncation gives one line for each text line
 module _ (u : Rule) (column : ℕ) (some : 0 < u .limit) where
@@ -48,11 +49,11 @@ module _ (u : Rule) (column : ℕ) (some : 0 < u .limit) where
   truncated-count default text = one-for-each default (linesFrom 0 text)
 
 module _ (n : Notice) (width : ℕ) (text : List ℕ) (count : ℕ) where
-  pub unwrapped-count : (column : ℕ) → n .wrap ≡ Off column → 0 < width → count ≡ length (linesFrom 0 text) → count ≡ length (noticeLines n text width)
+  pub unwrapped-count : (column : ℕ) → n .wrap ≡ Off column → 0 < width → count ≡ length (linesFrom 0 text) → count ≡ length (noticeLines (settingsOf n) text width)
   unfolding noticeLines
   unwrapped-count column e some c = rw e (c ∙ sym (truncated-count (ruleAt (n .ambiguous) (Off column) width) column some (n .alignment) text))
 
-  pub wrapped-count : (trim : Bool) → n .wrap ≡ On trim → count ≡ length (lines (ruleOf (n .ambiguous) width trim) WordWrap (n .alignment) text) → count ≡ length (noticeLines n text width)
+  pub wrapped-count : (trim : Bool) → n .wrap ≡ On trim → count ≡ length (lines (ruleOf (n .ambiguous) width trim) WordWrap (n .alignment) text) → count ≡ length (noticeLines (settingsOf n) text width)
   unfolding noticeLines
   wrapped-count trim e c = rw e c
 
@@ -65,6 +66,6 @@ lines-at-most a (Off column) default width text some =
     omega (arith, truncated-count (ruleAt a (Off column) width) column some default text, text-lines-few 0 text)
 lines-at-most a (On trim) default width text some = lines-short (ruleOf a width trim) default text
 
-pub notice-lines-few : (n : Notice) (width : ℕ) (text : List ℕ) → 0 < width → length (noticeLines n text width) ≤ length text
+pub notice-lines-few : (s : TextSettings) (width : ℕ) (text : List ℕ) → 0 < width → length (noticeLines s text width) ≤ length text
 unfolding noticeLines
-notice-lines-few n width text some = lines-at-most (n .ambiguous) (n .wrap) (n .alignment) width text some
+notice-lines-few s width text some = lines-at-most (s .ambiguous) (s .wrap) (s .alignment) width text some

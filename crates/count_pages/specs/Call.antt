@@ -10,7 +10,7 @@ use Rattle.count_pages.specs.declared.PageCounts.{PageCounts}
 use Rattle.count_pages.specs.declared.PagesAnswer.{PagesAnswer}
 use Rattle.count_pages.specs.declared.PagesAnswer.the-variants.{Pages, Refused}
 
--- The inputs are those of a call of `draw_notice`. "inner area of the met area"; "n lines, composed with the inner width as the
+-- The inputs are a notice and its screen. "inner area of the met area"; "n lines, composed with the inner width as the
 -- limit, make n / h pages at inner height h, rounded up"; "An empty inner area gets no line, and the counts are 0".
 unfoldable pub pagesIn : Call → PageCounts
 pagesIn call =
@@ -19,7 +19,7 @@ pagesIn call =
     (record { inner = inner; lines = 0; pages = 0 })
     (record { inner = inner; lines = length (composedLines call); pages = pagesOf call })
 
--- the answer: the area and counts, or the cause of refusal, which is that of drawing the notice
+-- the answer: the area and counts, or the cause of refusal, which is that of the notice drawn whole
 unfoldable pub answerOf : Call → PagesAnswer
 answerOf call = answering Pages Refused (verdictOf call) (pagesIn call)
 

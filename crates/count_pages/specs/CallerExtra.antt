@@ -1,12 +1,13 @@
--- Not in the papers: demand 3 (pages: Reading) for a caller of `pages` that draws as many pages as the answer says, each scrolled
--- down by its index times the height of the answer's inner area, and reads that area.
+-- Not in the papers: demand 3 (pages: Reading) for a caller of `pages` that draws as many pages as the answer says, frame, then text, each
+-- scrolled down by its index times the height of the answer's inner area, and reads that area.
 use Prim.Native.Nat.{ℕ, _+_, _*_, _<_}
 use mathlib.Core.Path.{_≡_}
 use mathlib.Core.List.{List, map}
 use lib.ListN.{getD}
 use Rattle.text.specs.Line.{Glyph, glyphsFrom}
 use Rattle.nothing_lost.specs.Glyphs.{solids}
-use Rattle.draw_notice.specs.Call.{Call, cellsAfter}
+use Rattle.draw_notice.specs.Call.{Call}
+use Rattle.draw_notice.specs.Pair.{pairCells}
 use Rattle.pages.specs.Pages.{callAt, placements}
 use Rattle.pages.specs.Reading.{Seen, seen, each, look}
 use Rattle.count_pages.specs.declared.PageCounts.{PageCounts}
@@ -26,7 +27,7 @@ readBy call counts =
     each 0 (counts .pages) (λ page.
     each (counts .inner .y) (counts .inner .height) (λ row.
     each (counts .inner .x) (counts .inner .width) (λ column.
-    look page row column (getD (cellsAfter (callAt call (scrollBy counts page))) (row * call .columns + column) 0))))
+    look page row column (getD (pairCells (callAt call (scrollBy counts page))) (row * call .columns + column) 0))))
 
 -- Each scroll row fits in 16 bits, and the caller reads each non-whitespace glyph of the text once, in text order, in its place.
 pub record CallerReadsAll (call : Call) : Type 0 where

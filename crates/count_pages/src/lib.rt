@@ -13,7 +13,7 @@ ghost use mathlib.Core.Path.{_≡_};
 ghost use Prim.Native.Nat.{_<_, _^_};
 ghost use lib.ListN.{length};
 ghost use Rattle.text.specs.Line.{Opens, FewRecords};
-ghost use Rattle.paragraph.specs.Notice.{noticeLines, innerAreaOf};
+ghost use Rattle.paragraph.specs.Notice.{settingsOf, noticeLines};
 ghost use Rattle.draw_notice.specs.Call.{callOf};
 ghost use Rattle.pages.specs.Pages.{pageCount};
 ghost use Rattle.count_pages.specs.Call.{answerOf};
@@ -31,19 +31,10 @@ pub enum PagesAnswer {
     Refused(Refusal),
 }
 
-// Returns the inner area of the intersection of a notice's area and the screen.
-fn inner_area(screen: Screen, titles: &[u32], notice: Notice, area: Rect) -> Rect
-    ensures { λ r. ⌜ r ≡ innerAreaOf screen (now (titles .entry)) notice area ⌝ }
-{
-    let block = notice.block;
-    let met = area.intersection(screen.area());
-    block.inner(titles, met)
-}
-
 // Counts the composed lines of a notice at a width above 0, at which each text line gives one line if unwrapped.
 fn count_at(notice: Notice, width: u16, text: &[u32]) -> usize
     requires { ⌜ FewRecords (now text) × Opens (now text) × (0 < width) ⌝ }
-    ensures { λ r. ⌜ r ≡ length (noticeLines notice (now (text .entry)) width) ⌝ }
+    ensures { λ r. ⌜ r ≡ length (noticeLines (settingsOf notice) (now (text .entry)) width) ⌝ }
 {
     let alignment = notice.alignment;
     let wrap = notice.wrap;
@@ -67,8 +58,8 @@ fn page_count(lines: u32, height: u16) -> u32
     (lines + (height as u32 - 1)) / height as u32
 }
 
-// Counts the lines and pages of a notice. Takes the inputs of `draw_notice`, of whose cells only the count matters, and is
-// refused as that call is, for causes 1 to 7.
+// Counts the lines and pages of a notice. Takes the inputs of `draw_frame` and `draw_text` together, of whose cells only the count
+// matters, and is refused for causes 1 to 7: exactly if one of the two is.
 pub fn pages(
     columns: u32,
     rows: u32,
@@ -91,7 +82,7 @@ pub fn pages(
         columns: columns as u16,
         rows: rows as u16,
     };
-    let inner = inner_area(screen, titles, notice, area);
+    let inner = paragraph::inner_area(screen, titles, notice.block, area);
     if inner.is_empty() {
         return PagesAnswer::Pages(PageCounts {
             inner,

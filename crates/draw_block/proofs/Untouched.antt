@@ -10,10 +10,9 @@ use Rattle.cell.specs.Cell.{cellFrom}
 use Rattle.layout.specs.declared.Rect.{Rect}
 use Rattle.layout.specs.Rect.{meet, contains}
 use Rattle.buffer.specs.declared.Screen.{Screen as ScreenSize}
-use Rattle.buffer.specs.Drawing.{Drawing, drawn, areaOf}
+use Rattle.buffer.specs.Drawing.{drawn, areaOf}
 use Rattle.buffer.specs.Screen.{screenOf}
-use Rattle.buffer.proofs.Changed.{changed-at}
-use Rattle.buffer.proofs.Drawn.{drawn-length}
+use Rattle.buffer.proofs.Drawn.{drawn-length, drawn-cell}
 use Rattle.refuse.specs.declared.Verdict.{Verdict}
 use Rattle.refuse.specs.declared.Verdict.the-variants.{Accepted, Refused as RefusedFor}
 use Rattle.refuse.specs.Refusal.{unlessRefused}
@@ -23,12 +22,6 @@ use Rattle.render_block.proofs.KeepsBits.{keeps-bits as block-keeps-bits}
 use Rattle.render_block.proofs.Elsewhere.{elsewhere as block-elsewhere}
 use Rattle.draw_block.specs.Call.{Call, callOf, causesOf, verdictOf, answerOf, drawingOf, cellsAfter}
 use Rattle.draw_block.proofs.Answers.{drawable}
-
--- cell i, which is in column i % columns and row i / columns, after a drawing
-drawn-cell : (columns : ℕ) (d : Drawing) (cells : List ℕ) (i : ℕ) → i < length cells
-    → getD (drawn columns d cells) i 0 ≡ d (i % columns) (i / columns) (getD cells i 0)
-unfolding drawn
-drawn-cell columns d cells i h = changed-at (λ i cell. d (i % columns) (i / columns) cell) cells i h
 
 module _ (call : Call) where
   abbrev pub screenIn : ScreenSize

@@ -1,3 +1,3 @@
 pub mod Styles
 pub mod Answers
-pub mod Untouched
+pub mod Pair

@@ -1,4 +1,6 @@
--- Document 01, 'Why a call is refused': the causes, the answer and the drawing of the call `draw_notice`.
+-- Document 01, 'Why a call is refused': the causes, the counts and the cells of a notice drawn whole. Document 02, C-15: "The old combined call
+-- is withdrawn"; "the cells and counts that the combined drawing defined" are these. "A call that draws through both (…) checks all its
+-- inputs first, in the old order": the order of these causes.
 use Prim.Native.Nat.{ℕ}
 use mathlib.Core.List.{List, [], _∷_, _++_}
 use lib.ListN.{length}
@@ -9,17 +11,16 @@ use Rattle.buffer.specs.Screen.{screenOf}
 use Rattle.refuse.specs.declared.Ceilings.{Ceilings}
 use Rattle.refuse.specs.declared.Refusal.the-variants.{Titles, StyleNumber, Symbol}
 use Rattle.refuse.specs.declared.Verdict.{Verdict}
-use Rattle.refuse.specs.Refusal.{Cause, _if_, firstCause, refusalNumber, answering, unlessRefused}
-use Rattle.refuse.specs.Causes.{mostAccepted, screenCauses, textCauses, titlesWrong, glyphStyles, styleNumbersWrong, symbolsWrong}
+use Rattle.refuse.specs.Refusal.{Cause, _if_, firstCause, unlessRefused}
+use Rattle.refuse.specs.Causes.{mostAccepted, screenCauses, textCauses, titlesWrong, styleNumbersWrong, symbolsWrong}
 use Rattle.block.specs.Causes.{blockSymbols}
 use Rattle.check_block.specs.Styles.{frameStyles}
 use Rattle.render_lines.specs.declared.DrawCounts.{DrawCounts}
 use Rattle.paragraph.specs.declared.Notice.{Notice}
-use Rattle.paragraph.specs.Notice.{noticeOf, noticeCounts, noDrawCounts}
-use Rattle.draw_notice.specs.declared.NoticeAnswer.{NoticeAnswer}
-use Rattle.draw_notice.specs.declared.NoticeAnswer.the-variants.{Counts, Refused}
+use Rattle.paragraph.specs.Notice.{settingsOf, noticeOf, noticeCounts, noDrawCounts}
+use Rattle.draw_text.specs.Call.{textStyles}
 
--- inputs of the call; `cells` before the call
+-- a notice and its screen, with the cells before it is drawn
 pub record Call : Type 0 where
   pub columns : ℕ
   pub rows : ℕ
@@ -45,7 +46,7 @@ callOf columns rows cells styles text titles area notice =
 
 -- all style numbers of a notice: its own, the text's, the text glyphs', the block's and the title glyphs'
 unfoldable pub noticeStyles : Notice → List ℕ → List ℕ → List ℕ
-noticeStyles n text titles = (n .style ∷ n .«text_style» ∷ glyphStyles text) ++ frameStyles (n .block) titles
+noticeStyles n text titles = textStyles (settingsOf n) text ++ frameStyles (n .block) titles
 
 -- causes 1 to 7
 unfoldable pub causesOf : Ceilings → Call → List Cause
@@ -69,22 +70,10 @@ drawingOf call = noticeOf (call .styles) (screenIn call) (call .text) (call .tit
 unfoldable pub rowsOf : Call → DrawCounts
 rowsOf call = noticeCounts (screenIn call) (call .text) (call .titles) (call .notice) (call .area)
 
-unfoldable pub answerOf : Call → NoticeAnswer
-answerOf call = answering Counts Refused (verdictOf call) (rowsOf call)
-
--- the counts in the answer: "number, counts 0" if refused
+-- the counts: "number, counts 0" if refused
 unfoldable pub countsOf : Call → DrawCounts
 countsOf call = unlessRefused (verdictOf call) (rowsOf call) noDrawCounts
 
--- the cells after the call; a refused one leaves "all cells"
+-- the cells afterwards; "all cells" are left if refused
 unfoldable pub cellsAfter : Call → List ℕ
 cellsAfter call = unlessRefused (verdictOf call) (drawn (call .columns) (drawingOf call) (call .cells)) (call .cells)
-
--- an answer as document 01's number, 0 if accepted, and counts
-abbrev pub noticeAnswerNumber : NoticeAnswer → ℕ
-noticeAnswerNumber (Counts counts) = 0
-noticeAnswerNumber (Refused why) = refusalNumber why
-
-abbrev pub noticeAnswerCounts : NoticeAnswer → DrawCounts
-noticeAnswerCounts (Counts counts) = counts
-noticeAnswerCounts (Refused why) = noDrawCounts

@@ -1,39 +1,25 @@
-// The call `draw_notice`: checks its inputs, then draws.
-use buffer::Screen;
+// The checks of the calls that take a whole notice, frame and text: causes 1 to 7, in the order of the combined drawing.
 use check_settings::screen;
 use layout::Rect;
 use paragraph::Notice;
 use refuse::ACCEPTED;
 use refuse::Refusal;
 use refuse::Verdict;
-use render_lines::DrawCounts;
 ghost use mathlib.Core.Path.{_≡_};
 ghost use Rattle.refuse.specs.Causes.{styleNumbersWrong};
-ghost use Rattle.draw_notice.specs.Call.{callOf, noticeStyles, verdictOf, answerOf, cellsAfter};
-
-// Answer of the call: the counts, or the reason for the refusal.
-pub enum NoticeAnswer {
-    Counts(DrawCounts),
-    Refused(Refusal),
-}
+ghost use Rattle.draw_notice.specs.Call.{callOf, noticeStyles, verdictOf};
 
 // Whether a style number of the notice, a text glyph, the block or a title glyph isn't below the count of styles (cause 6).
 fn style_numbers_wrong(count: usize, text: &[u32], titles: &[u32], notice: Notice) -> bool
     ensures { λ r. ⌜ r ≡ styleNumbersWrong count (noticeStyles notice (now (text .entry)) (now (titles .entry))) ⌝ }
 {
-    if count <= notice.style as usize {
-        return true;
-    }
-    if count <= notice.text_style as usize {
-        return true;
-    }
-    if check_records::glyph_styles_wrong(count, text) {
+    if draw_text::style_numbers_wrong(count, text, notice.text_settings()) {
         return true;
     }
     check_block::style_numbers_wrong(count, titles, notice.block)
 }
 
-// Returns the verdict of the call's checks, lowest cause first.
+// Returns the verdict of the checks of a whole notice, lowest cause first.
 pub fn draw_notice_verdict(
     columns: u32,
     rows: u32,
@@ -66,31 +52,4 @@ pub fn draw_notice_verdict(
         return Verdict::Refused(Refusal::Symbol);
     }
     Verdict::Accepted
-}
-
-// Draws a notice (paragraph.rs: `Paragraph::render`). Refused for causes 1 to 7; a refused call changes no cell.
-pub fn draw_notice(
-    columns: u32,
-    rows: u32,
-    cells: &mut [u64],
-    styles: &[u64],
-    text: &[u32],
-    titles: &[u32],
-    area: Rect,
-    notice: Notice,
-) -> NoticeAnswer
-    ensures { λ r.
-        let call = callOf columns rows (now (cells .entry)) (now (styles .entry)) (now (text .entry)) (now (titles .entry)) area notice in
-        ⌜ (r ≡ answerOf call) × (now (cells .exit) ≡ cellsAfter call) ⌝ }
-{
-    let checked = draw_notice_verdict(columns, rows, cells, styles, text, titles, area, notice);
-    if let Verdict::Refused(why) = checked {
-        return NoticeAnswer::Refused(why);
-    }
-    let screen = Screen {
-        columns: columns as u16,
-        rows: rows as u16,
-    };
-    let counts = paragraph::render(screen, cells, styles, text, titles, area, notice);
-    NoticeAnswer::Counts(counts)
 }

@@ -26,7 +26,9 @@ use Rattle.check_block.specs.Styles.{frameStyles}
 use Rattle.render_line.specs.RenderLine.{lineOffset, drawnStarts}
 use Rattle.line_composer.specs.declared.Wrap.the-variants.{On}
 use Rattle.paragraph.specs.Notice.{noticeLines, innerAreaOf}
+use Rattle.draw_text.specs.Call.{textStyles}
 use Rattle.draw_notice.specs.Call.{Call, noticeStyles, causesOf, verdictOf}
+use Rattle.draw_notice.proofs.Pair.{accepted-apart}
 use Rattle.pages.specs.Pages.{innerArea, composedLines, placementOf, placements}
 use Rattle.pages.specs.Reading.{Seen, OneCell, WrappedNotice, pagesRead}
 use Rattle.pages.proofs.Pages.{pages}
@@ -78,8 +80,8 @@ worked =
     }
 
 pub accepted : WrappedNotice worked
-unfolding screenWrong stylesWrong textHeadsWrong titlesWrong blockStyles borderSymbols blockSymbols hasTitleAt innerOf innerAreaOf frameStyles noticeStyles screenCauses textCauses causesOf verdictOf innerArea
-accepted = record { accepted = refl; trim = true; wrapped = refl; some-cell = refl }
+unfolding screenWrong stylesWrong textHeadsWrong titlesWrong blockStyles borderSymbols blockSymbols hasTitleAt innerOf innerAreaOf frameStyles textStyles noticeStyles screenCauses textCauses causesOf verdictOf innerArea
+accepted = record { accepted = accepted-apart worked refl; trim = true; wrapped = refl; some-cell = refl }
 
 pub one-cell : OneCell (glyphsFrom Narrow 0 (worked .text))
 unfolding readWidth

@@ -21,7 +21,7 @@ use Rattle.line_composer.specs.declared.Wrap.the-variants.{On, Off}
 use Rattle.block.specs.declared.Block.{Block}
 use Rattle.flat.specs.declared.FlatBlock.{FlatBlock}
 use Rattle.flat.specs.declared.FlatText.{FlatText}
-use Rattle.flat.specs.FlatExtra.{unnamed, alignmentNamed, ambiguousKnown, ambiguousNamed, positionNamed, shadowNamed, wrapNamed, blockKnown, blockFrom, textKnown, noticeFrom}
+use Rattle.flat.specs.FlatExtra.{unnamed, alignmentNamed, ambiguousKnown, ambiguousNamed, positionNamed, shadowNamed, wrapNamed, blockKnown, blockFrom, textKnown, settingsFrom, noticeFrom}
 
 module _ (n : ℕ) where
   pub named-left : n ≡ 0 → Left ≡ alignmentNamed n
@@ -120,6 +120,12 @@ module _ (t : FlatText) where
     pub text-known : found ≡ false → (r : Bool) → r ≡ ambiguousKnown (t .ambiguous) → r ≡ textKnown t
     unfolding textKnown
     text-known e r p = rw (← f, e) p
+
+  pub settings-from : (alignment : Alignment) (wrap : Wrap) (ambiguous : AmbiguousWidth)
+      → alignment ≡ alignmentNamed (t .alignment) → wrap ≡ wrapNamed t → ambiguous ≡ ambiguousNamed (t .ambiguous)
+      → record { style = t .style; «text_style» = t .«text_style»; alignment = alignment; wrap = wrap; scroll = t .scroll; ambiguous = ambiguous } ≡ settingsFrom t
+  unfolding settingsFrom
+  settings-from alignment wrap ambiguous p q r = rw (p, q, r)
 
   pub notice-from : (b : FlatBlock) (block : Block) (alignment : Alignment) (wrap : Wrap) (ambiguous : AmbiguousWidth)
       → block ≡ blockFrom b → alignment ≡ alignmentNamed (t .alignment) → wrap ≡ wrapNamed t → ambiguous ≡ ambiguousNamed (t .ambiguous)

@@ -18,6 +18,7 @@ use Rattle.block.specs.declared.Shadow.{Shadow}
 use Rattle.block.specs.declared.Shadow.the-variants.{Absent, Present}
 use Rattle.line_composer.specs.declared.Wrap.{Wrap}
 use Rattle.line_composer.specs.declared.Wrap.the-variants.{On, Off}
+use Rattle.render_text.specs.declared.TextSettings.{TextSettings}
 use Rattle.paragraph.specs.declared.Notice.{Notice}
 use Rattle.flat.specs.declared.FlatArea.{FlatArea}
 use Rattle.flat.specs.declared.FlatBlock.{FlatBlock}
@@ -111,6 +112,18 @@ blockFrom b =
 -- every number of a text's settings names a case
 unfoldable pub textKnown : FlatText → Bool
 textKnown t = not (unnamed 3 (t .alignment ∷ t .wrap ∷ [])) && ambiguousKnown (t .ambiguous)
+
+-- the settings that a text's settings name
+unfoldable pub settingsFrom : FlatText → TextSettings
+settingsFrom t =
+    record {
+      style = t .style;
+      «text_style» = t .«text_style»;
+      alignment = alignmentNamed (t .alignment);
+      wrap = wrapNamed t;
+      scroll = t .scroll;
+      ambiguous = ambiguousNamed (t .ambiguous);
+    }
 
 -- the notice that the settings of block and text name
 unfoldable pub noticeFrom : FlatBlock → FlatText → Notice

@@ -10,13 +10,14 @@ use layout::Rect;
 use line_composer::Wrap;
 use padding::Padding;
 use paragraph::Notice;
+use render_text::TextSettings;
 use text::Alignment;
 use text::AmbiguousWidth;
 use text::TitlePosition;
 ghost use mathlib.Core.Path.{_≡_};
 ghost use mathlib.Core.Bool.{_&&_};
 ghost use Rattle.flat.specs.FlatExtra.{unnamed, alignmentNamed, ambiguousKnown, ambiguousNamed, tallyKnown, listKnown};
-ghost use Rattle.flat.specs.FlatExtra.{positionNamed, shadowNamed, wrapNamed, areaFrom, blockKnown, blockFrom, textKnown, noticeFrom};
+ghost use Rattle.flat.specs.FlatExtra.{positionNamed, shadowNamed, wrapNamed, areaFrom, blockKnown, blockFrom, textKnown, settingsFrom, noticeFrom};
 
 // A rectangle.
 #[repr(C)]
@@ -279,6 +280,23 @@ impl FlatText {
         }
         Wrap::On {
             trim: self.wrap == 2,
+        }
+    }
+
+    // Converts known settings of a text.
+    pub fn text_settings(self) -> TextSettings
+        ensures { λ r. ⌜ r ≡ settingsFrom self ⌝ }
+    {
+        let alignment = alignment_named(self.alignment);
+        let wrap = self.named_wrap();
+        let ambiguous = ambiguous_named(self.ambiguous);
+        TextSettings {
+            style: self.style,
+            text_style: self.text_style,
+            alignment,
+            wrap,
+            scroll: self.scroll,
+            ambiguous,
         }
     }
 

@@ -14,8 +14,8 @@ use Rattle.tally.specs.declared.TallyAnswer.the-variants.{Counted, Refused as N
 use Rattle.measure.specs.declared.MeasureAnswer.{MeasureAnswer}
 use Rattle.measure.specs.declared.MeasureAnswer.the-variants.{Value, Refused as NotMeasured}
 use Rattle.render_lines.specs.declared.DrawCounts.{DrawCounts}
-use Rattle.draw_notice.specs.declared.NoticeAnswer.{NoticeAnswer}
-use Rattle.draw_notice.specs.declared.NoticeAnswer.the-variants.{Counts, Refused as NotDrawn}
+use Rattle.draw_text.specs.declared.DrawAnswer.{DrawAnswer}
+use Rattle.draw_text.specs.declared.DrawAnswer.the-variants.{Counts, Refused as NotDrawn}
 use Rattle.count_pages.specs.declared.PageCounts.{PageCounts}
 use Rattle.count_pages.specs.declared.PagesAnswer.{PagesAnswer}
 use Rattle.count_pages.specs.declared.PagesAnswer.the-variants.{Pages, Refused as NotCounted}
@@ -50,7 +50,7 @@ module _ (a : InnerAnswer) where
   unfolding areaFlat
   area-refused why number e n = rw (e, n)
 
-module _ (a : NoticeAnswer) where
+module _ (a : DrawAnswer) where
   pub draw-shown : (r : DrawCounts) → a ≡ Counts r → record { number = 0; rows = r .rows; placed = r .placed; clipped = r .clipped } ≡ drawFlat a
   unfolding drawFlat
   draw-shown r e = rw e

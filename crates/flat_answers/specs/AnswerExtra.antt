@@ -12,8 +12,8 @@ use Rattle.tally.specs.Call.{tallyAnswerNumber, tallyAnswerCounts}
 use Rattle.measure.specs.declared.MeasureAnswer.{MeasureAnswer}
 use Rattle.measure.specs.Answers.{measureAnswerNumber, measureAnswerValue}
 use Rattle.render_lines.specs.declared.DrawCounts.{DrawCounts}
-use Rattle.draw_notice.specs.declared.NoticeAnswer.{NoticeAnswer}
-use Rattle.draw_notice.specs.Call.{noticeAnswerNumber, noticeAnswerCounts}
+use Rattle.draw_text.specs.declared.DrawAnswer.{DrawAnswer}
+use Rattle.draw_text.specs.Call.{drawAnswerNumber, drawAnswerCounts}
 use Rattle.count_pages.specs.declared.PageCounts.{PageCounts}
 use Rattle.count_pages.specs.declared.PagesAnswer.{PagesAnswer}
 use Rattle.count_pages.specs.Call.{pagesAnswerNumber, pagesAnswerCounts}
@@ -50,10 +50,10 @@ areaFlat answer =
     let r : Rect = innerAnswerRect answer in
     record { number = innerAnswerNumber answer; x = r .x; y = r .y; width = r .width; height = r .height }
 
-unfoldable pub drawFlat : NoticeAnswer → FlatDrawAnswer
+unfoldable pub drawFlat : DrawAnswer → FlatDrawAnswer
 drawFlat answer =
-    let r : DrawCounts = noticeAnswerCounts answer in
-    record { number = noticeAnswerNumber answer; rows = r .rows; placed = r .placed; clipped = r .clipped }
+    let r : DrawCounts = drawAnswerCounts answer in
+    record { number = drawAnswerNumber answer; rows = r .rows; placed = r .placed; clipped = r .clipped }
 
 unfoldable pub measureFlat : MeasureAnswer → FlatMeasureAnswer
 measureFlat answer = record { number = measureAnswerNumber answer; value = measureAnswerValue answer }

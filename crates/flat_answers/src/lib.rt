@@ -1,9 +1,9 @@
 // The calls' answers as flat structs, for callers without enums.
 use notice::BlockAnswer;
+use notice::DrawAnswer;
 use notice::InnerAnswer;
 use notice::ListAnswer;
 use notice::MeasureAnswer;
-use notice::NoticeAnswer;
 use notice::PagesAnswer;
 use notice::TallyAnswer;
 ghost use mathlib.Core.Path.{_≡_};
@@ -29,7 +29,7 @@ pub struct FlatTallyAnswer {
     pub dropped: u32,
 }
 
-// Answer of `inner`: 0 or the number of the refusal, and the inner area.
+// Answer of `inner` or `draw_frame`: 0 or the number of the refusal, and the inner area.
 #[repr(C)]
 pub struct FlatAreaAnswer {
     pub number: u32,
@@ -39,7 +39,7 @@ pub struct FlatAreaAnswer {
     pub height: u16,
 }
 
-// Answer of `draw_notice`: 0 or the number of the refusal, and the counts of rows drawn, glyphs placed and clipped.
+// Answer of `draw_text`: 0 or the number of the refusal, and the counts of rows drawn, glyphs placed and clipped.
 #[repr(C)]
 pub struct FlatDrawAnswer {
     pub number: u32,
@@ -134,17 +134,17 @@ pub fn framed_number(framed: BlockAnswer) -> u32
     }
 }
 
-pub fn draw_answer(drawn: NoticeAnswer) -> FlatDrawAnswer
+pub fn draw_answer(drawn: DrawAnswer) -> FlatDrawAnswer
     ensures { λ r. ⌜ r ≡ drawFlat drawn ⌝ }
 {
     match drawn {
-        NoticeAnswer::Counts(rows) => FlatDrawAnswer {
+        DrawAnswer::Counts(rows) => FlatDrawAnswer {
             number: 0,
             rows: rows.rows,
             placed: rows.placed,
             clipped: rows.clipped,
         },
-        NoticeAnswer::Refused(why) => FlatDrawAnswer {
+        DrawAnswer::Refused(why) => FlatDrawAnswer {
             number: why.number(),
             rows: 0,
             placed: 0,

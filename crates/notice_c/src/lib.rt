@@ -17,10 +17,12 @@ ghost use Rattle.inner.specs.Call.{callOf as innerCall, answerOf as innerAnswer
 ghost use Rattle.measure.specs.LineCount.{callOf as countCall, answerOf as countAnswer};
 ghost use Rattle.measure.specs.LineWidth.{callOf as widthCall, answerOf as widthAnswer};
 ghost use Rattle.draw_block.specs.Call.{callOf as blockCall, answerOf as blockAnswer, cellsAfter as blockCells, blockAnswerNumber};
-ghost use Rattle.draw_notice.specs.Call.{callOf as noticeCall, answerOf as noticeAnswer, cellsAfter as noticeCells};
+ghost use Rattle.draw_frame.specs.Call.{callOf as frameCall, answerOf as frameAnswer, cellsAfter as frameCells};
+ghost use Rattle.draw_text.specs.Call.{callOf as textCall, answerOf as textAnswer, cellsAfter as textCells};
+ghost use Rattle.draw_notice.specs.Call.{callOf as noticeCall};
 ghost use Rattle.count_pages.specs.Call.{answerOf as pagesAnswer};
 ghost use Rattle.flat.specs.FlatExtra.{flagNamed, alignmentNamed, ambiguousKnown, ambiguousNamed, tallyKnown, listKnown, wrapNamed};
-ghost use Rattle.flat.specs.FlatExtra.{areaFrom, blockKnown, blockFrom, textKnown, noticeFrom};
+ghost use Rattle.flat.specs.FlatExtra.{areaFrom, blockKnown, blockFrom, textKnown, settingsFrom, noticeFrom};
 ghost use Rattle.flat_answers.specs.AnswerExtra.{unknownNumber};
 ghost use Rattle.flat_answers.specs.AnswerExtra.{listFlat, tallyFlat, areaFlat, drawFlat, measureFlat, pagesFlat};
 ghost use Rattle.flat_answers.specs.AnswerExtra.{listUnknown, tallyUnknown, areaUnknown, drawUnknown, measureUnknown, pagesUnknown};
@@ -132,28 +134,71 @@ pub extern "C" fn notice_draw_block(
     flat_answers::framed_number(framed)
 }
 
-// Draws a notice.
+// Draws the frame of a notice.
 #[no_mangle]
-pub extern "C" fn notice_draw_notice(
+pub extern "C" fn notice_draw_frame(
+    columns: u32,
+    rows: u32,
+    cells: &mut [u64],
+    styles: &[u64],
+    titles: &[u32],
+    ambiguous: u8,
+    area: FlatArea,
+    style: u8,
+    block: FlatBlock,
+) -> FlatAreaAnswer
+    ensures { λ r.
+        let known = blockKnown block && ambiguousKnown ambiguous in
+        let lent = now (cells .entry) in
+        let reading = ambiguousNamed ambiguous in
+        let call = frameCall columns rows lent (now (styles .entry)) (now (titles .entry)) reading (areaFrom area) style (blockFrom block) in
+        ⌜ (r ≡ cond known (areaFlat (frameAnswer call)) areaUnknown)
+        × (now (cells .exit) ≡ cond known (frameCells call) lent) ⌝ }
+{
+    if !flat::block_and_reading_known(block, ambiguous) {
+        return FlatAreaAnswer {
+            number: 255,
+            x: 0,
+            y: 0,
+            width: 0,
+            height: 0,
+        };
+    }
+    let reading = flat::ambiguous_named(ambiguous);
+    let framing = block.block();
+    let framed = notice::draw_frame(
+        columns,
+        rows,
+        cells,
+        styles,
+        titles,
+        reading,
+        area.area(),
+        style,
+        framing,
+    );
+    flat_answers::area_answer(framed)
+}
+
+// Lays the text of a notice into an area.
+#[no_mangle]
+pub extern "C" fn notice_draw_text(
     columns: u32,
     rows: u32,
     cells: &mut [u64],
     styles: &[u64],
     text: &[u32],
-    titles: &[u32],
     area: FlatArea,
-    block: FlatBlock,
     settings: FlatText,
 ) -> FlatDrawAnswer
     ensures { λ r.
-        let known = blockKnown block && textKnown settings in
+        let known = textKnown settings in
         let lent = now (cells .entry) in
-        let named = noticeFrom block settings in
-        let call = noticeCall columns rows lent (now (styles .entry)) (now (text .entry)) (now (titles .entry)) (areaFrom area) named in
-        ⌜ (r ≡ cond known (drawFlat (noticeAnswer call)) drawUnknown)
-        × (now (cells .exit) ≡ cond known (noticeCells call) lent) ⌝ }
+        let call = textCall columns rows lent (now (styles .entry)) (now (text .entry)) (areaFrom area) (settingsFrom settings) in
+        ⌜ (r ≡ cond known (drawFlat (textAnswer call)) drawUnknown)
+        × (now (cells .exit) ≡ cond known (textCells call) lent) ⌝ }
 {
-    if !flat::all_known(block, settings) {
+    if !settings.is_known() {
         return FlatDrawAnswer {
             number: 255,
             rows: 0,
@@ -161,17 +206,8 @@ pub extern "C" fn notice_draw_notice(
             clipped: 0,
         };
     }
-    let notice = settings.notice(block);
-    let drawn = notice::draw_notice(
-        columns,
-        rows,
-        cells,
-        styles,
-        text,
-        titles,
-        area.area(),
-        notice,
-    );
+    let named = settings.text_settings();
+    let drawn = notice::draw_text(columns, rows, cells, styles, text, area.area(), named);
     flat_answers::draw_answer(drawn)
 }
 

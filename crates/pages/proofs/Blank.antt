@@ -13,7 +13,8 @@ use Rattle.text.proofs.Either.{some-append}
 use Rattle.cell.specs.Cell.{cellFrom, blankSymbol}
 use Rattle.layout.specs.declared.Rect.{Rect}
 use Rattle.layout.specs.Rect.{rightOf, bottomOf, within, contains}
-use Rattle.draw_notice.specs.Call.{Call, cellsAfter}
+use Rattle.draw_notice.specs.Call.{Call}
+use Rattle.draw_notice.specs.Pair.{pairCells}
 use Rattle.pages.specs.Pages.{Placement, innerArea, pagesOf, pageCall, placements}
 use Rattle.pages.specs.Reading.{Seen, seen, each, look, pagesRead, isPlacedAt, symbolAt, BlankElsewhere}
 
@@ -55,7 +56,7 @@ is-read page row column cell e = simp (e, eq-eqb page page refl, eq-eqb row row 
 pub blank-elsewhere : (i : Call) → pagesRead i ≡ map seen (placements i) → BlankElsewhere i
 unfolding pagesRead
 blank-elsewhere i places page row column there inner none =
-    let cell : ℕ = getD (cellsAfter (pageCall i page)) (row * i .columns + column) 0 in
+    let cell : ℕ = getD (pairCells (pageCall i page)) (row * i .columns + column) 0 in
     let test : Seen → Bool = isReadAt page row column in
     let at = inside (innerArea i) column row inner in
     cases (λ b. symbolAt i page row column ≡ blankSymbol) (eqb (cellFrom cell .symbol) blankSymbol)

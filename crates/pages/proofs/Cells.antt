@@ -2,13 +2,14 @@
 -- keeps all symbols and the frame keeps those of the inner area. On a page of a wrapped notice that is the blank symbol.
 use Prim.Native.Nat.{ℕ, _+_, _-_, _*_, _<_}
 use mathlib.Core.Path.{_≡_, _∙_}
-use mathlib.Core.Bool.{true}
+use mathlib.Core.Bool.{true, false}
 use mathlib.Core.List.{List, [], _∷_}
 use native.Mathlib.Omega.{arith}
 use lib.ListN.{length, getD, length-replicate, getD-replicate}
 use Rattle.cell.specs.Cell.{cellFrom, blankSymbol, blankCell, styled}
-use Rattle.layout.specs.Rect.{rightOf, contains}
+use Rattle.layout.specs.Rect.{rightOf, isEmpty, contains}
 use Rattle.buffer.specs.Drawing.{Drawing, over, inOrder, styleAt}
+use Rattle.buffer.specs.PartsExtra.{AreaOnScreen}
 use Rattle.buffer.proofs.Drawn.{drawn-at}
 use Rattle.buffer.proofs.Over.{inside-there}
 use Rattle.buffer.proofs.Rows.{row-fits}
@@ -21,10 +22,12 @@ use Rattle.render_line.specs.RenderLine.{lineOn}
 use Rattle.render_lines.specs.Rows.{noLine, textOn}
 use Rattle.paragraph.specs.Notice.{noticeLines, innerAreaOf, insideOf, noticeOf}
 use Rattle.draw_notice.specs.Call.{Call, screenIn, drawingOf, cellsAfter}
+use Rattle.draw_notice.specs.Pair.{pairCells}
+use Rattle.draw_notice.proofs.Pair.{accepted-whole, same-as-combined}
 use Rattle.pages.specs.Pages.{callAt, innerArea, composedLines}
 use Rattle.pages.specs.Reading.{WrappedNotice}
 use Rattle.pages.specs.Inside.{DrawnNotice}
-use Rattle.pages.proofs.Screen.{met, drawn-met, drawn-there, inner-has, is-drawn, page-drawn}
+use Rattle.pages.proofs.Screen.{met, some-met, drawn-met, drawn-there, inner-has, is-drawn, page-drawn}
 
 -- the drawings of a notice before its lines
 abbrev beforeLines : Call → List Drawing
@@ -46,23 +49,30 @@ unfoldable pub lineNumbered : Call → ℕ → Line
 lineNumbered i number = getD (composedLines i) number noLine
 
 -- a cell of the inner area, by its column and row on the screen
-module _ (i : Call) (d : DrawnNotice i) (column row : ℕ) (within : contains (innerArea i) column row ≡ true) where
+module _ (i : Call) (column row : ℕ) (within : contains (innerArea i) column row ≡ true) where
   -- the frame keeps the symbols of the inner area
-  frame-keeps : KeepsSymbol (frame (i .styles) (screenIn i) (titlesFrom (i .notice .ambiguous) (i .titles)) (i .notice .block) (met i)) column row
+  pub frame-keeps : isEmpty (innerArea i) ≡ false
+      → KeepsSymbol (frame (i .styles) (screenIn i) (titlesFrom (i .notice .ambiguous) (i .titles)) (i .notice .block) (met i)) column row
   unfolding innerArea innerAreaOf blockOf
-  frame-keeps cell =
-      rw (drawn-met i d) at (block-keeps (i .styles) (screenIn i) (i .notice .ambiguous) (i .notice .block) (i .titles) (i .area) column row within cell)
-
-  pub under-keeps : KeepsSymbol (underLines i) column row
-  unfolding underLines
-  under-keeps = order-keeps (beforeLines i) column row (style-keeps (met i) _ column row, (frame-keeps, (style-keeps (innerArea i) _ column row, tt)))
+  frame-keeps some cell =
+      rw (some-met i some) at (block-keeps (i .styles) (screenIn i) (i .notice .ambiguous) (i .notice .block) (i .titles) (i .area) column row within cell)
 
   -- the cell is one of the screen's
+  pub stored-on : AreaOnScreen (screenIn i) (length (i .cells)) (innerArea i) → (column < i .columns) × (row * i .columns + column < length (i .cells))
+  stored-on there =
+      let on = there .on-screen in
+      let b = inside-between (innerArea i) column row within in (
+        omega (arith, b .right, on .right),
+        omega (arith, b .right, row-fits (i .columns) (rightOf (innerArea i)) row (i .rows) (length (i .cells)) (on .right) (omega (arith, b .bottom, on .bottom)) (on .size)),
+      )
+
+module _ (i : Call) (d : DrawnNotice i) (column row : ℕ) (within : contains (innerArea i) column row ≡ true) where
+  pub under-keeps : KeepsSymbol (underLines i) column row
+  unfolding underLines
+  under-keeps = order-keeps (beforeLines i) column row (style-keeps (met i) _ column row, (frame-keeps i column row within (d .some-cell), (style-keeps (innerArea i) _ column row, tt)))
+
   pub cell-stored : row * i .columns + column < length (i .cells)
-  cell-stored =
-      let on = drawn-there i d .on-screen in
-      let b = inside-between (innerArea i) column row within in
-      omega (arith, b .right, row-fits (i .columns) (rightOf (innerArea i)) row (i .rows) (length (i .cells)) (on .right) (omega (arith, b .bottom, on .bottom)) (on .size))
+  cell-stored = stored-on i column row within (drawn-there i d) .1
 
   -- a notice with a non-empty inner area draws its lines last
   lines-drawn-last : (cell : ℕ) → drawingOf i column row cell
@@ -71,20 +81,19 @@ module _ (i : Call) (d : DrawnNotice i) (column row : ℕ) (within : contains (i
   lines-drawn-last cell = rw (drawn-met i d, d .some-cell)
 
   -- the line is drawn on what the other drawings leave of the cell
-  pub cell-drawn : getD (cellsAfter i) (row * i .columns + column) 0
+  pub cell-drawn : getD (pairCells i) (row * i .columns + column) 0
       ≡ lineOn (i .styles) (i .notice .«text_style») (innerArea i .width) (lineNumbered i (i .notice .scroll + (row - innerArea i .y))) (column - innerArea i .x)
       (underLines i column row (getD (i .cells) (row * i .columns + column) 0))
   unfolding cellsAfter lineNumbered textOn
   cell-drawn =
-      let b = inside-between (innerArea i) column row within in
-      rw (d .accepted)
-      (drawn-at (i .columns) (drawingOf i) (i .cells) column row (omega (arith, b .right, drawn-there i d .on-screen .right)) cell-stored
+      rw (same-as-combined i (d .accepted) .cells, accepted-whole i (d .accepted))
+      (drawn-at (i .columns) (drawingOf i) (i .cells) column row (stored-on i column row within (drawn-there i d) .0) cell-stored
       ∙ lines-drawn-last (getD (i .cells) (row * i .columns + column) 0)
       ∙ inside-there (innerArea i) _ column row _ within)
 
 module _ (i : Call) (w : WrappedNotice i) where
   -- the same on a page, which starts on blank cells
-  page-cell : (scroll column row : ℕ) → contains (innerArea i) column row ≡ true → getD (cellsAfter (callAt i scroll)) (row * i .columns + column) 0
+  page-cell : (scroll column row : ℕ) → contains (innerArea i) column row ≡ true → getD (pairCells (callAt i scroll)) (row * i .columns + column) 0
       ≡ lineOn (i .styles) (i .notice .«text_style») (innerArea i .width) (lineNumbered i (scroll + (row - innerArea i .y))) (column - innerArea i .x)
       (underLines i column row blankCell)
   unfolding innerArea innerAreaOf composedLines noticeLines lineNumbered underLines
@@ -104,7 +113,7 @@ module _ (i : Call) (w : WrappedNotice i) where
     before-blank = under-keeps i (is-drawn i w) (innerArea i .x + column) (innerArea i .y + row) is-inside blankCell
 
     -- the line is drawn on that cell
-    pub cell-there : (scroll : ℕ) → getD (cellsAfter (callAt i scroll)) ((innerArea i .y + row) * i .columns + (innerArea i .x + column)) 0
+    pub cell-there : (scroll : ℕ) → getD (pairCells (callAt i scroll)) ((innerArea i .y + row) * i .columns + (innerArea i .x + column)) 0
         ≡ lineOn (i .styles) (i .notice .«text_style») (innerArea i .width) (lineNumbered i (scroll + row)) column (cellBefore i row column)
     unfolding cellBefore
     cell-there scroll =

@@ -32,7 +32,9 @@ use Rattle.tally.specs.Call as tally
 use Rattle.tally.specs.Tally.{tallyOf}
 use Rattle.tally.proofs.EveryGlyph.{default-alignment-irrelevant}
 use Rattle.paragraph.specs.Notice.{noticeLines, innerAreaOf, insideCounts, noticeCounts}
-use Rattle.draw_notice.specs.Call.{Call, verdictOf, rowsOf, countsOf}
+use Rattle.draw_notice.specs.Call.{Call, rowsOf, countsOf}
+use Rattle.draw_notice.specs.Pair.{pairCounts, BothAccepted}
+use Rattle.draw_notice.proofs.Pair.{accepted-whole, same-as-combined}
 use Rattle.pages.specs.Pages.{callAt, pageCall, innerArea, composedLines, pageCount, pagesOf, scrollOf}
 use Rattle.pages.specs.Reading.{summed, WrappedNotice, Reached, pagesTally, SameCounts}
 use Rattle.pages.proofs.Offset.{offset-fits, offset-none}
@@ -127,19 +129,21 @@ unfolding tallyOf lineCounts
 tally-own u default text some =
     rw (ne-eqb (u .limit) 0 (λ (e : u .limit ≡ 0). omega arith)) (default-alignment-irrelevant u text Left default)
 
-module _ (i : Call) (w : WrappedNotice i) (accepted : (scroll : ℕ) → verdictOf (callAt i scroll) ≡ Accepted) where
+module _ (i : Call) (w : WrappedNotice i) (accepted : (scroll : ℕ) → BothAccepted (callAt i scroll)) where
   -- the counts of a page
   page-counts : (page : ℕ)
       → let here = take (innerArea i .height) (drop (scrollOf i page) (composedLines i)) in
-      countsOf (pageCall i page) ≡ record { rows = length here; placed = sumOf (placedIn (innerArea i .width)) here; clipped = sumOf (clippedIn (innerArea i .width)) here }
+      pairCounts (pageCall i page) ≡ record { rows = length here; placed = sumOf (placedIn (innerArea i .width)) here; clipped = sumOf (clippedIn (innerArea i .width)) here }
   unfolding countsOf rowsOf noticeCounts insideCounts innerArea composedLines innerAreaOf noticeLines rowsDrawn placedOn clippedOn linesDrawn
-  page-counts page = rw (accepted (scrollOf i page), w .some-cell)
+  page-counts page =
+      let both = accepted (scrollOf i page) in
+      rw (same-as-combined (pageCall i page) both .counts, accepted-whole (pageCall i page) both, w .some-cell)
 
   -- a count of glyphs, summed over the pages, is that of all lines
   pages-count : (part : DrawCounts → ℕ) (count : Line → ℕ) (test : Start → Bool)
-      → ((page : ℕ) → part (countsOf (pageCall i page)) ≡ sumOf count (take (innerArea i .height) (drop (scrollOf i page) (composedLines i))))
+      → ((page : ℕ) → part (pairCounts (pageCall i page)) ≡ sumOf count (take (innerArea i .height) (drop (scrollOf i page) (composedLines i))))
       → ((line : Line) → count line ≡ countOf test (startsFrom 0 (line .glyphs)))
-      → summed 0 (pagesOf i) (λ page. part (countsOf (pageCall i page)))
+      → summed 0 (pagesOf i) (λ page. part (pairCounts (pageCall i page)))
       ≡ countOf test (starts (lines (ruleOf (i .notice .ambiguous) (innerArea i .width) (w .trim)) WordWrap (i .notice .alignment) (i .text)))
   unfolding pagesOf
   pages-count part count test on-page of-line =

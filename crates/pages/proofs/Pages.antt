@@ -8,6 +8,7 @@ use Rattle.nothing_lost.specs.Glyphs.{solids}
 use Rattle.tally.proofs.EveryGlyph.{tally-counts}
 use Rattle.draw_notice.specs.Call.{Call}
 use Rattle.draw_notice.proofs.Answers.{text-sound}
+use Rattle.draw_notice.proofs.Pair.{accepted-whole}
 use Rattle.pages.specs.Pages.{innerArea, composedLines, scrollOf, Placement, placements}
 use Rattle.pages.specs.Reading.{Seen, seen, OneCell, WrappedNotice, Reached, NothingLost, SameCounts, DemandThree}
 use Rattle.pages.proofs.Fit.{Fit}
@@ -18,7 +19,7 @@ use Rattle.pages.proofs.Reached.{wrapped-lines, reached-16, text-accept
 use Rattle.pages.proofs.Text.{fit-text, placed-glyphs}
 use Rattle.pages.proofs.Counts.{same-counts}
 
--- every page's scroll row fits in 16 bits and its call is accepted
+-- every page's scroll row fits in 16 bits and its calls are accepted
 pages-reached : (i : Call) → WrappedNotice i → Reached i
 pages-reached i w page there = (reached-16 i w page there, accepted-at i w (scrollOf i page))
 
@@ -28,7 +29,7 @@ pages i w cells =
     let inner = innerArea i in
     let default = i .notice .alignment in
     let rule = ruleOf (i .notice .ambiguous) (inner .width) (w .trim) in
-    let opens = text-sound i (w .accepted) .opens in
+    let opens = text-sound i (accepted-whole i (w .accepted)) .opens in
     let fit : Fit (inner .width) (composedLines i) = rw (wrapped-lines i w) (fit-text rule default (i .text) (inner-some i w .0) opens cells) in
     let places = pages-read i w fit in
     let glyphs : map (λ (p : Placement). p .glyph) (placements i) ≡ solids (glyphsFrom (i .notice .ambiguous) 0 (i .text)) = rw (wrapped-lines i w) (placed-glyphs inner rule default (i .text) refl (inner-some i w .0) opens cells) in

@@ -1,6 +1,6 @@
 -- reached-16: every page's scroll row fits in 16 bits, since each page starts with a line and a text has no more lines than
 -- records.
--- text-accepted: the tally at the inner width accepts every text that `draw_notice` accepts.
+-- text-accepted: the tally at the inner width accepts the text of every accepted notice.
 use Prim.Native.Nat.{ℕ, _+_, _-_, _*_, _<_, _≤_}
 use mathlib.Core.Path.{_≡_, ap, _∙_}
 use mathlib.Core.List.{List}
@@ -29,6 +29,7 @@ use Rattle.tally.proofs.EveryGlyph.{default-alignment-irrelevant}
 use Rattle.paragraph.specs.Notice.{noticeLines, innerAreaOf}
 use Rattle.draw_notice.specs.Call.{Call, causesOf, verdictOf, screenIn}
 use Rattle.draw_notice.proofs.Answers.{text-sound}
+use Rattle.draw_notice.proofs.Pair.{accepted-whole}
 use Rattle.pages.specs.Pages.{innerArea, composedLines, pageCount, pagesOf, scrollOf}
 use Rattle.pages.specs.Reading.{WrappedNotice, pagesTally}
 use Rattle.pages.proofs.Screen.{screen-sized, inner-some}
@@ -45,7 +46,7 @@ inner-narrow b titles area = omega arith
 
 module _ (i : Call) (w : WrappedNotice i) where
   pub text-short : length (i .text) ≤ 16384
-  text-short = text-sound i (w .accepted) .short
+  text-short = text-sound i (accepted-whole i (w .accepted)) .short
 
   pub few-columns : innerArea i .width ≤ 512
   unfolding innerArea innerAreaOf
@@ -60,7 +61,8 @@ module _ (i : Call) (w : WrappedNotice i) where
   unfolding verdictOf causesOf screenCauses textCauses lineCauses tally.verdictOf tally.causesOf
   text-accepted =
       let causes = causesOf mostAccepted i in
-      rw (no-cause causes TextLength (w .accepted), no-cause causes TextHeads (w .accepted), le-ltb 4096 (innerArea i .width) (omega (arith, few-columns)))
+      let whole = accepted-whole i (w .accepted) in
+      rw (no-cause causes TextLength whole, no-cause causes TextHeads whole, le-ltb 4096 (innerArea i .width) (omega (arith, few-columns)))
 
   -- the notice's lines are wrapped, and no more than the text's records
   pub wrapped-lines : composedLines i ≡ lines (ruleOf (i .notice .ambiguous) (innerArea i .width) (w .trim)) WordWrap (i .notice .alignment) (i .text)

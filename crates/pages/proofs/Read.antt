@@ -12,7 +12,8 @@ use Rattle.layout.specs.declared.Rect.{Rect}
 use Rattle.line_composer.specs.Lines.{Line}
 use Rattle.render_line.specs.RenderLine.{drawnStarts, lineOn}
 use Rattle.render_lines.specs.Rows.{noLine}
-use Rattle.draw_notice.specs.Call.{Call, cellsAfter}
+use Rattle.draw_notice.specs.Call.{Call}
+use Rattle.draw_notice.specs.Pair.{pairCells}
 use Rattle.pages.specs.Pages.{pageCall, innerArea, composedLines, pageCount, pagesOf, scrollOf, Placement, placementOf, solidPlaced, placementsFrom, placements}
 use Rattle.pages.specs.Reading.{Seen, seen, each, look, pagesRead, OneCell, WrappedNotice}
 use Rattle.pages.proofs.Fit.{Fit}
@@ -75,7 +76,7 @@ module _ (i : Call) (w : WrappedNotice i) (fit : Fit (innerArea i .width) (compo
 
   -- the symbol read in a cell of a page
   abbrev lookAt : ℕ → ℕ → ℕ → List Seen
-  lookAt page row column = look page row column (getD (cellsAfter (pageCall i page)) (row * i .columns + column) 0)
+  lookAt page row column = look page row column (getD (pairCells (pageCall i page)) (row * i .columns + column) 0)
 
   -- reading a row of a page gives its line
   row-there : (page j : ℕ) → j < inner .height

@@ -1,8 +1,7 @@
 -- For an accepted notice with a non-empty inner area: the inner area is on the screen, and every page of a wrapped one is accepted.
-use Prim.Native.Nat.{ℕ, _+_, _-_, _*_, _<_, _≤_}
+use Prim.Native.Nat.{ℕ, _+_, _*_, _<_, _≤_}
 use mathlib.Core.Path.{_≡_, refl, sym, _∙_}
 use mathlib.Core.Bool.{true, false}
-use mathlib.Core.List.{List}
 use native.Mathlib.Omega.{arith}
 use borrow.Author.Tests.{ne-eqb}
 use lib.ListN.{length, length-replicate}
@@ -12,18 +11,20 @@ use Rattle.layout.specs.Rect.{rightOf, bottomOf, meet, isEmpty, contains}
 use Rattle.refuse.specs.declared.Verdict.the-variants.{Accepted}
 use Rattle.refuse.specs.Causes.{mostAccepted}
 use Rattle.refuse.proofs.Accepted.{ScreenAccepted, sized}
-use Rattle.block.specs.declared.Block.{Block}
-use Rattle.block.specs.Inner.{innerOf}
 use Rattle.buffer.specs.Drawing.{areaOf}
-use Rattle.buffer.specs.PartsExtra.{AreaOnScreen}
+use Rattle.buffer.specs.PartsExtra.{HasCells, AreaOnScreen}
 use Rattle.buffer.proofs.OnScreen.{meeting-on-screen}
 use Rattle.buffer.proofs.Within.{cell-inside}
 use Rattle.layout.proofs.NotEmpty.{not-empty}
 use Rattle.render_line.proofs.RowDrawn.{right-sum, bottom-sum}
 use Rattle.paragraph.specs.Notice.{innerAreaOf}
 use Rattle.paragraph.proofs.Insides.{inner-on-screen}
+use Rattle.paragraph.proofs.Frames.{outer-some}
+use Rattle.draw_text.specs.Call.{textStyles}
 use Rattle.draw_notice.specs.Call.{Call, noticeStyles, causesOf, verdictOf, screenIn}
+use Rattle.draw_notice.specs.Pair.{BothAccepted}
 use Rattle.draw_notice.proofs.Answers.{screen-right, screen-cells}
+use Rattle.draw_notice.proofs.Pair.{accepted-whole, accepted-apart}
 use Rattle.pages.specs.Pages.{blankCells, callAt, innerArea}
 use Rattle.pages.specs.Reading.{WrappedNotice}
 use Rattle.pages.specs.Inside.{DrawnNotice}
@@ -32,34 +33,31 @@ use Rattle.pages.specs.Inside.{DrawnNotice}
 pub some-cell : (r : Rect) → 0 < r .width → 0 < r .height → isEmpty r ≡ false
 some-cell r wide high = rw (ne-eqb (r .width) 0 (λ e. omega arith), ne-eqb (r .height) 0 (λ e. omega arith))
 
--- if the inner area isn't empty, neither is the area
-outer-some : (b : Block) (titles : List ℕ) (met : Rect) → isEmpty (innerOf b titles met) ≡ false → isEmpty met ≡ false
-unfolding innerOf
-outer-some b titles met e =
-    let some = not-empty (innerOf b titles met) e in
-    some-cell met (longer (met .width) _ _ _ (some .0)) (longer (met .height) _ _ _ (some .1))
-  where
-    longer : (size before after paddings : ℕ) → 0 < size - before - after - paddings → 0 < size
-    longer size before after paddings h = omega arith
-
 -- the intersection of the notice's area and the screen
 abbrev pub met : Call → Rect
 met i = meet (i .area) (areaOf (screenIn i))
 
+-- a non-empty inner area: something is met, and the inner area is on a screen with cells
+module _ (i : Call) (some : isEmpty (innerArea i) ≡ false) where
+  pub some-met : isEmpty (met i) ≡ false
+  unfolding innerArea innerAreaOf
+  some-met = outer-some (i .notice .block) (i .titles) (met i) some
+
+  pub inner-there : HasCells (screenIn i) (length (i .cells)) → AreaOnScreen (screenIn i) (length (i .cells)) (innerArea i)
+  unfolding innerArea innerAreaOf
+  inner-there s =
+      inner-on-screen (screenIn i) (length (i .cells)) (i .notice .block) (i .titles) (met i)
+      (meeting-on-screen (screenIn i) (length (i .cells)) (met i) (s .columns) (s .size) (i .area) refl some-met)
+      (s .few-columns) (s .few-rows) some
+
 -- an accepted notice with a non-empty inner area, wrapped or not
 module _ (i : Call) (d : DrawnNotice i) where
   pub drawn-met : isEmpty (met i) ≡ false
-  unfolding innerArea innerAreaOf
-  drawn-met = outer-some (i .notice .block) (i .titles) (met i) (d .some-cell)
+  drawn-met = some-met i (d .some-cell)
 
   -- the inner area is on the screen
   pub drawn-there : AreaOnScreen (screenIn i) (length (i .cells)) (innerArea i)
-  unfolding innerArea innerAreaOf
-  drawn-there =
-      let s = screen-cells i (d .accepted) in
-      inner-on-screen (screenIn i) (length (i .cells)) (i .notice .block) (i .titles) (met i)
-      (meeting-on-screen (screenIn i) (length (i .cells)) (met i) (s .columns) (s .size) (i .area) refl drawn-met)
-      (s .few-columns) (s .few-rows) (d .some-cell)
+  drawn-there = inner-there i (d .some-cell) (screen-cells i (accepted-whole i (d .accepted)))
 
   -- so its right and bottom don't saturate, and it contains each cell between its edges
   pub right-there : rightOf (innerArea i) ≡ innerArea i .x + innerArea i .width
@@ -78,15 +76,18 @@ module _ (i : Call) (w : WrappedNotice i) where
   is-drawn = record { accepted = w .accepted; some-cell = w .some-cell }
 
   pub screen-sized : ScreenAccepted mostAccepted (i .columns) (i .rows) (length (i .cells))
-  screen-sized = sized mostAccepted (i .columns) (i .rows) (length (i .cells)) (screen-right i (w .accepted))
+  screen-sized = sized mostAccepted (i .columns) (i .rows) (length (i .cells)) (screen-right i (accepted-whole i (w .accepted)))
 
   pub all-blank : length (blankCells i) ≡ length (i .cells)
   all-blank = length-replicate (i .columns * i .rows) blankCell ∙ sym (screen-sized .all-cells)
 
   -- no cause depends on the scroll row or on the contents of cells
-  pub accepted-at : (scroll : ℕ) → verdictOf (callAt i scroll) ≡ Accepted
-  unfolding verdictOf causesOf noticeStyles
-  accepted-at scroll = rw all-blank (w .accepted)
+  whole-at : (scroll : ℕ) → verdictOf (callAt i scroll) ≡ Accepted
+  unfolding verdictOf causesOf noticeStyles textStyles
+  whole-at scroll = rw all-blank (accepted-whole i (w .accepted))
+
+  pub accepted-at : (scroll : ℕ) → BothAccepted (callAt i scroll)
+  accepted-at scroll = accepted-apart (callAt i scroll) (whole-at scroll)
 
   -- nor does the inner area
   pub page-drawn : (scroll : ℕ) → DrawnNotice (callAt i scroll)

@@ -1,4 +1,4 @@
--- unwrapped-unclipped: drawing an unwrapped notice clips no glyph, since no line is wider than the inner area.
+-- unwrapped-unclipped: drawing an unwrapped text clips no glyph, since no line is wider than its area.
 use Prim.Native.Nat.{ℕ, _+_, _≤_}
 use mathlib.Core.Path.{_≡_, refl, ap}
 use mathlib.Core.Bool.{false}
@@ -13,7 +13,8 @@ use Rattle.text.specs.Line.{Glyph, TextLine, linesFrom, glyphsOf, total, starts
 use Rattle.text.specs.Lists.{countOf}
 use Rattle.text.proofs.Bools.{cond-cases}
 use Rattle.layout.specs.declared.Rect.{Rect}
-use Rattle.layout.specs.Rect.{isEmpty}
+use Rattle.layout.specs.Rect.{meet, isEmpty}
+use Rattle.buffer.specs.Drawing.{areaOf}
 use Rattle.refuse.specs.declared.Verdict.{Verdict}
 use Rattle.refuse.specs.declared.Verdict.the-variants.{Accepted, Refused}
 use Rattle.refuse.specs.Refusal.{unlessRefused}
@@ -29,9 +30,10 @@ use Rattle.render_line.specs.RenderLine.{lineOffset, drawnStarts, clippedIn}
 use Rattle.render_lines.specs.declared.DrawCounts.{DrawCounts}
 use Rattle.render_lines.specs.Rows.{linesDrawn, sumOf, clippedOn}
 use Rattle.render_lines.proofs.Bounds.{sum-append, sum-take, sum-drop}
-use Rattle.paragraph.specs.declared.Notice.{Notice}
-use Rattle.paragraph.specs.Notice.{noticeLines, innerAreaOf, insideCounts, noticeCounts, noDrawCounts}
-use Rattle.draw_notice.specs.Call.{Call, verdictOf, screenIn, rowsOf, countsOf}
+use Rattle.render_text.specs.declared.TextSettings.{TextSettings}
+use Rattle.paragraph.specs.Notice.{noticeLines, insideCounts, noDrawCounts}
+use Rattle.paragraph.specs.Apart.{paragraphCounts}
+use Rattle.draw_text.specs.Call.{Call, verdictOf, screenIn, rowsOf, countsOf}
 use Rattle.pages.proofs.Offset.{offset-fits}
 use Rattle.pages.proofs.Placed.{within-area}
 
@@ -77,9 +79,9 @@ module _ (u : Rule) (column : ℕ) where
   unfolding lines
   lines-unclipped default text = all-unclipped default (linesFrom 0 text)
 
--- ---- an unwrapped notice
+-- ---- an unwrapped text in an area
 
-module _ (n : Notice) (column : ℕ) (off : n .wrap ≡ Off column) (text : List ℕ) where
+module _ (n : TextSettings) (column : ℕ) (off : n .wrap ≡ Off column) (text : List ℕ) where
   unwrapped-lines : (width : ℕ) → noticeLines n text width ≡ lines (ruleOf (n .ambiguous) width false) (Truncate column) (n .alignment) text
   unfolding noticeLines
   unwrapped-lines width = rw off
@@ -106,9 +108,8 @@ unless-unclipped : (v : Verdict) (c : DrawCounts) → c .clipped ≡ 0 → unles
 unless-unclipped Accepted c none = none
 unless-unclipped (Refused why) c none = refl
 
--- Theorem `unwrapped-unclipped`: drawing an unwrapped notice clips no glyph.
-pub unwrapped-unclipped : (i : Call) (column : ℕ) → i .notice .wrap ≡ Off column → countsOf i .clipped ≡ 0
-unfolding countsOf rowsOf noticeCounts
-unwrapped-unclipped i column off =
-    let inner : Rect = innerAreaOf (screenIn i) (i .titles) (i .notice) (i .area) in
-    unless-unclipped (verdictOf i) (rowsOf i) (inside-unclipped (i .notice) column off (i .text) inner)
+-- Theorem `unwrapped-unclipped`: drawing an unwrapped text clips no glyph.
+pub unwrapped-unclipped : (call : Call) (column : ℕ) → call .settings .wrap ≡ Off column → countsOf call .clipped ≡ 0
+unfolding countsOf rowsOf paragraphCounts
+unwrapped-unclipped call column off =
+    unless-unclipped (verdictOf call) (rowsOf call) (inside-unclipped (call .settings) column off (call .text) (meet (call .area) (areaOf (screenIn call))))

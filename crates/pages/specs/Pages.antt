@@ -1,5 +1,5 @@
--- Document 01, 'Rows, pages, tally': "Demand 3's pages" and the place of each glyph on them. A notice is given by a call of
--- `draw_notice`, and each of its pages is such a call, with the call's verdict, cells and counts.
+-- Document 01, 'Rows, pages, tally': "Demand 3's pages" and the place of each glyph on them. A notice is given with its screen, and
+-- so is each of its pages, which its two calls draw (draw_notice: Pair).
 use Prim.Native.Nat.{ℕ, suc, _+_, _-_, _*_, _/_}
 use mathlib.Core.Bool.{cond, not, _&&_}
 use mathlib.Core.List.{List, [], _∷_, _++_, map}
@@ -11,7 +11,7 @@ use Rattle.line_composer.specs.Lines.{Line}
 use Rattle.line_composer.specs.Places.{isPlaced}
 use Rattle.render_line.specs.RenderLine.{drawnStarts}
 use Rattle.paragraph.specs.declared.Notice.{Notice}
-use Rattle.paragraph.specs.Notice.{noticeLines, innerAreaOf}
+use Rattle.paragraph.specs.Notice.{settingsOf, noticeLines, innerAreaOf}
 use Rattle.draw_notice.specs.Call.{Call, screenIn}
 
 -- the same notice, scrolled to another row: "Their drawings differ in the scroll row alone"
@@ -31,7 +31,7 @@ scrolledTo scroll n =
 abbrev pub blankCells : Call → List ℕ
 blankCells i = replicate (i .columns * i .rows) blankCell
 
--- the call that draws the notice on blank cells from a scroll row on
+-- the notice on blank cells, from a scroll row on
 abbrev pub callAt : Call → ℕ → Call
 callAt i scroll =
     record {
@@ -47,10 +47,10 @@ callAt i scroll =
 
 -- the inner area, and the "lines, composed with the inner width as the limit"
 unfoldable pub innerArea : Call → Rect
-innerArea i = innerAreaOf (screenIn i) (i .titles) (i .notice) (i .area)
+innerArea i = innerAreaOf (screenIn i) (i .titles) (i .notice .block) (i .area)
 
 unfoldable pub composedLines : Call → List Line
-composedLines i = noticeLines (i .notice) (i .text) (innerArea i .width)
+composedLines i = noticeLines (settingsOf (i .notice)) (i .text) (innerArea i .width)
 
 -- "n lines … make n / h pages at inner height h, rounded up"
 abbrev pub pageCount : ℕ → ℕ → ℕ
@@ -63,7 +63,7 @@ pagesOf i = pageCount (length (composedLines i)) (innerArea i .height)
 abbrev pub scrollOf : Call → ℕ → ℕ
 scrollOf i page = page * innerArea i .height
 
--- the call that draws a page
+-- a page
 abbrev pub pageCall : Call → ℕ → Call
 pageCall i page = callAt i (scrollOf i page)
 

@@ -1,4 +1,5 @@
 -- Demand 3, 'Nothing is lost', quoted from the demands (docs/PROMISES.md): the symbols read over all pages, the notices it covers.
+-- Document 02, C-15: "the page reading is to hold for the pair", frame, then text.
 use Prim.Native.Nat.{ℕ, zero, suc, _+_, _*_, _<_}
 use mathlib.Core.Path.{_≡_}
 use mathlib.Core.Bool.{Bool, true, false, cond, _&&_}
@@ -14,7 +15,8 @@ use Rattle.nothing_lost.specs.Glyphs.{solids}
 use Rattle.line_composer.specs.declared.Wrap.the-variants.{On}
 use Rattle.line_composer.specs.Lines.{dropped}
 use Rattle.tally.specs.Call as tally
-use Rattle.draw_notice.specs.Call.{Call, verdictOf, countsOf, cellsAfter}
+use Rattle.draw_notice.specs.Call.{Call}
+use Rattle.draw_notice.specs.Pair.{pairCells, pairCounts, BothAccepted}
 use Rattle.pages.specs.Pages.{Placement, innerArea, pagesOf, scrollOf, pageCall, placements}
 
 -- a symbol read on a page, at a row and column of the screen
@@ -45,7 +47,7 @@ pagesRead i =
     each 0 (pagesOf i) (λ page.
     each (inner .y) (inner .height) (λ row.
     each (inner .x) (inner .width) (λ column.
-    look page row column (getD (cellsAfter (pageCall i page)) (row * i .columns + column) 0))))
+    look page row column (getD (pairCells (pageCall i page)) (row * i .columns + column) 0))))
 
 -- the sum f a + f (a + 1) + … + f (a + n - 1)
 abbrev pub summed : ℕ → ℕ → (ℕ → ℕ) → ℕ
@@ -60,14 +62,14 @@ OneCell (g ∷ gs) = ((g .width ≡ 1) × (g .whitespace ≡ eqb (g .symbol) bla
 
 -- "any accepted notice that is drawn wrapped, trimmed or not", with "an inner area of one cell or more"
 pub record WrappedNotice (i : Call) : Type 0 where
-  pub accepted : verdictOf i ≡ Accepted
+  pub accepted : BothAccepted i
   pub trim : Bool
   pub wrapped : i .notice .wrap ≡ On trim
   pub some-cell : isEmpty (innerArea i) ≡ false
 
 -- Each page's scroll row fits in 16 bits, and "None is refused, as no cause looks at the scroll row".
 abbrev pub Reached : Call → Type 0
-Reached i = (page : ℕ) → page < pagesOf i → (scrollOf i page < 65536) × (verdictOf (pageCall i page) ≡ Accepted)
+Reached i = (page : ℕ) → page < pagesOf i → (scrollOf i page < 65536) × BothAccepted (pageCall i page)
 
 -- whether a glyph is placed on a page, at a row and column of the screen
 abbrev pub isPlacedAt : ℕ → ℕ → ℕ → Placement → Bool
@@ -75,7 +77,7 @@ isPlacedAt page row column p = eqb (p .page) page && eqb (p .row) row && eqb (p 
 
 -- the symbol of a cell on a page, at a row and column of the screen
 abbrev pub symbolAt : Call → ℕ → ℕ → ℕ → ℕ
-symbolAt i page row column = cellFrom (getD (cellsAfter (pageCall i page)) (row * i .columns + column) 0) .symbol
+symbolAt i page row column = cellFrom (getD (pairCells (pageCall i page)) (row * i .columns + column) 0) .symbol
 
 -- Document 01: "Inner cells without a glyph hold the blank symbol." `placements` has the non-whitespace glyphs, so the cells of
 -- whitespace glyphs hold it too.
@@ -114,9 +116,9 @@ pagesTally i trim = tally.callOf (i .text) (i .notice .ambiguous) (innerArea i .
 pub record SameCounts (i : Call) (trim : Bool) : Type 0 where
   pub reached : Reached i
   pub answered : tally.verdictOf (pagesTally i trim) ≡ Accepted
-  pub rows : summed 0 (pagesOf i) (λ page. countsOf (pageCall i page) .rows) ≡ tally.countsOf (pagesTally i trim) .lines
-  pub placed : summed 0 (pagesOf i) (λ page. countsOf (pageCall i page) .placed) ≡ tally.countsOf (pagesTally i trim) .placed
-  pub clipped : summed 0 (pagesOf i) (λ page. countsOf (pageCall i page) .clipped) ≡ tally.countsOf (pagesTally i trim) .clipped
+  pub rows : summed 0 (pagesOf i) (λ page. pairCounts (pageCall i page) .rows) ≡ tally.countsOf (pagesTally i trim) .lines
+  pub placed : summed 0 (pagesOf i) (λ page. pairCounts (pageCall i page) .placed) ≡ tally.countsOf (pagesTally i trim) .placed
+  pub clipped : summed 0 (pagesOf i) (λ page. pairCounts (pageCall i page) .clipped) ≡ tally.countsOf (pagesTally i trim) .clipped
 
 -- Demand 3 as one claim: the pages of every such notice whose glyphs are one cell wide; the tally of every accepted text at every
 -- limit above 0, for glyphs of any width; and the pages' counts, which are the tally's.

@@ -1,29 +1,27 @@
--- The inner area: one law for each path through `render_paragraph`.
+-- The text in the intersection of an area and the screen: one law for each path through `render_paragraph`. `inner-on-screen`: a non-empty
+-- inner area is on the screen.
 use Prim.Native.Nat.{ℕ, _<_, _^_}
 use mathlib.Core.Path.{_≡_, sym, _∙_}
-use mathlib.Core.Bool.{Bool, true, false, not}
-use mathlib.Core.List.{List, [], _∷_}
+use mathlib.Core.Bool.{Bool, true, false}
+use mathlib.Core.List.{List}
 use native.Mathlib.Omega.{arith}
 use Rattle.block.specs.declared.Block.{Block}
 use Rattle.block.specs.Inner.{innerOf}
 use Rattle.block.proofs.Within.{inside}
 use Rattle.layout.specs.declared.Rect.{Rect}
-use Rattle.layout.specs.Rect.{isEmpty}
+use Rattle.layout.specs.Rect.{meet, isEmpty}
 use Rattle.buffer.specs.declared.Screen.{Screen}
-use Rattle.buffer.specs.Drawing.{drawn, over, styleAt}
-use Rattle.buffer.specs.PartsExtra.{OnScreen}
+use Rattle.buffer.specs.Drawing.{drawn, areaOf}
+use Rattle.buffer.specs.PartsExtra.{OnScreen, HasCells, AreaOnScreen}
 use Rattle.buffer.proofs.Drawn.{drawn-same, drawn-none}
-use Rattle.buffer.proofs.Order.{first-then, only-spared}
-use Rattle.cell.specs.Cell.{styled}
 use Rattle.layout.proofs.NotEmpty.{not-empty}
 use Rattle.buffer.proofs.Over.{over-empty}
+use Rattle.render_block.proofs.Frames.{met-on-screen}
 use Rattle.render_lines.specs.declared.DrawCounts.{DrawCounts}
-use Rattle.render_lines.specs.Rows.{textOn}
-use Rattle.buffer.specs.PartsExtra.{AreaOnScreen}
 use Rattle.render_text.specs.declared.TextSettings.{TextSettings}
 use Rattle.render_text.specs.SettingsExtra.{textOptionsOf, linesOn, linesCounted}
-use Rattle.paragraph.specs.declared.Notice.{Notice}
 use Rattle.paragraph.specs.Notice.{noticeLines, noDrawCounts, insideOf, insideCounts}
+use Rattle.paragraph.specs.Apart.{paragraphOf, paragraphCounts}
 
 -- a non-empty inner area of an area on the screen is on the screen
 pub inner-on-screen : (screen : Screen) (count : ℕ) (b : Block) (titles : List ℕ) (met : Rect) → OnScreen screen count met
@@ -40,69 +38,53 @@ inner-on-screen screen count b titles met on few-columns few-rows e =
       few-rows = few-rows;
     }
 
--- the settings for the text of a notice
-abbrev textSettings : Notice → TextSettings
-textSettings n = record { style = n .style; «text_style» = n .«text_style»; alignment = n .alignment; wrap = n .wrap; scroll = n .scroll; ambiguous = n .ambiguous }
+-- in an empty area no cell is drawn
+pub inside-none : (styles text : List ℕ) (s : TextSettings) (inner : Rect) (column row cell : ℕ) → isEmpty inner ≡ true
+    → insideOf styles text s inner column row cell ≡ cell
+unfolding insideOf
+inside-none styles text s inner column row cell e = rw e (over-empty inner _ column row cell e)
 
-module _ (columns : ℕ) (styles text : List ℕ) (n : Notice) (inner : Rect) (cells : List ℕ) where
-  -- a non-empty area gets its style, then its lines
-  inside-drawn : isEmpty inner ≡ false → (last : List ℕ) → last ≡ drawn columns (linesOn styles text (textSettings n) inner) cells
-      → last ≡ drawn columns (insideOf styles text n inner) cells
-  unfolding insideOf noticeLines linesOn textOptionsOf
-  inside-drawn g last p = rw g p
+pub inside-empty : (columns : ℕ) (styles text : List ℕ) (s : TextSettings) (inner : Rect) (cells : List ℕ)
+    → isEmpty inner ≡ true → 0 < columns → cells ≡ drawn columns (insideOf styles text s inner) cells
+inside-empty columns styles text s inner cells e some =
+    sym
+    (drawn-same columns (insideOf styles text s inner) (λ column row cell. cell) cells some (λ column row cell _. inside-none styles text s inner column row cell e)
+    ∙ drawn-none columns cells)
 
-  -- in an empty area no cell is drawn
-  inside-empty : isEmpty inner ≡ true → 0 < columns → cells ≡ drawn columns (insideOf styles text n inner) cells
-  unfolding insideOf
-  inside-empty e some =
-      first-then columns _ (_ ∷ []) cells cells cells
-      (sym
-      (drawn-same columns (over inner (styled (styleAt styles (n .style)))) (λ column row cell. cell) cells some (λ column row cell _. over-empty inner _ column row cell e)
-      ∙ drawn-none columns cells))
-      (only-spared columns (not (isEmpty inner)) (textOn styles (n .«text_style») (noticeLines n text (inner .width)) inner (n .scroll)) cells some (rw e))
+module _ (screen : Screen) (text : List ℕ) (s : TextSettings) (area all met : Rect) (a : all ≡ areaOf screen) (m : met ≡ meet area all) (empty : Bool) (f : empty ≡ isEmpty met) where
+  met-is-meeting : met ≡ meet area (areaOf screen)
+  met-is-meeting = rw a at m
 
-module _ (text : List ℕ) (n : Notice) (inner : Rect) where
-  inside-counted : isEmpty inner ≡ false → (r : DrawCounts) → r ≡ linesCounted text (textSettings n) inner → r ≡ insideCounts text n inner
-  unfolding insideCounts noticeLines linesCounted textOptionsOf
-  inside-counted g r p = rw g p
+  none-met : empty ≡ true → isEmpty (meet area (areaOf screen)) ≡ true
+  none-met g = rw met-is-meeting at (sym f ∙ g)
 
-  inside-uncounted : isEmpty inner ≡ true → noDrawCounts ≡ insideCounts text n inner
-  unfolding insideCounts
-  inside-uncounted e = rw e
+  some-met : empty ≡ false → isEmpty (meet area (areaOf screen)) ≡ false
+  some-met g = rw met-is-meeting at (sym f ∙ g)
 
--- The inner area that `render_paragraph` computed for a notice drawn in `met`, and whether it is empty.
-pub record InnerFound (n : Notice) (titles : List ℕ) (met inner : Rect) (empty : Bool) : Type 0 where
-  pub inner-of-met : inner ≡ innerOf (n .block) titles met
-  pub empty-found : empty ≡ isEmpty inner
+  module _ (columns : ℕ) (styles cells : List ℕ) where
+    -- an empty meeting draws no cell
+    pub text-left : empty ≡ true → 0 < columns → cells ≡ drawn columns (paragraphOf styles screen text s area) cells
+    unfolding paragraphOf
+    text-left g some = inside-empty columns styles text s (meet area (areaOf screen)) cells (none-met g) some
 
-pub inner-found : (n : Notice) (titles : List ℕ) (met inner : Rect) (empty : Bool) (b : Block)
-    → b ≡ n .block → inner ≡ innerOf b titles met → empty ≡ isEmpty inner → InnerFound n titles met inner empty
-inner-found n titles met inner empty b k i f = record { inner-of-met = rw k at i; empty-found = f }
+    -- a non-empty meeting gets its style, then its lines
+    pub text-drawn : empty ≡ false → (last : List ℕ) → last ≡ drawn columns (linesOn styles text s met) cells
+        → last ≡ drawn columns (paragraphOf styles screen text s area) cells
+    unfolding paragraphOf insideOf noticeLines linesOn textOptionsOf
+    text-drawn g last p = rw (some-met g) (rw met-is-meeting at p)
 
-module _ (n : Notice) (titles : List ℕ) (met inner : Rect) (empty : Bool) (found : InnerFound n titles met inner empty) where
-  module _ (columns : ℕ) (styles text cells : List ℕ) where
-    pub empty-undrawn : empty ≡ true → 0 < columns → cells ≡ drawn columns (insideOf styles text n (innerOf (n .block) titles met)) cells
-    empty-undrawn g some = rw (found .inner-of-met) at (inside-empty columns styles text n inner cells (sym (found .empty-found) ∙ g) some)
+  pub text-none : empty ≡ true → noDrawCounts ≡ paragraphCounts screen text s area
+  unfolding paragraphCounts insideCounts
+  text-none g = rw (none-met g)
 
-    pub drawn-inside : empty ≡ false → (next : List ℕ) → next ≡ drawn columns (linesOn styles text (textSettings n) inner) cells
-        → next ≡ drawn columns (insideOf styles text n (innerOf (n .block) titles met)) cells
-    drawn-inside g next p = rw (found .inner-of-met) at (inside-drawn columns styles text n inner cells (sym (found .empty-found) ∙ g) next p)
+  pub text-counted : empty ≡ false → (r : DrawCounts) → r ≡ linesCounted text s met → r ≡ paragraphCounts screen text s area
+  unfolding paragraphCounts insideCounts noticeLines linesCounted textOptionsOf
+  text-counted g r p = rw (some-met g) (rw met-is-meeting at p)
 
-  module _ (text : List ℕ) where
-    pub empty-uncounted : empty ≡ true → noDrawCounts ≡ insideCounts text n (innerOf (n .block) titles met)
-    empty-uncounted g = rw (found .inner-of-met) at (inside-uncounted text n inner (sym (found .empty-found) ∙ g))
+-- a non-empty meeting is on the screen
+pub area-there : (screen : Screen) (count : ℕ) (area all met : Rect) (empty : Bool) → HasCells screen count → all ≡ areaOf screen → met ≡ meet area all
+    → empty ≡ isEmpty met → empty ≡ false → AreaOnScreen screen count met
+area-there screen count area all met empty h a m f g =
+    record { on-screen = met-on-screen screen count area all met empty h a m f g; few-columns = h .few-columns; few-rows = h .few-rows }
 
-    pub counted-inside : empty ≡ false → (r : DrawCounts) → r ≡ linesCounted text (textSettings n) inner
-        → r ≡ insideCounts text n (innerOf (n .block) titles met)
-    counted-inside g r p = rw (found .inner-of-met) at (inside-counted text n inner (sym (found .empty-found) ∙ g) r p)
-
-pub has-cell : (inner : Rect) (empty : Bool) → empty ≡ isEmpty inner → empty ≡ false → isEmpty inner ≡ false
-has-cell inner empty f g = sym f ∙ g
-
-pub area-there : (screen : Screen) (count : ℕ) (b : Block) (titles : List ℕ) (met inner : Rect) (empty : Bool) → OnScreen screen count met
-    → screen .columns < 2 ^ 15 → screen .rows < 2 ^ 15 → inner ≡ innerOf b titles met → empty ≡ isEmpty inner → empty ≡ false
-    → AreaOnScreen screen count inner
-area-there screen count b titles met inner empty on few-columns few-rows i f g =
-    rw i (inner-on-screen screen count b titles met on few-columns few-rows (rw i at (sym f ∙ g)))
-
-pub ruleset inside-laws = (has-cell, area-there)
+pub ruleset inside-laws = (text-left, text-drawn, text-none, text-counted, area-there)

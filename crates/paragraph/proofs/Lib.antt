@@ -1,5 +1,6 @@
 pub mod Insides
-pub mod Notices
+pub mod Frames
 pub mod Keeping
 pub mod KeepsBits
 pub mod Elsewhere
+pub mod Apart

@@ -1,1 +1,2 @@
 pub mod Notice
+pub mod Apart

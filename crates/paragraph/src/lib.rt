@@ -1,4 +1,4 @@
-// Drawing of a notice: paragraph.rs: `Paragraph::render` and `Paragraph::render_paragraph`.
+// Drawing of a notice, its frame and its text apart: paragraph.rs: `Paragraph::render` and `Paragraph::render_paragraph`.
 use block::Block;
 use buffer::Ink;
 use buffer::Screen;
@@ -20,11 +20,11 @@ ghost use Rattle.buffer.specs.Drawing.{drawn, over, inOrder, styleAt};
 ghost use Rattle.buffer.specs.PartsExtra.{OnScreen};
 ghost use Rattle.buffer.specs.PartsExtra.{HasCells};
 ghost use Rattle.block.specs.Causes.{SymbolsFit};
-ghost use Rattle.block.specs.Inner.{innerOf};
 ghost use Rattle.titles.specs.Titles.{titlesFrom};
 ghost use Rattle.render_block.specs.Frame.{frame};
 ghost use Rattle.render_lines.specs.DrawingExtra.{Composable};
-ghost use Rattle.paragraph.specs.Notice.{insideOf, insideCounts, noticeOf, noticeCounts};
+ghost use Rattle.paragraph.specs.Notice.{settingsOf, innerAreaOf};
+ghost use Rattle.paragraph.specs.Apart.{frameOf, paragraphOf, paragraphCounts};
 
 // Settings of a notice (paragraph.rs: `Paragraph`). `style` and `text_style` are style numbers, `alignment` is the default of its lines,
 // `scroll` the first line drawn, `ambiguous` how ambiguous glyphs of text and titles are read.
@@ -38,46 +38,23 @@ pub struct Notice {
     pub ambiguous: AmbiguousWidth,
 }
 
-// Draws the text in the inner area of `met`, which is on the screen; nothing if the inner area is empty.
-// (paragraph.rs: `Paragraph::render_paragraph`)
-fn render_paragraph(
-    screen: Screen,
-    cells: &mut [u64],
-    styles: &[u64],
-    text: &[u32],
-    titles: &[u32],
-    met: Rect,
-    notice: Notice,
-) -> DrawCounts
-    requires { ⌜ Composable (now text) × (screen .columns < 2 ^ 15) × (screen .rows < 2 ^ 15) ⌝ }
-    requires { ⌜ OnScreen screen (length (now cells)) met ⌝ }
-    ensures cells { λ r.
-        let inner = innerOf (notice .block) (now (titles .entry)) met in
-        let drawing = insideOf (now (styles .entry)) (now (text .entry)) notice inner in
-        ⌜ now (cells .exit) ≡ drawn (screen .columns) drawing (now (cells .entry)) ⌝ }
-    ensures counts { λ r. ⌜ r ≡ insideCounts (now (text .entry)) notice (innerOf (notice .block) (now (titles .entry)) met) ⌝ }
-{
-    let block = notice.block;
-    let inner = block.inner(titles, met);
-    if inner.is_empty() {
-        return DrawCounts {
-            rows: 0,
-            placed: 0,
-            clipped: 0,
-        };
+impl Notice {
+    // Returns the settings of the notice without its block.
+    pub fn text_settings(self) -> TextSettings
+        ensures { λ r. ⌜ r ≡ settingsOf self ⌝ }
+    {
+        let alignment = self.alignment;
+        let wrap = self.wrap;
+        let ambiguous = self.ambiguous;
+        TextSettings {
+            style: self.style,
+            text_style: self.text_style,
+            alignment,
+            wrap,
+            scroll: self.scroll,
+            ambiguous,
+        }
     }
-    let alignment = notice.alignment;
-    let wrap = notice.wrap;
-    let ambiguous = notice.ambiguous;
-    let inside = TextSettings {
-        style: notice.style,
-        text_style: notice.text_style,
-        alignment,
-        wrap,
-        scroll: notice.scroll,
-        ambiguous,
-    };
-    render_text::render_text(screen, cells, styles, text, inner, inside)
 }
 
 // Applies the notice's style to `met`, which is on the screen and not empty, then draws the frame and its shadow.
@@ -86,48 +63,78 @@ fn render_style_and_frame(
     cells: &mut [u64],
     styles: &[u64],
     titles: &[u32],
+    ambiguous: AmbiguousWidth,
     met: Rect,
-    notice: Notice,
+    style: u8,
+    block: Block,
 )
-    requires { ⌜ SymbolsFit (notice .block) × (isEmpty met ≡ false) × (screen .columns < 2 ^ 15) × (screen .rows < 2 ^ 15) × Opens (now titles) ⌝ }
+    requires { ⌜ SymbolsFit block × (isEmpty met ≡ false) × (screen .columns < 2 ^ 15) × (screen .rows < 2 ^ 15) × Opens (now titles) ⌝ }
     requires { ⌜ OnScreen screen (length (now cells)) met ⌝ }
     ensures { λ _.
-        let under = over met (styled (styleAt (now (styles .entry)) (notice .style))) in
-        let around = frame (now (styles .entry)) screen (titlesFrom (notice .ambiguous) (now (titles .entry))) (notice .block) met in
+        let under = over met (styled (styleAt (now (styles .entry)) style)) in
+        let around = frame (now (styles .entry)) screen (titlesFrom ambiguous (now (titles .entry))) block met in
         ⌜ now (cells .exit) ≡ drawn (screen .columns) (inOrder (under ∷ around ∷ [])) (now (cells .entry)) ⌝ }
 {
-    let ambiguous = notice.ambiguous;
-    let ink = Ink::Style(buffer::style_at(styles, notice.style));
+    let ink = Ink::Style(buffer::style_at(styles, style));
     buffer::paint_area(screen, cells, met, ink);
-    render_block::render_frame(screen, cells, styles, titles, ambiguous, notice.block, met);
+    render_block::render_frame(screen, cells, styles, titles, ambiguous, block, met);
 }
 
-// Draws a notice in the intersection of its area and the screen, and its shadow; nothing if the intersection is empty.
-// (paragraph.rs: `Paragraph::render`)
-pub fn render(
+// Draws the frame of a notice in the intersection of its area and the screen, the notice's style first, and its shadow; nothing if the
+// intersection is empty. (paragraph.rs: the first half of `Paragraph::render`)
+pub fn render_frame(
+    screen: Screen,
+    cells: &mut [u64],
+    styles: &[u64],
+    titles: &[u32],
+    ambiguous: AmbiguousWidth,
+    area: Rect,
+    style: u8,
+    block: Block,
+)
+    requires { ⌜ SymbolsFit block × HasCells screen (length (now cells)) × Opens (now titles) ⌝ }
+    ensures { λ _.
+        let drawing = frameOf (now (styles .entry)) screen (titlesFrom ambiguous (now (titles .entry))) style block area in
+        ⌜ now (cells .exit) ≡ drawn (screen .columns) drawing (now (cells .entry)) ⌝ }
+{
+    let met = area.intersection(screen.area());
+    if met.is_empty() {
+        return;
+    }
+    render_style_and_frame(screen, cells, styles, titles, ambiguous, met, style, block);
+}
+
+// Returns the inner area of the intersection of a notice's area and the screen.
+pub fn inner_area(screen: Screen, titles: &[u32], block: Block, area: Rect) -> Rect
+    ensures { λ r. ⌜ r ≡ innerAreaOf screen (now (titles .entry)) block area ⌝ }
+{
+    let met = area.intersection(screen.area());
+    block.inner(titles, met)
+}
+
+// Lays the notice's style and its lines into the intersection of an area and the screen; nothing if it is empty.
+// (paragraph.rs: `Paragraph::render_paragraph`)
+pub fn render_paragraph(
     screen: Screen,
     cells: &mut [u64],
     styles: &[u64],
     text: &[u32],
-    titles: &[u32],
     area: Rect,
-    notice: Notice,
+    settings: TextSettings,
 ) -> DrawCounts
-    requires { ⌜ SymbolsFit (notice .block) × HasCells screen (length (now cells)) × Opens (now titles) ⌝ }
-    requires { ⌜ Composable (now text) ⌝ }
+    requires { ⌜ Composable (now text) × HasCells screen (length (now cells)) ⌝ }
     ensures cells { λ r.
-        let drawing = noticeOf (now (styles .entry)) screen (now (text .entry)) (now (titles .entry)) notice area in
+        let drawing = paragraphOf (now (styles .entry)) screen (now (text .entry)) settings area in
         ⌜ now (cells .exit) ≡ drawn (screen .columns) drawing (now (cells .entry)) ⌝ }
-    ensures counts { λ r. ⌜ r ≡ noticeCounts screen (now (text .entry)) (now (titles .entry)) notice area ⌝ }
+    ensures counts { λ r. ⌜ r ≡ paragraphCounts screen (now (text .entry)) settings area ⌝ }
 {
-    let met = area.intersection(screen.area());
-    if met.is_empty() {
+    let inside = area.intersection(screen.area());
+    if inside.is_empty() {
         return DrawCounts {
             rows: 0,
             placed: 0,
             clipped: 0,
         };
     }
-    render_style_and_frame(screen, cells, styles, titles, met, notice);
-    render_paragraph(screen, cells, styles, text, titles, met, notice)
+    render_text::render_text(screen, cells, styles, text, inside, settings)
 }

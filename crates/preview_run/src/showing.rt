@@ -1,8 +1,9 @@
 // Shows a notice page by page.
 use crate::Asked;
 use notice::AmbiguousWidth;
+use notice::DrawAnswer;
 use notice::DrawCounts;
-use notice::NoticeAnswer;
+use notice::PagesAnswer;
 use notice::TallyAnswer;
 use notice::Wrap;
 use preview_file::Opening;
@@ -72,8 +73,8 @@ fn show_page(
         wide_cells,
     );
     match preview_sheet::draw(opening, first, cell::blank(), styles, titles, text, cells) {
-        NoticeAnswer::Refused(why) => preview_messages::refused(why.number()),
-        NoticeAnswer::Counts(rows) => {
+        DrawAnswer::Refused(why) => preview_messages::refused(why.number()),
+        DrawAnswer::Counts(rows) => {
             print_page(page, opening.columns, asked.ansi, rows, cells, wide_cells)
         }
     }
@@ -168,7 +169,7 @@ fn show_measured(
     show_tally(text, ambiguous, measure.width, wrap);
 }
 
-// Shows a notice, or prints why it is refused. It is drawn once first, as drawing checks all that measuring does.
+// Shows a notice, or prints why it is refused. Its pages are asked for first, as that checks all that drawing and measuring do.
 fn show_notice(
     opening: Opening,
     asked: Asked,
@@ -180,17 +181,8 @@ fn show_notice(
     cells: &mut [u64],
     wide_cells: &mut [u64],
 ) {
-    let settings = opening.text;
-    let first = settings.scroll;
-    if let NoticeAnswer::Refused(why) = preview_sheet::draw(
-        opening,
-        first,
-        cell::blank(),
-        styles,
-        titles,
-        text,
-        cells,
-    ) {
+    let checked = preview_sheet::checked(opening, styles, titles, text, cells);
+    if let PagesAnswer::Refused(why) = checked {
         preview_messages::refused(why.number());
         return;
     }

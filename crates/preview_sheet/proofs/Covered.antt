@@ -19,10 +19,12 @@ use Rattle.text.specs.Lists.{some}
 use Rattle.text.proofs.Bools.{neither, cases, cond-cases}
 use Rattle.text.proofs.Fields.{glyph-symbol, glyph-width, glyph-is-no-head}
 use Rattle.text.proofs.Reading.{width-plain, width-most}
-use Rattle.cell.specs.Cell.{cellFrom, blankSymbol, blankCell, withSymbol}
+use Rattle.cell.specs.Cell.{cellFrom, blankSymbol, blankCell, withSymbol, styled}
 use Rattle.cell.proofs.Fields.{styled-symbol, symbol-set}
 use Rattle.layout.specs.declared.Rect.{Rect}
-use Rattle.layout.specs.Rect.{contains}
+use Rattle.layout.specs.Rect.{isEmpty, contains}
+use Rattle.buffer.specs.Drawing.{Drawing, over, styleAt}
+use Rattle.buffer.proofs.Drawn.{drawn-at}
 use Rattle.refuse.specs.declared.Refusal.{Refusal}
 use Rattle.refuse.specs.declared.Refusal.the-variants.{TextHeads}
 use Rattle.refuse.specs.declared.Verdict.{Verdict}
@@ -38,18 +40,25 @@ use Rattle.line_composer.specs.declared.Wrap.the-variants.{Off, On}
 use Rattle.line_composer.specs.Wrap.{methodOf, ruleAt}
 use Rattle.line_composer.specs.Lines.{Line, wrappedLineOf, lineAt}
 use Rattle.line_composer.proofs.ReadBack.{ReadBack, read-back}
-use Rattle.render_block.proofs.KeepsSymbols.{inside-between}
+use Rattle.titles.specs.Titles.{titlesFrom}
+use Rattle.render_block.specs.Frame.{frame}
+use Rattle.render_block.proofs.KeepsSymbols.{inside-between, order-keeps, style-keeps}
 use Rattle.render_glyphs.specs.RenderGlyphs.{glyphCell, firstCell, glyphOn, glyphsOn}
 use Rattle.render_line.specs.RenderLine.{drawnStarts, lineOn}
 use Rattle.render_lines.specs.Rows.{noLine}
 use Rattle.block.specs.Inner.{titleIsAt, hasTitleAt, innerOf}
 use Rattle.paragraph.specs.Notice.{noticeLines, innerAreaOf}
-use Rattle.draw_notice.specs.Call.{Call, causesOf, verdictOf}
-use Rattle.draw_notice.proofs.Answers.{refused-cells}
+use Rattle.paragraph.specs.Apart.{frameOf}
+use Rattle.draw_frame.specs.Call as frame
+use Rattle.draw_frame.proofs.Answers.{screen-cells as frame-cells}
+use Rattle.draw_text.specs.Call as draw-text
+use Rattle.draw_notice.specs.Call.{Call, causesOf, verdictOf, screenIn}
+use Rattle.draw_notice.specs.Pair.{frameCall, textCall}
+use Rattle.draw_notice.proofs.Pair.{accepted-whole, nothing-drawn, frame-alone}
 use Rattle.pages.specs.Pages.{innerArea, composedLines}
 use Rattle.pages.specs.Inside.{DrawnNotice}
-use Rattle.pages.proofs.Screen.{some-cell, right-there, bottom-there, inner-has}
-use Rattle.pages.proofs.Cells.{underLines, lineNumbered, under-keeps, cell-stored, cell-drawn}
+use Rattle.pages.proofs.Screen.{met, some-met, inner-there, some-cell, right-there, bottom-there, inner-has}
+use Rattle.pages.proofs.Cells.{underLines, lineNumbered, frame-keeps, stored-on, under-keeps, cell-stored, cell-drawn}
 use Rattle.flat.specs.FlatExtra.{ambiguousNamed, blockFrom, noticeFrom}
 use Rattle.preview_file.specs.declared.Opening.{Opening}
 use Rattle.preview_sheet.specs.WidthsExtra.{widened}
@@ -170,7 +179,7 @@ module _ (o : Opening) (first : ℕ) (styles titles text : List ℕ) (d : DrawnN
   page-shows : AllShow (rule .ambiguous) (page .text)
   unfolding verdictOf causesOf screenCauses textCauses textHeadsWrong noticeFrom
   page-shows =
-      let right = neither (notOpening (page .text)) (some textHeadWrong (page .text)) (no-cause (causesOf mostAccepted page) TextHeads (d .accepted)) in
+      let right = neither (notOpening (page .text)) (some textHeadWrong (page .text)) (no-cause (causesOf mostAccepted page) TextHeads (accepted-whole page (d .accepted))) in
       rw (rule-reads (page .notice .ambiguous) (page .notice .wrap) (innerArea page .width)) (text-shows (ambiguousNamed (o .text .ambiguous)) text (right .1))
 
   module _ (row column : ℕ) (within : contains (innerArea page) column row ≡ true) where
@@ -206,7 +215,28 @@ by-verdict : (v : Verdict) (P : Type 0) → (v ≡ Accepted → P) → ((why : R
 by-verdict Accepted P accepted refused = accepted refl
 by-verdict (Refused why) P accepted refused = refused why refl
 
--- its cells are as they were, each one cell wide
+-- if the text is refused and the frame isn't, the frame keeps the symbols of the inner area
+module _ (i : Call) (framed : frame.verdictOf (frameCall i) ≡ Accepted) (some : isEmpty (innerArea i) ≡ false)
+    (column row : ℕ) (within : contains (innerArea i) column row ≡ true) where
+  abbrev under : Drawing
+  under = over (met i) (styled (styleAt (i .styles) (i .notice .style)))
+
+  abbrev around : Drawing
+  around = frame (i .styles) (screenIn i) (titlesFrom (i .notice .ambiguous) (i .titles)) (i .notice .block) (met i)
+
+  drawn-keeps : (cell : ℕ) → cellFrom (frame.drawingOf (frameCall i) column row cell) .symbol ≡ cellFrom cell .symbol
+  unfolding frame.drawingOf frameOf
+  drawn-keeps cell = rw (some-met i some) (order-keeps (under ∷ around ∷ []) column row (style-keeps (met i) _ column row, (frame-keeps i column row within some, tt)) cell)
+
+  framed-symbol : cellFrom (getD (frame.cellsAfter (frameCall i)) (row * i .columns + column) 0) .symbol ≡ cellFrom (getD (i .cells) (row * i .columns + column) 0) .symbol
+  unfolding frame.cellsAfter
+  framed-symbol =
+      let there = stored-on i column row within (inner-there i some (frame-cells (frameCall i) framed)) in
+      rw framed
+      (ap (λ (cell : ℕ). cellFrom cell .symbol) (drawn-at (i .columns) (frame.drawingOf (frameCall i)) (i .cells) column row (there .0) (there .1))
+      ∙ drawn-keeps (getD (i .cells) (row * i .columns + column) 0))
+
+-- the cells that nothing is drawn on are as they were, each one cell wide
 unchanged-width : (count number : ℕ) → cellFrom (getD (replicate count (withSymbol 1 blankCell)) number 0) .symbol % 2 ^ 3 ≤ 1
 unchanged-width count number =
     dite (decLt number count)
@@ -225,12 +255,21 @@ module _ (o : Opening) (first : ℕ) (styles titles text : List ℕ) where
       record {
         covered-inside = λ row column k within covered.
             let b = inside-between (innerArea wide) column row within in
-            by-verdict (verdictOf wide) (contains (innerArea wide) (column + k) row ≡ true)
-            (λ accepted.
-            let drawn : DrawnNotice wide = record { accepted = accepted; some-cell = some-cell (innerArea wide) (omega (arith, b .left, b .right)) (omega (arith, b .top, b .bottom)) } in
+            let some = some-cell (innerArea wide) (omega (arith, b .left, b .right)) (omega (arith, b .top, b .bottom)) in
+            let unchanged = unchanged-width (o .columns * o .rows) (row * o .columns + column) in
+            by-verdict (frame.verdictOf (frameCall wide)) (contains (innerArea wide) (column + k) row ≡ true)
+            (λ framed.
+            by-verdict (draw-text.verdictOf (textCall wide)) (contains (innerArea wide) (column + k) row ≡ true)
+            (λ laid.
+            let drawn : DrawnNotice wide = record { accepted = record { frame-accepted = framed; text-accepted = laid }; some-cell = some } in
             taken-in-area o first styles titles text drawn row column within k covered)
             (λ why refused.
-            let few = rw (sym (refused-cells wide why refused)) at (unchanged-width (o .columns * o .rows) (row * o .columns + column)) in
+            let kept = framed-symbol wide framed some column row within in
+            let few : widthAt wide row column ≤ 1 = rw (frame-alone wide why refused, kept) unchanged in
+            let here : column + k ≡ column = omega (arith, few, covered) in
+            rw here within))
+            (λ why refused.
+            let few : widthAt wide row column ≤ 1 = rw (nothing-drawn wide why refused) unchanged in
             let here : column + k ≡ column = omega (arith, few, covered) in
             rw here within);
       }

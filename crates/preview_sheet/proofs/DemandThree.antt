@@ -2,7 +2,7 @@
 -- demand 3:
 -- same-measure: the size and the lines that it counts pages by are those of the inner area.
 -- same-count: it counts as many pages, but at least 1, so that a frame without lines is shown.
--- same-call: it draws each page by the same call.
+-- same-call: it draws each page by the same two calls.
 use Prim.Native.Nat.{ℕ, zero, suc, _+_, _-_, _*_, _<_, _≤_, min, max}
 use mathlib.Core.Path.{_≡_, refl, sym, ap, _∙_}
 use mathlib.Core.Bool.{Bool}
@@ -31,6 +31,7 @@ use Rattle.measure.specs.LineWidth as width
 use Rattle.measure.specs.LineCount as count
 use Rattle.paragraph.specs.Notice.{innerAreaOf}
 use Rattle.draw_notice.specs.Call.{Call, causesOf, verdictOf}
+use Rattle.draw_notice.proofs.Pair.{accepted-whole}
 use Rattle.pages.specs.Pages.{innerArea, composedLines, pageCount, pagesOf, scrollOf, pageCall}
 use Rattle.pages.specs.Reading.{WrappedNotice}
 use Rattle.pages.proofs.Screen.{screen-sized, inner-some}
@@ -64,7 +65,7 @@ unfolding lineCount verticalSpace hasTitleAt blockFrom
 no-rows-added a wrap trim limit text e some = rw (ne-eqb limit 0 (λ (none : limit ≡ 0). omega arith), e, add-zero) refl
 
 module _ (o : Opening) (styles titles text cells : List ℕ) where
-  -- the call by which `preview` draws the notice on cells, from its scroll row on
+  -- the notice on cells as `preview` draws it, from its scroll row on
   abbrev pub noticeCall : Call
   noticeCall = callAt o (o .text .scroll) styles titles text cells
 
@@ -80,7 +81,8 @@ module _ (o : Opening) (styles titles text cells : List ℕ) where
     unfolding inner.answerOf inner.verdictOf inner.causesOf frameCauses verdictOf causesOf screenCauses textCauses innerArea innerAreaOf noticeFrom
     inner-answered =
         let causes = causesOf mostAccepted noticeCall in
-        rw (no-cause causes Titles (w .accepted), no-cause causes Symbol (w .accepted)) refl
+        let whole = accepted-whole noticeCall (w .accepted) in
+        rw (no-cause causes Titles whole, no-cause causes Symbol whole) refl
 
     abbrev countCall : count.Call
     countCall = count.callOf text (ambiguousNamed (o .text .ambiguous)) [] (blockFrom nothingSet) (wrapNamed (o .text)) (innerArea noticeCall .width)
@@ -89,7 +91,8 @@ module _ (o : Opening) (styles titles text cells : List ℕ) where
     unfolding count.verdictOf count.causesOf width.causesOf frameCauses titlesWrong blockSymbols borderSymbols blockFrom shadowNamed verdictOf causesOf screenCauses textCauses
     count-accepted =
         let causes = causesOf mostAccepted noticeCall in
-        rw (no-cause causes TextLength (w .accepted), no-cause causes TextHeads (w .accepted), le-ltb 4096 (innerArea noticeCall .width) (omega (arith, few-columns noticeCall w))) refl
+        let whole = accepted-whole noticeCall (w .accepted) in
+        rw (no-cause causes TextLength whole, no-cause causes TextHeads whole, le-ltb 4096 (innerArea noticeCall .width) (omega (arith, few-columns noticeCall w))) refl
 
     lines-counted : count.countOf countCall ≡ length (composedLines noticeCall)
     unfolding linesAt noticeFrom

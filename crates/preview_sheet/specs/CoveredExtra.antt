@@ -7,13 +7,14 @@ use lib.ListN.{getD, replicate}
 use Rattle.cell.specs.Cell.{cellFrom, blankCell, withSymbol}
 use Rattle.layout.specs.declared.Rect.{Rect}
 use Rattle.layout.specs.Rect.{contains}
-use Rattle.draw_notice.specs.Call.{Call, cellsAfter}
+use Rattle.draw_notice.specs.Call.{Call}
+use Rattle.draw_notice.specs.Pair.{pairCells}
 use Rattle.flat.specs.FlatExtra.{ambiguousNamed}
 use Rattle.preview_file.specs.declared.Opening.{Opening}
 use Rattle.preview_sheet.specs.WidthsExtra.{widened}
 use Rattle.preview_sheet.specs.SheetExtra.{callAt, widenedOpening}
 
--- the call that draws a page with widths as symbols, on cells with the symbol 1, the width of a blank
+-- a page with widths as symbols, on cells with the symbol 1, the width of a blank
 abbrev pub widePage : Opening → ℕ → List ℕ → List ℕ → List ℕ → Call
 widePage o first styles titles text =
     let ambiguous = ambiguousNamed (o .text .ambiguous) in
@@ -22,7 +23,7 @@ widePage o first styles titles text =
 
 -- the width in a cell of the page; it is 0 in the cell of a halved glyph, which holds the blank symbol, 32, and covers no other cell
 abbrev pub widthAt : Call → ℕ → ℕ → ℕ
-widthAt page row column = cellFrom (getD (cellsAfter page) (row * page .columns + column) 0) .symbol % 2 ^ 3
+widthAt page row column = cellFrom (getD (pairCells page) (row * page .columns + column) 0) .symbol % 2 ^ 3
 
 -- the cells that the symbol of a cell of the area takes, itself and those right of it, are in the area
 pub record FrameUncovered (inner : Rect) (page : Call) : Type 0 where

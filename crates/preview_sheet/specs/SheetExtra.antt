@@ -17,7 +17,12 @@ use Rattle.measure.specs.declared.MeasureAnswer.{MeasureAnswer}
 use Rattle.measure.specs.declared.MeasureAnswer.the-variants.{Value, Refused as NoValue}
 use Rattle.measure.specs.LineCount.{callOf as countCall, answerOf as countAnswer}
 use Rattle.paragraph.specs.declared.Notice.{Notice}
+use Rattle.draw_frame.specs.Call.{answerOf as frameAnswer}
+use Rattle.draw_text.specs.declared.DrawAnswer.{DrawAnswer}
+use Rattle.draw_text.specs.declared.DrawAnswer.the-variants.{Refused as NotDrawn}
+use Rattle.draw_text.specs.Call.{answerOf as textAnswer}
 use Rattle.draw_notice.specs.Call.{Call, callOf}
+use Rattle.draw_notice.specs.Pair.{frameCall, textCall}
 use Rattle.pages.specs.Pages.{scrolledTo}
 use Rattle.flat.specs.declared.FlatBlock.{FlatBlock}
 use Rattle.flat.specs.FlatExtra.{ambiguousNamed, areaFrom, blockFrom, noticeFrom, wrapNamed}
@@ -30,10 +35,18 @@ use Rattle.preview_sheet.specs.declared.Fitting.the-variants.{Fits, Refu
 abbrev pub noticeAt : Opening → ℕ → Notice
 noticeAt o first = scrolledTo first (noticeFrom (o .block) (o .text))
 
--- the call of `draw_notice` that draws it on cells
+-- the notice on cells
 abbrev pub callAt : Opening → ℕ → List ℕ → List ℕ → List ℕ → List ℕ → Call
 callAt o first styles titles text cells =
     callOf (o .columns) (o .rows) cells styles text titles (areaFrom (o .area)) (noticeAt o first)
+
+-- the answer of both calls: that of the text, or why the frame is refused
+abbrev pub answeredBoth : InnerAnswer → DrawAnswer → DrawAnswer
+answeredBoth (Area inner) drawn = drawn
+answeredBoth (NoArea why) drawn = NotDrawn why
+
+unfoldable pub pairAnswer : Call → DrawAnswer
+pairAnswer call = answeredBoth (frameAnswer (frameCall call)) (textAnswer (textCall call))
 
 -- the opening with its ambiguous glyphs read wide, if so asked
 abbrev pub openingRead : Bool → Opening → Opening

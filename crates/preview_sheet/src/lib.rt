@@ -8,10 +8,11 @@ use flat::FlatArea;
 use flat::FlatBlock;
 use notice::AmbiguousWidth;
 use notice::Block;
+use notice::DrawAnswer;
 use notice::InnerAnswer;
 use notice::MeasureAnswer;
 use notice::Notice;
-use notice::NoticeAnswer;
+use notice::PagesAnswer;
 use notice::Rect;
 use notice::Wrap;
 use preview_file::Opening;
@@ -20,9 +21,11 @@ ghost use lib.ListN.{length, replicate};
 ghost use Rattle.layout.specs.Rect.{meet};
 ghost use Rattle.buffer.specs.Drawing.{areaOf};
 ghost use Rattle.buffer.specs.Screen.{screenOf};
-ghost use Rattle.draw_notice.specs.Call.{answerOf, cellsAfter};
+ghost use Rattle.draw_notice.specs.Call.{callOf};
+ghost use Rattle.draw_notice.specs.Pair.{pairCells};
+ghost use Rattle.count_pages.specs.Call.{answerOf as pagesAnswer};
 ghost use Rattle.flat.specs.FlatExtra.{areaFrom, blockFrom};
-ghost use Rattle.preview_sheet.specs.SheetExtra.{noticeAt, callAt, openingRead, widenedOpening, nothingSet, linesIn, fittingOf};
+ghost use Rattle.preview_sheet.specs.SheetExtra.{noticeAt, callAt, pairAnswer, openingRead, widenedOpening, nothingSet, linesIn, fittingOf};
 
 // Size of a notice's inner area, and count of its lines.
 pub struct Measure {
@@ -71,6 +74,64 @@ pub fn widened(opening: Opening) -> Opening
     wide
 }
 
+// Returns the answer of `pages` on the notice: all its inputs are checked, and nothing is drawn.
+pub fn checked(
+    opening: Opening,
+    styles: &[u64],
+    titles: &[u32],
+    text: &[u32],
+    cells: &[u64],
+) -> PagesAnswer
+    ensures { λ r.
+        let call = callAt opening (opening .text .scroll) (now (styles .entry)) (now (titles .entry)) (now (text .entry)) (now (cells .entry)) in
+        ⌜ r ≡ pagesAnswer call ⌝ }
+{
+    let flat_area = opening.area;
+    let settings = opening.text;
+    let area = flat_area.area();
+    let notice = notice_at(opening, settings.scroll);
+    let columns = opening.columns as u32;
+    let rows = opening.rows as u32;
+    notice::pages(columns, rows, cells, styles, text, titles, area, notice)
+}
+
+// Draws the frame of a notice, then its text into the area that the frame answers. It stops at a frame that is refused: who wants the
+// lowest cause of both calls asks `checked` first.
+fn draw_both(
+    columns: u32,
+    rows: u32,
+    cells: &mut [u64],
+    styles: &[u64],
+    text: &[u32],
+    titles: &[u32],
+    area: Rect,
+    notice: Notice,
+) -> DrawAnswer
+    ensures { λ r.
+        let call = callOf columns rows (now (cells .entry)) (now (styles .entry)) (now (text .entry)) (now (titles .entry)) area notice in
+        ⌜ (r ≡ pairAnswer call) × (now (cells .exit) ≡ pairCells call) ⌝ }
+{
+    let ambiguous = notice.ambiguous;
+    let framed = notice::draw_frame(
+        columns,
+        rows,
+        cells,
+        styles,
+        titles,
+        ambiguous,
+        area,
+        notice.style,
+        notice.block,
+    );
+    match framed {
+        InnerAnswer::Refused(why) => DrawAnswer::Refused(why),
+        InnerAnswer::Area(inner) => {
+            let settings = notice.text_settings();
+            notice::draw_text(columns, rows, cells, styles, text, inner, settings)
+        }
+    }
+}
+
 // Fills the cells with `blank` and draws the notice from line `first`.
 pub fn draw(
     opening: Opening,
@@ -80,11 +141,11 @@ pub fn draw(
     titles: &[u32],
     text: &[u32],
     cells: &mut [u64],
-) -> NoticeAnswer
+) -> DrawAnswer
     ensures { λ r.
         let blanks = replicate (length (now (cells .entry))) blank in
         let call = callAt opening first (now (styles .entry)) (now (titles .entry)) (now (text .entry)) blanks in
-        ⌜ (r ≡ answerOf call) × (now (cells .exit) ≡ cellsAfter call) ⌝ }
+        ⌜ (r ≡ pairAnswer call) × (now (cells .exit) ≡ pairCells call) ⌝ }
 {
     let flat_area = opening.area;
     let area = flat_area.area();
@@ -92,7 +153,7 @@ pub fn draw(
     let columns = opening.columns as u32;
     let rows = opening.rows as u32;
     buffer::fill::fill(cells, blank);
-    notice::draw_notice(columns, rows, cells, styles, text, titles, area, notice)
+    draw_both(columns, rows, cells, styles, text, titles, area, notice)
 }
 
 // Returns a block with nothing set, which adds no rows to the lines.

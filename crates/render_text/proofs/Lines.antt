@@ -1,4 +1,4 @@
--- The lines in an inner area: one law for the drawing, one for the counts.
+-- The lines in an area: one law for the drawing, one for the counts.
 use Prim.Native.Nat.{ℕ}
 use mathlib.Core.Path.{_≡_}
 use mathlib.Core.List.{List, [], _∷_}

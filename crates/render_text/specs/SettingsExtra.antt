@@ -22,7 +22,7 @@ textOptionsOf n width =
       scroll = n .scroll;
     }
 
--- the drawing in a non-empty inner area: the notice's style, then its lines
+-- the drawing in a non-empty area: the notice's style, then its lines
 unfoldable pub linesOn : List ℕ → List ℕ → TextSettings → Rect → Drawing
 linesOn styles text n inner =
     inOrder
@@ -30,7 +30,7 @@ linesOn styles text n inner =
     ∷ textOn styles (n .«text_style») (linesFor (textOptionsOf n (inner .width)) text) inner (n .scroll)
     ∷ [])
 
--- the counts in a non-empty inner area
+-- the counts in a non-empty area
 unfoldable pub linesCounted : List ℕ → TextSettings → Rect → DrawCounts
 linesCounted text n inner =
     let composed = linesFor (textOptionsOf n (inner .width)) text in

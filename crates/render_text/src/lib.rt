@@ -1,4 +1,4 @@
-// Drawing of a notice's text in its inner area: the body of paragraph.rs: `Paragraph::render_paragraph`.
+// Drawing of a notice's text in an area: the body of paragraph.rs: `Paragraph::render_paragraph`.
 use buffer::Ink;
 use buffer::Screen;
 use layout::Rect;

@@ -2,18 +2,16 @@
 use layout::Rect;
 use libc::STDOUT_FILENO;
 use line_composer::Wrap;
-use paragraph::Notice;
-use test_blocks::plain;
+use render_text::TextSettings;
 use text::Alignment;
 use text::AmbiguousWidth;
 use text::glyph;
 use text::head;
 ghost use Prim.Native.Nat.{_<_, _^_};
 
-// Returns an unwrapped notice, scrolled right by `column`.
-fn notice(column: u16) -> Notice {
-    Notice {
-        block: plain::plain(),
+// Returns the settings of an unwrapped text, scrolled right by `column`.
+fn settings(column: u16) -> TextSettings {
+    TextSettings {
         style: 0,
         text_style: 0,
         alignment: Alignment::Left,
@@ -42,8 +40,7 @@ fn print_line(head: u32, column: u16) {
         width: 4,
         height: 1,
     };
-    let scrolled = notice(column);
-    draw_notice::draw_notice(4, 1, &mut cells, &styles, &text, &[], area, scrolled);
+    draw_text::draw_text(4, 1, &mut cells, &styles, &text, area, settings(column));
     test_print::print_row(&cells);
 }
 

@@ -29,7 +29,7 @@ ghost use Rattle.test_blocks.specs.SizesExtra.{Writable};
 ghost use Rattle.test_answers.specs.BlocksExtra.{areaSum, withSpace};
 
 // Returns the checksum of an area's four numbers.
-fn sum_area(area: Rect) -> u32
+pub fn sum_area(area: Rect) -> u32
     ensures { λ r. ⌜ r ≡ areaSum area ⌝ }
 {
     let x = with_number(0, area.x as u32);

@@ -95,8 +95,16 @@ fn are_same(cells: &[u64], others: &[u64]) -> bool {
     true
 }
 
-// Returns 1 if the next call returns another number than expected, changes a cell though refused, or draws but changes none,
-// else 0.
+// Whether cells are kept: by a refused call, and by one that draws nothing.
+fn must_keep(call: Call, found: u32) -> bool {
+    if call.kind == 4 {
+        return true;
+    }
+    found != 0
+}
+
+// Returns 1 if the next call returns another number than expected, changes a cell though it must keep all, or draws but changes
+// none, else 0.
 fn differs_with(fd: i32, input: &mut [u8], cells: &mut [u64], before: &mut [u64]) -> u32
     ensures { λ r. ⌜ r ≤ 1 ⌝ }
 {
@@ -110,7 +118,7 @@ fn differs_with(fd: i32, input: &mut [u8], cells: &mut [u64], before: &mut [u64]
     if found != call.answer {
         return 1;
     }
-    if kept == (found == 0) {
+    if kept != must_keep(call, found) {
         return 1;
     }
     0

@@ -1,6 +1,6 @@
-// Calls `draw_block` with every subset of its five refusal causes and `draw_notice` with every subset of its seven, then
-// `draw_notice` with each single way to trigger a cause and with each maximum that is still accepted. Prints for each what
-// differs from an accepted call, the number returned, and whether the cells are unchanged.
+// Calls `draw_block` with every subset of its five refusal causes; `draw_frame` and `draw_text` with every subset of theirs, five each,
+// then with each single way to trigger a cause and with each maximum that is still accepted; and `pages` with every subset of the seven
+// of a whole notice. Prints for each what differs from an accepted call, the number returned, and whether the cells are unchanged.
 //
 // Then draws notices page by page, reads the pages back, and compares them with the text's solid glyphs, in order; the counts of
 // rows and glyphs are compared with those of `tally`.
@@ -32,8 +32,9 @@ fn call_each(name: &[u8], count: u32) {
 
 fn main() {
     call_each(b"blocks", 32);
+    call_each(b"frames", 70);
+    call_each(b"texts", 58);
     call_each(b"sets", 128);
-    call_each(b"ways", 51);
     call_each(b"pages", 768);
     listed::list_all();
     previewed::preview_all();

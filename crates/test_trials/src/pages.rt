@@ -2,7 +2,7 @@
 use crate::reading::next_solid;
 use crate::reading::read_area;
 use buffer::Screen;
-use draw_notice::NoticeAnswer;
+use draw_text::DrawAnswer;
 use inner::InnerAnswer;
 use layout::Rect;
 use line_composer::Wrap;
@@ -51,7 +51,7 @@ fn read_page(
     text: &[u32],
     cells: &mut [u64],
 ) -> Sums {
-    let NoticeAnswer::Counts(rows) = preview_sheet::draw(
+    let DrawAnswer::Counts(rows) = preview_sheet::draw(
         opening,
         first,
         cell::blank(),

@@ -255,18 +255,32 @@ impl Block {
 }
 
 impl Notice {
-    /// Draws the notice, with its lines from the scroll row on.
-    pub fn draw(
+    /// Draws the frame of the notice, its style first, and returns the inner area.
+    pub fn draw_frame(
+        &self,
+        screen: &mut Screen,
+        titles: &[u32],
+        area: Rect,
+    ) -> Result<Rect, Refusal> {
+        let Screen { columns, rows, cells, styles } = screen;
+        let (size, area, block) = ([*columns, *rows], area.flat(), self.block.flat());
+        let ambiguous = self.ambiguous as u8;
+        let raw::AreaAnswer { number, x, y, width, height } =
+            raw::draw_frame(size, cells, styles, titles, ambiguous, area, self.style, block);
+        accepted(number).map(|()| Rect { x, y, width, height })
+    }
+
+    /// Lays the notice's text into an area, from the scroll row on. No cell outside it is changed.
+    pub fn draw_text(
         &self,
         screen: &mut Screen,
         text: &[u32],
-        titles: &[u32],
         area: Rect,
     ) -> Result<Rows, Refusal> {
         let Screen { columns, rows, cells, styles } = screen;
-        let (size, area, block) = ([*columns, *rows], area.flat(), self.block.flat());
+        let size = [*columns, *rows];
         let raw::DrawAnswer { number, rows, placed, clipped } =
-            raw::draw_notice(size, cells, styles, text, titles, area, block, self.flat());
+            raw::draw_text(size, cells, styles, text, area.flat(), self.flat());
         accepted(number).map(|()| Rows { rows, placed, clipped })
     }
 

@@ -127,7 +127,9 @@ fn draw_pages(
     for page in 0..pages {
         notice.scroll = page as u16 * inner.height;
         screen.cells.fill(BLANK);
-        let drawn = notice.draw(screen, text, titles, area)?;
+        let framed = notice.draw_frame(screen, titles, area)?;
+        assert_eq!(framed, inner, "the frame returns the inner area that pages does");
+        let drawn = notice.draw_text(screen, text, framed)?;
         rows += drawn.rows;
         placed += drawn.placed;
         read += &shown(screen.cells, inner);
@@ -188,10 +190,15 @@ fn main() -> Result<(), Refusal> {
 
     let before = screen.cells.to_vec();
     notice.block.border_style = styles.len() as u8;
-    let refused = notice.draw(&mut screen, &text, &titles, AREA);
-    assert_eq!(refused, Err(Refusal::StyleNumber));
+    notice.text_style = styles.len() as u8;
+    let frame = notice.draw_frame(&mut screen, &titles, AREA);
+    let laid = notice.draw_text(&mut screen, &text, AREA);
+    let pages = notice.pages(&screen, &text, &titles, AREA);
+    assert_eq!(frame, Err(Refusal::StyleNumber));
+    assert_eq!(laid, Err(Refusal::StyleNumber));
+    assert_eq!(pages, Err(Refusal::StyleNumber), "pages refused as the two calls are");
     assert_eq!(screen.cells, before, "cells as they were");
-    println!("a style number too high: {}", Refusal::StyleNumber as u32);
+    println!("a style number too high: {0}, {0}", Refusal::StyleNumber as u32);
     println!("all as promised");
     Ok(())
 }

@@ -146,7 +146,22 @@ unsafe extern "C" {
         block: Block,
     ) -> u32;
 
-    fn notice_draw_notice(
+    fn notice_draw_frame(
+        columns: u32,
+        rows: u32,
+        cells: *mut u64,
+        cells_len: usize,
+        styles: *const u64,
+        styles_len: usize,
+        titles: *const u32,
+        titles_len: usize,
+        ambiguous: u8,
+        area: Area,
+        style: u8,
+        block: Block,
+    ) -> AreaAnswer;
+
+    fn notice_draw_text(
         columns: u32,
         rows: u32,
         cells: *mut u64,
@@ -155,10 +170,7 @@ unsafe extern "C" {
         styles_len: usize,
         text: *const u32,
         text_len: usize,
-        titles: *const u32,
-        titles_len: usize,
         area: Area,
-        block: Block,
         settings: Text,
     ) -> DrawAnswer;
 
@@ -263,19 +275,46 @@ pub fn draw_block(
 }
 
 #[expect(clippy::too_many_arguments, reason = "as many as the call has")]
-pub fn draw_notice(
+pub fn draw_frame(
+    [columns, rows]: [u32; 2],
+    cells: &mut [u64],
+    styles: &[u64],
+    titles: &[u32],
+    ambiguous: u8,
+    area: Area,
+    style: u8,
+    block: Block,
+) -> AreaAnswer {
+    // SAFETY: above.
+    unsafe {
+        notice_draw_frame(
+            columns,
+            rows,
+            cells.as_mut_ptr(),
+            cells.len(),
+            styles.as_ptr(),
+            styles.len(),
+            titles.as_ptr(),
+            titles.len(),
+            ambiguous,
+            area,
+            style,
+            block,
+        )
+    }
+}
+
+pub fn draw_text(
     [columns, rows]: [u32; 2],
     cells: &mut [u64],
     styles: &[u64],
     text: &[u32],
-    titles: &[u32],
     area: Area,
-    block: Block,
     settings: Text,
 ) -> DrawAnswer {
     // SAFETY: above.
     unsafe {
-        notice_draw_notice(
+        notice_draw_text(
             columns,
             rows,
             cells.as_mut_ptr(),
@@ -284,10 +323,7 @@ pub fn draw_notice(
             styles.len(),
             text.as_ptr(),
             text.len(),
-            titles.as_ptr(),
-            titles.len(),
             area,
-            block,
             settings,
         )
     }

@@ -4,10 +4,10 @@ use crate::input::Call;
 
 #[derive(Clone, PartialEq, Eq)]
 pub struct Answer {
-    /// 0, or the number of the refusal cause.
+    /// 0, or the number of the refusal cause; the frame's if there are two calls.
     pub number: u32,
     /// The other fields of the answer, in the order of [`fields`].
-    pub values: [u64; 6],
+    pub values: [u64; 8],
     /// The cells or the list after the call.
     pub words: Vec<u64>,
 }
@@ -19,7 +19,7 @@ impl Answer {
     }
 
     pub fn drawn<const N: usize>(values: [u64; N], words: Vec<u64>) -> Self {
-        let mut all = [0; 6];
+        let mut all = [0; 8];
         all[..N].copy_from_slice(&values);
         Self { number: 0, values: all, words }
     }
@@ -31,7 +31,7 @@ impl Answer {
     }
 
     pub fn refused(number: u32, words: Vec<u64>) -> Self {
-        Self { number, values: [0; 6], words }
+        Self { number, values: [0; 8], words }
     }
 }
 
@@ -42,7 +42,9 @@ pub fn fields(call: Call) -> &'static [&'static str] {
         Call::Tally => &["lines", "placed", "clipped", "zero_width", "over_wide", "dropped"],
         Call::Inner => &["x", "y", "width", "height"],
         Call::DrawBlock => &[],
-        Call::DrawNotice => &["rows", "placed", "clipped"],
+        Call::DrawFrame => &["x", "y", "width", "height"],
+        Call::DrawText => &["rows", "placed", "clipped"],
+        Call::Pair => &["text's number", "x", "y", "width", "height", "rows", "placed", "clipped"],
         Call::Pages => &["x", "y", "width", "height", "lines", "pages"],
         Call::LineCount | Call::LineWidth => &["value"],
     }

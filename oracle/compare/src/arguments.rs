@@ -26,7 +26,7 @@ impl Arguments {
                 _ => return Err(format!("{word} isn't known")),
             }
         }
-        let usual = if short { 4_700_000 } else { 239_000_000 };
+        let usual = if short { 6_850_000 } else { 250_000_000 };
         Ok(Self { short, cases: cases.unwrap_or(usual), seed, threads })
     }
 }

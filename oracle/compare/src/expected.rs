@@ -1,10 +1,12 @@
 //! The expected answer of a call: the Rust's, or if the Rust has none that of documents 01 and 02,
 //! by the crate `rules`.
 
-use oracle::{AmbiguousWidth, ComposedLine, Drawn, Notice, Outcome, Tally, Wrap};
+mod drawings;
+
+use oracle::{AmbiguousWidth, ComposedLine, Notice, Outcome, Tally, Wrap};
 use rules::compose::{Composed, compose, tally};
 use rules::screen::{Area, Screen};
-use rules::{frame, lines, measure, notice};
+use rules::{frame, lines, measure};
 
 use crate::answer::Answer;
 use crate::input::{Call, Input};
@@ -31,7 +33,8 @@ const RULES: &str = "documents 01 and 02";
 const COUNTS: &str = "documents 01 and 02, counts over the Rust's lines";
 
 pub fn expected(call: Call, input: &Input) -> Expected {
-    let number = refusals::number(call, input);
+    // The two calls of a pair each have their own number.
+    let number = if call == Call::Pair { 0 } else { refusals::number(call, input) };
     if number != 0 {
         return refused(number, call, input);
     }
@@ -39,8 +42,10 @@ pub fn expected(call: Call, input: &Input) -> Expected {
         Call::ListLines => list_lines(input),
         Call::Tally => tallied(input),
         Call::Inner => inner(input),
-        Call::DrawBlock => draw_block(input),
-        Call::DrawNotice => draw_notice(input),
+        Call::DrawBlock => drawings::draw_block(input),
+        Call::DrawFrame => drawings::draw_frame(input),
+        Call::DrawText => drawings::draw_text(input),
+        Call::Pair => drawings::pair(input),
         Call::Pages => pages(input),
         Call::LineCount | Call::LineWidth => measured(call, input),
     }
@@ -50,7 +55,7 @@ pub fn expected(call: Call, input: &Input) -> Expected {
 fn refused(number: u32, call: Call, input: &Input) -> Expected {
     let words = match call {
         Call::ListLines => input.list.clone(),
-        Call::DrawBlock | Call::DrawNotice => input.cells.clone(),
+        Call::DrawBlock | Call::DrawFrame | Call::DrawText => input.cells.clone(),
         _ => Vec::new(),
     };
     let answers = vec![(RULES, Answer::refused(number, words))];
@@ -119,16 +124,15 @@ fn tallied(input: &Input) -> Expected {
 
 fn inner(input: &Input) -> Expected {
     let (block, area) = (settings::block(input.block), settings::rect(input.area));
-    let outcome = oracle::inner(block, &input.titles, area)
-        .map(|area| [area.x, area.y, area.width, area.height].map(u64::from));
+    let outcome = oracle::inner(block, &input.titles, area).map(Area::from);
     let rules = || {
         let titles = lines(&input.titles, AmbiguousWidth::Narrow);
-        let area = frame::inner(&block, &titles, area.into());
-        [area.x, area.y, area.width, area.height].map(|number| number as u64)
+        frame::inner(&block, &titles, area.into())
     };
-    settled(outcome, rules, Answer::of)
+    settled(outcome, rules, |inner| Answer::of(numbers(inner)))
 }
 
+/// Returns the screen before a call, for the crate `rules`.
 fn screen(input: &Input) -> Screen {
     Screen {
         columns: input.columns.into(),
@@ -138,54 +142,9 @@ fn screen(input: &Input) -> Screen {
     }
 }
 
-fn draw_block(input: &Input) -> Expected {
-    let Input { columns, rows, ref styles, ref titles, area, block, .. } = *input;
-    let (area, block) = (settings::rect(area), settings::block(block));
-    let ambiguous = settings::ambiguous(input.settings);
-    let mut cells = input.cells.clone();
-    let outcome =
-        oracle::draw_block(columns, rows, &mut cells, styles, titles, ambiguous, area, block);
-    let rules = || {
-        let mut screen = screen(input);
-        let met = frame::met(area.into(), &screen);
-        frame::draw(&mut screen, &block, &lines(titles, ambiguous), met);
-        screen.cells
-    };
-    settled(outcome.map(|()| cells), rules, |cells| Answer::drawn([], cells))
-}
-
-/// If a glyph is clipped, the cells must be those of the crate `rules`, and the counts must also
-/// equal those computed from the Rust's inner area and lines. C-14: "Inputs with such a glyph leave
-/// the cell comparison with the crate, while composed lines remain in it."
-fn draw_notice(input: &Input) -> Expected {
-    let Input { columns, rows, ref styles, ref text, ref titles, .. } = *input;
-    let area = settings::rect(input.area);
-    let settings = settings::notice(input.block, input.settings);
-    let mut cells = input.cells.clone();
-    let answer = |drawn: Drawn, cells| {
-        Answer::drawn([drawn.rows, drawn.placed, drawn.clipped].map(u64::from), cells)
-    };
-    let drawn =
-        oracle::draw_notice(columns, rows, &mut cells, styles, text, titles, area, settings);
-    let panicked = match drawn {
-        Outcome::Value(drawn) if drawn.clipped == 0 => {
-            let answers = vec![(RUST, answer(drawn, cells))];
-            return Expected { answers, ..Expected::default() };
-        }
-        Outcome::Value(_) => false,
-        Outcome::Panicked(_) => true,
-    };
-    let mut screen = screen(input);
-    let drawn = notice::draw(&mut screen, text, titles, area.into(), &settings);
-    let mut answers = vec![(RULES, answer(drawn, screen.cells.clone()))];
-    if let Outcome::Value(counts) =
-        oracle::notice_counts(columns, rows, text, titles, area, settings)
-    {
-        answers.push((COUNTS, answer(counts, screen.cells)));
-    }
-    let Drawn { clipped, halved, .. } = drawn;
-    let (clipped, halved) = (clipped > 0, halved > 0);
-    Expected { answers, clipped, halved, panicked, ..Expected::default() }
+/// Returns an area's x, y, width and height.
+fn numbers(area: Area) -> [u64; 4] {
+    area.numbers().map(|number| number as u64)
 }
 
 /// Pages are lines / height of the inner area, rounded up.
@@ -204,8 +163,7 @@ fn pages(input: &Input) -> Expected {
     };
     settled(outcome, rules, |(inner, lines): (Area, usize)| {
         let pages = lines.div_ceil(inner.height.max(1) as usize);
-        let [x, y, width, height] =
-            [inner.x, inner.y, inner.width, inner.height].map(|number| number as u64);
+        let [x, y, width, height] = numbers(inner);
         Answer::of([x, y, width, height, lines as u64, pages as u64])
     })
 }

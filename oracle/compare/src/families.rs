@@ -1,5 +1,6 @@
 //! Families of inputs. Each input is generated from its number, independent of the thread.
 
+mod areas;
 mod frames;
 mod texts;
 mod wide;
@@ -28,15 +29,14 @@ pub fn all(arguments: &Arguments) -> Vec<Family> {
     vec![
         short("short texts", texts::count(text_glyphs), texts::text),
         short("short notices", texts::notice_count(notice_glyphs), texts::notice),
+        short("text areas", areas::COUNT, areas::text),
         short("inner areas", frames::INNER, frames::inner),
         short("small blocks", frames::BLOCKS, frames::block),
         short("pairs of titles", frames::PAIRS, frames::pair),
         Family {
             name: "right titles",
             inputs: Some(if arguments.short { 100_000 } else { 1_000_000 }),
-            make: Box::new(move |number| {
-                (scenes::right_titles(&mut random(seed, number)), &[Call::DrawBlock])
-            }),
+            make: Box::new(move |number| (scenes::right_titles(&mut random(seed, number)), FRAMED)),
         },
         Family {
             name: "wide glyphs",
@@ -57,6 +57,9 @@ pub fn all(arguments: &Arguments) -> Vec<Family> {
 }
 
 const EACH: &[Call] = &Call::ALL;
+
+/// The calls that draw a block with its titles, without the paragraph style and with it.
+const FRAMED: &[Call] = &[Call::DrawBlock, Call::DrawFrame];
 
 /// Sets how ambiguous widths are read.
 fn read(input: &mut Input, digits: &mut Digits) {

@@ -3,25 +3,31 @@
 use crate::raw::{Area, Block, Text};
 use crate::records::{is_ambiguous, is_head};
 
+/// A call, or the two that draw a notice.
 #[derive(Clone, Copy, PartialEq, Eq)]
 pub enum Call {
     ListLines,
     Tally,
     Inner,
     DrawBlock,
-    DrawNotice,
+    DrawFrame,
+    DrawText,
+    /// `draw_frame`, then `draw_text` into the area that it answered, on the same cells.
+    Pair,
     Pages,
     LineCount,
     LineWidth,
 }
 
 impl Call {
-    pub const ALL: [Self; 8] = [
+    pub const ALL: [Self; 10] = [
         Self::ListLines,
         Self::Tally,
         Self::Inner,
         Self::DrawBlock,
-        Self::DrawNotice,
+        Self::DrawFrame,
+        Self::DrawText,
+        Self::Pair,
         Self::Pages,
         Self::LineCount,
         Self::LineWidth,
@@ -33,7 +39,9 @@ impl Call {
             Self::Tally => "tally",
             Self::Inner => "inner",
             Self::DrawBlock => "draw_block",
-            Self::DrawNotice => "draw_notice",
+            Self::DrawFrame => "draw_frame",
+            Self::DrawText => "draw_text",
+            Self::Pair => "draw_frame, then draw_text",
             Self::Pages => "pages",
             Self::LineCount => "line_count",
             Self::LineWidth => "line_width",
@@ -42,17 +50,25 @@ impl Call {
 
     /// Whether the call takes a screen and styles.
     pub fn has_screen(self) -> bool {
-        matches!(self, Self::DrawBlock | Self::DrawNotice | Self::Pages)
+        matches!(
+            self,
+            Self::DrawBlock | Self::DrawFrame | Self::DrawText | Self::Pair | Self::Pages
+        )
     }
 
     /// Whether the call takes a text.
     pub fn reads_text(self) -> bool {
-        !matches!(self, Self::Inner | Self::DrawBlock)
+        !matches!(self, Self::Inner | Self::DrawBlock | Self::DrawFrame)
     }
 
     /// Whether the call takes a block and its titles.
     pub fn has_block(self) -> bool {
-        !matches!(self, Self::ListLines | Self::Tally)
+        !matches!(self, Self::ListLines | Self::Tally | Self::DrawText)
+    }
+
+    /// Whether the call takes the paragraph style.
+    pub fn has_paragraph_style(self) -> bool {
+        self.has_screen() && self != Self::DrawBlock
     }
 
     /// Whether the call reads widths, and so takes the setting for width code 7.
@@ -62,12 +78,12 @@ impl Call {
 
     /// Whether the call reads the widths of titles.
     pub fn draws_titles(self) -> bool {
-        matches!(self, Self::DrawBlock | Self::DrawNotice)
+        matches!(self, Self::DrawBlock | Self::DrawFrame | Self::Pair)
     }
 
-    /// Whether the call takes the settings of a notice.
+    /// Whether the call takes the settings of a text.
     pub fn has_settings(self) -> bool {
-        matches!(self, Self::DrawNotice | Self::Pages | Self::LineCount)
+        matches!(self, Self::DrawText | Self::Pair | Self::Pages | Self::LineCount)
     }
 }
 

@@ -2,9 +2,10 @@
 //!
 //! Usage: `compare [short] [--cases N] [--seed S] [--threads T]`. Every short input is tried, then
 //! random ones until there are N cases. A case is one call on one input, and everything that it
-//! returns and writes is compared. If the Rust has no valid answer, the crate `rules`, an
-//! independent implementation of document 01 and of document 02's C-11, C-14 and C-17, gives it.
-//! The exit status is 1 if a case differs.
+//! returns and writes is compared. C-15's two calls for a frame and for a text are made alone, and
+//! as a pair, which is one case. If the Rust has no valid answer, the crate `rules`, an independent
+//! implementation of document 01 and of document 02's C-11, C-14, C-15 and C-17, gives it. The exit
+//! status is 1 if a case differs.
 #![deny(unsafe_code)]
 
 mod answer;
@@ -13,6 +14,7 @@ mod check;
 mod expected;
 mod families;
 mod input;
+mod kinds;
 mod knobs;
 mod ours;
 #[path = "../../crosscheck/src/random.rs"]

@@ -12,11 +12,11 @@ pub fn answer(call: Call, input: &Input) -> Answer {
             let raw::TallyAnswer { number, lines, placed, clipped, zero_width, over_wide, dropped } =
                 raw::tally(text, settings.ambiguous, *limit, *trim);
             let values = [lines, placed, clipped, zero_width, over_wide, dropped].map(u64::from);
-            Answer { number, values, words: Vec::new() }
+            Answer { number, ..Answer::of(values) }
         }
         Call::Inner => {
-            let raw::AreaAnswer { number, x, y, width, height } = raw::inner(*block, titles, *area);
-            Answer { number, ..Answer::of([x, y, width, height].map(u64::from)) }
+            let answered = raw::inner(*block, titles, *area);
+            Answer { number: answered.number, ..Answer::of(numbers(&answered)) }
         }
         Call::DrawBlock => {
             let mut cells = input.cells.clone();
@@ -25,7 +25,9 @@ pub fn answer(call: Call, input: &Input) -> Answer {
                 raw::draw_block(size, &mut cells, styles, titles, ambiguous, *area, *block);
             Answer { number, ..Answer::drawn([], cells) }
         }
-        Call::DrawNotice => draw_notice(input),
+        Call::DrawFrame => frame(input),
+        Call::DrawText => self::text(input),
+        Call::Pair => pair(input),
         Call::Pages => pages(input),
         Call::LineCount => measured(raw::line_count(text, titles, *block, *settings, *limit)),
         Call::LineWidth => measured(raw::line_width(text, settings.ambiguous, titles, *block)),
@@ -40,19 +42,46 @@ fn list_lines(input: &Input) -> Answer {
     Answer { number, ..Answer::drawn([lines as u64], list) }
 }
 
-fn draw_notice(input: &Input) -> Answer {
+/// Returns the four numbers of an answered area.
+fn numbers(answered: &raw::AreaAnswer) -> [u64; 4] {
+    [answered.x, answered.y, answered.width, answered.height].map(u64::from)
+}
+
+fn frame(input: &Input) -> Answer {
     let mut cells = input.cells.clone();
-    let raw::DrawAnswer { number, rows, placed, clipped } = raw::draw_notice(
-        [input.columns, input.rows],
-        &mut cells,
-        &input.styles,
-        &input.text,
-        &input.titles,
-        input.area,
-        input.block,
-        input.settings,
-    );
+    let answered = draw_frame(input, &mut cells);
+    Answer { number: answered.number, ..Answer::drawn(numbers(&answered), cells) }
+}
+
+fn text(input: &Input) -> Answer {
+    let mut cells = input.cells.clone();
+    let raw::DrawAnswer { number, rows, placed, clipped } =
+        draw_text(input, &mut cells, input.area);
     Answer { number, ..Answer::drawn([rows, placed, clipped].map(u64::from), cells) }
+}
+
+fn draw_frame(input: &Input, cells: &mut [u64]) -> raw::AreaAnswer {
+    let Input { styles, titles, area, block, settings, .. } = input;
+    let size = [input.columns, input.rows];
+    let raw::Text { ambiguous, style, .. } = *settings;
+    raw::draw_frame(size, cells, styles, titles, ambiguous, *area, style, *block)
+}
+
+fn draw_text(input: &Input, cells: &mut [u64], area: raw::Area) -> raw::DrawAnswer {
+    let size = [input.columns, input.rows];
+    raw::draw_text(size, cells, &input.styles, &input.text, area, input.settings)
+}
+
+/// Frame, then text into the area that the frame answered, refused or not.
+fn pair(input: &Input) -> Answer {
+    let mut cells = input.cells.clone();
+    let frame = draw_frame(input, &mut cells);
+    let raw::AreaAnswer { number, x, y, width, height } = frame;
+    let text = draw_text(input, &mut cells, raw::Area { x, y, width, height });
+    let [x, y, width, height] = numbers(&frame);
+    let [rows, placed, clipped] = [text.rows, text.placed, text.clipped].map(u64::from);
+    let values = [text.number.into(), x, y, width, height, rows, placed, clipped];
+    Answer { number, ..Answer::drawn(values, cells) }
 }
 
 fn pages(input: &Input) -> Answer {

@@ -9,7 +9,8 @@ pub const UNNAMED: u32 = 255;
 /// The cause for a short list, checked once the lines are known.
 pub const SHORT_LIST: u32 = 9;
 
-/// Returns the number of the refusal cause, except for a short list, or 0.
+/// Returns the number of the refusal cause, except for a short list, or 0. The two calls of a pair
+/// each have their own.
 pub fn number(call: Call, input: &Input) -> u32 {
     if unnamed(call, input) {
         return UNNAMED;
@@ -23,10 +24,15 @@ fn causes(call: Call) -> &'static [u32] {
     match call {
         Call::ListLines | Call::Tally => &[3, 4, 8],
         Call::Inner => &[5, 7],
-        Call::DrawBlock => &[1, 2, 5, 6, 7],
-        Call::DrawNotice | Call::Pages => &[1, 2, 3, 4, 5, 6, 7],
+        // C-15: "The frame call checks 1, 2, 5, 6, 7 over its own inputs; the text call checks 1,
+        // 2, 3, 4, 6. A call that draws through both [...] checks all its inputs first, in the old
+        // order."
+        Call::DrawBlock | Call::DrawFrame => &[1, 2, 5, 6, 7],
+        Call::DrawText => &[1, 2, 3, 4, 6],
+        Call::Pages => &[1, 2, 3, 4, 5, 6, 7],
         Call::LineCount => &[3, 4, 5, 7, 8],
         Call::LineWidth => &[3, 4, 5, 7],
+        Call::Pair => unreachable!("each of the two calls is asked"),
     }
 }
 
@@ -42,7 +48,7 @@ fn unnamed(call: Call, input: &Input) -> bool {
     let wrong_other = match call {
         Call::ListLines => settings.alignment > 2 || *trim > 1,
         Call::Tally => *trim > 1,
-        _ => wrong_block || call.has_settings() && wrong_settings,
+        _ => call.has_block() && wrong_block || call.has_settings() && wrong_settings,
     };
     wrong_reading || wrong_other
 }
@@ -97,13 +103,19 @@ fn wrong_titles(titles: &[u32]) -> bool {
 /// "a style number, glyphs' included, not below their count"; the shadow's if there is one.
 fn wrong_style_number(call: Call, input: &Input) -> bool {
     let Input { block, settings, .. } = input;
-    let mut numbers = vec![block.border_style, block.style, block.titles_style];
-    if block.shadow > 0 {
+    let (mut numbers, mut texts) = (Vec::new(), Vec::new());
+    if call.has_block() {
+        numbers.extend([block.border_style, block.style, block.titles_style]);
+        texts.push(&input.titles);
+    }
+    if call.has_block() && block.shadow > 0 {
         numbers.push(block.shadow_style);
     }
-    let mut texts = vec![&input.titles];
-    if call.has_settings() {
-        numbers.extend([settings.style, settings.text_style]);
+    if call.has_paragraph_style() {
+        numbers.push(settings.style);
+    }
+    if call.reads_text() {
+        numbers.push(settings.text_style);
         texts.push(&input.text);
     }
     let wrong = |number: u32| number as usize >= input.styles.len();

@@ -8,6 +8,7 @@ use std::time::Instant;
 
 use crate::expected::Expected;
 use crate::input::{Call, Input};
+use crate::kinds::Kinds;
 
 /// The columns of the table.
 const NAMES: [&str; 12] = [
@@ -40,6 +41,7 @@ pub struct Report {
     rows: [Row; Call::ALL.len()],
     /// Entries with C-17's mark in the lists of accepted calls.
     marked: AtomicU64,
+    kinds: Kinds,
     printing: Mutex<()>,
     start: Instant,
 }
@@ -49,6 +51,7 @@ impl Report {
         Self {
             rows: Default::default(),
             marked: AtomicU64::new(0),
+            kinds: Kinds::default(),
             printing: Mutex::new(()),
             start: Instant::now(),
         }
@@ -69,6 +72,7 @@ impl Report {
             count.fetch_add(is_so.into(), Ordering::Relaxed);
         }
         self.marked.fetch_add(marked, Ordering::Relaxed);
+        self.kinds.count(call, input, &expected.answers[0].1);
     }
 
     /// Whether this is the first difference of the call; no later one is.
@@ -112,6 +116,7 @@ impl Report {
         }
         let sums: Vec<_> = (0..NAMES.len()).map(|column| self.sum(column).to_string()).collect();
         println!("| all | {} |\n", sums.join(" | "));
+        println!("{}", self.kinds.shown());
         println!(
             "{:.0} seconds, {} accepted, {} marked entries",
             self.start.elapsed().as_secs_f64(),

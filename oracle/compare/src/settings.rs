@@ -2,7 +2,7 @@
 
 use oracle::{
     Alignment, AmbiguousWidth, Block, BorderSet, Borders, Effect, Notice, Padding, Rect, Shadow,
-    TitlePosition, Wrap,
+    TextSettings, TitlePosition, Wrap,
 };
 
 use crate::raw;
@@ -27,9 +27,8 @@ pub fn wrap(settings: raw::Text) -> Wrap {
     }
 }
 
-pub fn notice(block: raw::Block, settings: raw::Text) -> Notice {
-    Notice {
-        block: self::block(block),
+pub fn text(settings: raw::Text) -> TextSettings {
+    TextSettings {
         style: settings.style,
         text_style: settings.text_style,
         alignment: alignment(settings.alignment),
@@ -37,6 +36,12 @@ pub fn notice(block: raw::Block, settings: raw::Text) -> Notice {
         ambiguous: ambiguous(settings),
         scroll: settings.scroll,
     }
+}
+
+pub fn notice(block: raw::Block, settings: raw::Text) -> Notice {
+    let TextSettings { style, text_style, alignment, wrap, ambiguous, scroll } = text(settings);
+    let block = self::block(block);
+    Notice { block, style, text_style, alignment, wrap, ambiguous, scroll }
 }
 
 pub fn block(flat: raw::Block) -> Block {

@@ -45,7 +45,7 @@ fn input(call: Call, input: &Input) -> String {
         line(&mut shown, "titles", &records(&input.titles));
         line(&mut shown, "block", &numbers(input, &[BLOCK, SYMBOLS]));
     }
-    if call.has_settings() || call == Call::ListLines {
+    if call.has_settings() || call.has_paragraph_style() || call == Call::ListLines {
         line(&mut shown, "settings", &numbers(input, &[SETTINGS]));
     }
     if call.reads_widths() {

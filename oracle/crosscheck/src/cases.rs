@@ -97,6 +97,37 @@ fn rect(random: &mut Random) -> Rect {
     Rect::new(x, y, width, size(random, 6).saturating_add(least_height))
 }
 
+/// Returns an area for a text, one in four each: on the screen, over its right or lower edge or
+/// both, off it, or without a cell.
+pub fn text_area(random: &mut Random, columns: u32, rows: u32) -> Rect {
+    let [columns, rows] = [columns as u16, rows as u16];
+    let kind = random.below(4);
+    let [x, y] = [random.below16(columns), random.below16(rows)];
+    let [right, below] = [columns - x, rows - y];
+    let [width, height] = [1 + random.below16(right), 1 + random.below16(below)];
+    let inside = Rect::new(x, y, width, height);
+    let side = random.below(3);
+    let [across, down] = [side != 1, side != 0];
+    match kind {
+        0 => inside,
+        1 => Rect {
+            width: if across { size(random, 6).saturating_add(right + 1) } else { width },
+            height: if down { size(random, 6).saturating_add(below + 1) } else { height },
+            ..inside
+        },
+        2 => Rect {
+            x: if across { size(random, 3).saturating_add(columns) } else { x },
+            y: if down { size(random, 3).saturating_add(rows) } else { y },
+            ..inside
+        },
+        _ => Rect {
+            width: if across { 0 } else { width },
+            height: if down { 0 } else { height },
+            ..inside
+        },
+    }
+}
+
 fn notice(random: &mut Random, styles: u8) -> Notice {
     let wrap = match random.below(3) {
         0 => Wrap::Off { column: size(random, 5) },

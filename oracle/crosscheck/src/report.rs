@@ -22,8 +22,8 @@ pub struct Report {
 }
 
 impl Report {
-    /// Compares the answer of `rules` with the Rust's. Keeps the differing input that is shortest
-    /// when formatted.
+    /// Compares the answer of `rules` with the Rust's. Of each topic the differing input is kept
+    /// that is shortest when formatted.
     pub fn same<T: Debug + PartialEq>(
         &mut self,
         topic: &'static str,
@@ -31,13 +31,23 @@ impl Report {
         document: &T,
         rust: &T,
     ) {
+        self.alike(topic, input, [("`rules`", document), ("the Rust", rust)]);
+    }
+
+    /// Compares two answers, each with the name of what gave it.
+    pub fn alike<T: Debug + PartialEq>(
+        &mut self,
+        topic: &'static str,
+        input: &dyn Debug,
+        [(one, first), (other, second)]: [(&str, &T); 2],
+    ) {
         let topic = self.topics.entry(topic).or_default();
         topic.compared += 1;
-        if document == rust {
+        if first == second {
             return;
         }
         topic.differences += 1;
-        let shown = format!("{input:?}\n    `rules`:  {document:?}\n    the Rust: {rust:?}");
+        let shown = format!("{input:?}\n    {one}: {first:?}\n    {other}: {second:?}");
         if topic.smallest.as_ref().is_none_or(|smallest| shown.len() < smallest.len()) {
             topic.smallest = Some(shown);
         }

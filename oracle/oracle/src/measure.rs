@@ -1,11 +1,34 @@
-//! Sizes: the inner area, the space that a frame takes, and a text's line count and width.
+//! Sizes: areas on the screen, the inner area, the space that a frame takes, and a text's line
+//! count and width.
 
 use ratatui_widgets::paragraph::Paragraph;
 
 use crate::outcome::{Outcome, ask};
 use crate::records::Records;
-use crate::settings::{Alignment, AmbiguousWidth, Block, Notice, Padding, Rect, Wrap};
+use crate::settings::{Alignment, AmbiguousWidth, Block, Padding, Rect, TextSettings, Wrap};
 use crate::widgets::{block, paragraph};
+
+/// Returns the screen as a rectangle.
+pub fn screen(columns: u32, rows: u32) -> Rect {
+    let side = |size| u16::try_from(size).expect("an accepted screen fits 16 bits");
+    Rect::new(0, 0, side(columns), side(rows))
+}
+
+/// "Drawing meets area and screen first."
+pub fn met(columns: u32, rows: u32, area: Rect) -> Outcome<Rect> {
+    ask(|| area.intersection(screen(columns, rows)))
+}
+
+/// Returns the inner area of a block as drawn: that of the area met with the screen.
+pub fn drawn_inner(
+    columns: u32,
+    rows: u32,
+    titles: &[u32],
+    area: Rect,
+    settings: Block,
+) -> Outcome<Rect> {
+    met(columns, rows, area).and_then(|met| inner(settings, titles, met))
+}
 
 /// `Block::inner` of any rectangle.
 pub fn inner(settings: Block, titles: &[u32], area: Rect) -> Outcome<Rect> {
@@ -61,8 +84,7 @@ fn measured(
     wrap: Wrap,
     measure: impl FnOnce(&Paragraph<'_>) -> usize,
 ) -> Outcome<u32> {
-    let notice = Notice {
-        block: settings,
+    let unframed = TextSettings {
         style: 0,
         text_style: 0,
         alignment: Alignment::Left,
@@ -72,7 +94,7 @@ fn measured(
     };
     ask(|| {
         let (text, titles) = (Records::new(text, ambiguous), Records::new(titles, ambiguous));
-        let framed = paragraph(notice, &text, None).block(block(settings, &titles, None));
+        let framed = paragraph(unframed, &text, None).block(block(settings, &titles, None));
         u32::try_from(measure(&framed)).expect("sizes of accepted texts fit 32 bits")
     })
 }

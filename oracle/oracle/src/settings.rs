@@ -75,6 +75,17 @@ pub enum AmbiguousWidth {
     Wide,
 }
 
+/// The settings of a text that is drawn without a frame. The text is separate records.
+#[derive(Debug, Clone, Copy, PartialEq, Eq)]
+pub struct TextSettings {
+    pub style: u8,
+    pub text_style: u8,
+    pub alignment: Alignment,
+    pub wrap: Wrap,
+    pub ambiguous: AmbiguousWidth,
+    pub scroll: u16,
+}
+
 /// A framed notice without its text, which is separate records.
 #[derive(Debug, Clone, Copy, PartialEq, Eq)]
 pub struct Notice {
@@ -85,4 +96,12 @@ pub struct Notice {
     pub wrap: Wrap,
     pub ambiguous: AmbiguousWidth,
     pub scroll: u16,
+}
+
+impl Notice {
+    /// Returns the settings other than the block.
+    pub fn text(self) -> TextSettings {
+        let Self { block: _, style, text_style, alignment, wrap, ambiguous, scroll } = self;
+        TextSettings { style, text_style, alignment, wrap, ambiguous, scroll }
+    }
 }

@@ -12,7 +12,9 @@ use ratatui_widgets::borders;
 use ratatui_widgets::paragraph::{self, Paragraph};
 
 use crate::records::{Records, Styles, style};
-use crate::settings::{Block, BorderSet, Borders, Effect, Notice, Shadow, TitlePosition, Wrap};
+use crate::settings::{
+    Block, BorderSet, Borders, Effect, Shadow, TextSettings, TitlePosition, Wrap,
+};
 
 /// Returns the crate's block, with titles.
 pub fn block<'a>(settings: Block, titles: &'a Records, styles: Styles<'_>) -> block::Block<'a> {
@@ -38,8 +40,12 @@ pub fn block<'a>(settings: Block, titles: &'a Records, styles: Styles<'_>) -> bl
     }
 }
 
-/// Returns the crate's paragraph, without its block.
-pub fn paragraph<'a>(settings: Notice, text: &'a Records, styles: Styles<'_>) -> Paragraph<'a> {
+/// Returns the crate's paragraph, without a block.
+pub fn paragraph<'a>(
+    settings: TextSettings,
+    text: &'a Records,
+    styles: Styles<'_>,
+) -> Paragraph<'a> {
     let paragraph = Paragraph::new(Text {
         lines: text.lines(styles).into_iter().map(|headed| headed.line).collect(),
         style: style(styles, settings.text_style),

@@ -1,9 +1,10 @@
-//! A second implementation of document 01 and of document 02's C-11, C-14 and C-17, sentence by
-//! sentence, on plain numbers and lists. It shares nothing with the stand-ins, reads width code 7
+//! A second implementation of document 01 and of document 02's C-11, C-14, C-15 and C-17, sentence
+//! by sentence, on plain numbers and lists. It shares nothing with the stand-ins, reads width code 7
 //! and marks and packs composed lines itself; only the types of settings and counts are the
 //! oracle's. `crosscheck` compares it with the Rust, and `vectors` and `compare` use its cells if a
 //! glyph is clipped.
 
+pub mod apart;
 pub mod compose;
 pub mod frame;
 pub mod measure;

@@ -1,6 +1,6 @@
-//! 'Rows, pages, tally': a whole notice.
+//! 'Rows, pages, tally': a whole notice, drawn at once. C-15 calls it "the combined drawing".
 
-use oracle::{Alignment, Drawn, Notice};
+use oracle::{Alignment, Drawn, Notice, TextSettings};
 
 use crate::compose::{Composed, compose};
 use crate::frame::{self, inner, met};
@@ -21,16 +21,23 @@ pub fn draw(
     screen.style(style, |x, y| met.holds(x, y));
     frame::draw(screen, &notice.block, &titles, met);
     let area = inner(&notice.block, &titles, met);
-    let mut drawn = Drawn::default();
     if area.is_empty() {
-        return drawn;
+        return Drawn::default();
     }
     screen.style(style, |x, y| area.holds(x, y));
-    let composed = compose(text, notice.ambiguous, notice.alignment, area.width, notice.wrap).lines;
-    let from_scroll = composed.iter().skip(usize::from(notice.scroll));
+    draw_rows(screen, text, area, &notice.text())
+}
+
+/// Draws a text's lines, composed at the width of an area on the screen, into its rows: "lines from
+/// the scroll row (16 bits)". "The answer carries the rows drawn, glyphs placed and clipped."
+pub fn draw_rows(screen: &mut Screen, text: &[u32], area: Area, settings: &TextSettings) -> Drawn {
+    let TextSettings { ambiguous, alignment, wrap, .. } = *settings;
+    let composed = compose(text, ambiguous, alignment, area.width, wrap).lines;
+    let from_scroll = composed.iter().skip(usize::from(settings.scroll));
+    let mut drawn = Drawn::default();
     for (row, line) in (area.y..area.bottom()).zip(from_scroll) {
         drawn.rows += 1;
-        draw_line(screen, line, Area { y: row, ..area }, notice, &mut drawn);
+        draw_line(screen, line, Area { y: row, ..area }, settings.text_style, &mut drawn);
     }
     drawn
 }
@@ -50,7 +57,7 @@ const BLANK: u64 = 32;
 /// Draws a composed line in the first row of an area. C-14 on a glyph that starts inside and runs
 /// past the right edge: "its first cell gets the blank symbol, then the text style and the glyph's
 /// own as before".
-fn draw_line(screen: &mut Screen, line: &Composed, area: Area, notice: &Notice, drawn: &mut Drawn) {
+fn draw_line(screen: &mut Screen, line: &Composed, area: Area, text_style: u8, drawn: &mut Drawn) {
     let column = start_column(line, area.width);
     for (glyph, start, place) in places(&line.glyphs, column, area.width) {
         drawn.placed += u32::from(place == Place::Inside);
@@ -63,7 +70,7 @@ fn draw_line(screen: &mut Screen, line: &Composed, area: Area, notice: &Notice, 
         };
         let chosen = |x, y| (x, y) == (area.x + start, area.y);
         screen.symbol(symbol, chosen);
-        screen.style(usize::from(notice.text_style), chosen);
+        screen.style(usize::from(text_style), chosen);
         screen.style(glyph.style, chosen);
     }
 }

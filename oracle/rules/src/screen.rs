@@ -19,6 +19,11 @@ impl From<Rect> for Area {
 }
 
 impl Area {
+    /// Returns x, y, width and height.
+    pub fn numbers(self) -> [i64; 4] {
+        [self.x, self.y, self.width, self.height]
+    }
+
     pub fn is_empty(self) -> bool {
         self.width == 0 || self.height == 0
     }

@@ -1,10 +1,11 @@
-//! Checks the oracle on the worked examples of document 01, and of C-11, C-14 and C-17 in document
-//! 02; on those of C-14 and C-17 the crate `rules` too.
+//! Checks the oracle on the worked examples of document 01, and of C-11, C-14, C-15 and C-17 in
+//! document 02; on those of C-14, C-15 and C-17 the crate `rules` too.
 //!
 //! Prints `ok NAME` or `FAILED NAME: expected .. got ..` for each, then `N passed, M failed`; the
 //! exit status is 1 if one failed.
 
 mod ambiguous;
+mod apart;
 mod frame;
 mod halved;
 mod listlines;
@@ -30,5 +31,6 @@ fn main() -> ExitCode {
     ambiguous::run(&mut report);
     halved::run(&mut report);
     marks::run(&mut report);
+    apart::run(&mut report);
     report.finish()
 }

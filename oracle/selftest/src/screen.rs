@@ -68,15 +68,20 @@ impl Screen {
 
     /// Draws a notice by the crate `rules`.
     pub fn draw_by_rules(&mut self, text: &[u32], area: Rect, notice: Notice) -> Drawn {
+        self.by_rules(|screen| rules::notice::draw(screen, text, &[], area.into(), &notice))
+    }
+
+    /// Draws on a screen of the crate `rules`, and returns what `draw` answers.
+    pub fn by_rules<T>(&mut self, draw: impl FnOnce(&mut rules::screen::Screen) -> T) -> T {
         let mut screen = rules::screen::Screen {
             columns: self.columns.into(),
             rows: self.rows.into(),
             cells: self.cells.clone(),
             styles: self.styles.clone(),
         };
-        let drawn = rules::notice::draw(&mut screen, text, &[], area.into(), &notice);
+        let answer = draw(&mut screen);
         self.cells = screen.cells;
-        drawn
+        answer
     }
 
     /// Returns the symbols as letters, with a bar between rows.

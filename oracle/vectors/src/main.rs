@@ -3,13 +3,17 @@
 //!
 //! Usage: `vectors [FOLDER]`, from the repository's root; FOLDER is `crates` by default. Writes one
 //! file for each question into the `data` folder of the crate that reads it: `wrapped`, `tally`,
-//! `truncated` and `measures` for texts, `inner`, `blocks` and `titled` for blocks, `notices` for
-//! notices. A file has the checksum of the answer to each case, 4 bytes each, high byte first:
+//! `truncated` and `measures` for texts, `inner`, `blocks` and `titled` for blocks, `notices`,
+//! `frames` and `texts` for notices. A file has the checksum of the answer to each case, 4 bytes each, high byte first:
 //! texts of short lines, of several lines and long texts; inner areas; blocks without titles on
 //! small and on large screens; blocks with titles on small and on wide screens; notices on narrow,
 //! small and large screens. A panic of the Rust ends the program with exit status 1.
 //!
-//! A notice that clips a glyph is the one case not answered by the Rust, which writes the glyph or
+//! `notices` has what C-15's two calls leave together, the frame and then the text in the area that
+//! it answers: the drawing of the whole notice. `frames` has the frame alone, and `texts` the text
+//! alone, in the area of the notice as it is.
+//!
+//! A text that clips a glyph is the one case not answered by the Rust, which writes the glyph or
 //! panics. The file has the answer of document 01 and C-14, by the crate `rules`. These cases are
 //! counted, and those with a glyph that starts inside and runs past the right edge, halved.
 
@@ -58,7 +62,9 @@ fn write_all(folder: &Path) -> Result<(), String> {
     write(folder, &blocks::INNER, &blocks::AREAS)?;
     write(folder, &blocks::DRAWN, &blocks::SCREENS)?;
     write(folder, &blocks::TITLED, &blocks::TITLED_SCREENS)?;
-    write(folder, &notices::DRAWN, &notices::SCREENS)?;
+    for question in [&notices::DRAWN, &notices::FRAMES, &notices::TEXTS] {
+        write(folder, question, &notices::SCREENS)?;
+    }
     notices::print_kinds();
     Ok(())
 }

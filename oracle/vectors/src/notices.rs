@@ -1,5 +1,6 @@
 //! Test notices and the answers on them: `crates/test_notices` generates the same notices.
 
+mod answers;
 mod drawn;
 mod kinds;
 mod settings;
@@ -7,10 +8,8 @@ mod texts;
 
 pub use kinds::print_kinds;
 
-use oracle::{Drawn, Notice, Outcome, Rect};
-use rules::screen::Screen;
+use oracle::{Notice, Rect};
 
-use crate::sums::{sum_entries, sum_numbers};
 use crate::{Part, Question};
 
 /// A test case.
@@ -26,52 +25,16 @@ pub struct Case {
 }
 
 pub const DRAWN: Question<Case> =
-    Question { file: "replay_notices/data/notices", ask: counts_and_cells };
+    Question { file: "replay_notices/data/notices", ask: answers::notice };
+
+pub const FRAMES: Question<Case> =
+    Question { file: "replay_notices/data/frames", ask: answers::frame };
+
+pub const TEXTS: Question<Case> =
+    Question { file: "replay_notices/data/texts", ask: answers::text };
 
 pub const SCREENS: [Part<Case>; 3] = [
     Part { name: "narrow screens", count: 30_000, case: drawn::narrow },
     Part { name: "small screens", count: 30_000, case: drawn::small },
     Part { name: "large screens", count: 480, case: drawn::large },
 ];
-
-/// Returns the checksum of the rows drawn, the glyphs placed and clipped, and all cells.
-fn counts_and_cells(case: &Case) -> Outcome<u32> {
-    counts(case).and_then(|counted| match counted.clipped {
-        0 => by_the_rust(case),
-        _ => Outcome::Value(by_the_rules(case)),
-    })
-}
-
-/// Counts the rows and glyphs that a case draws, by the Rust's composed lines.
-fn counts(case: &Case) -> Outcome<Drawn> {
-    let Case { notice, area, ref text, ref titles, columns, rows, .. } = *case;
-    oracle::notice_counts(columns.into(), rows.into(), text, titles, area, notice)
-}
-
-/// Returns the Rust's answer, which is right if no glyph is clipped.
-fn by_the_rust(case: &Case) -> Outcome<u32> {
-    let Case { notice, area, ref text, ref titles, columns, rows, ref styles, .. } = *case;
-    let mut cells = case.cells.clone();
-    oracle::draw_notice(columns.into(), rows.into(), &mut cells, styles, text, titles, area, notice)
-        .map(|drawn| sum_drawn(drawn, cells))
-}
-
-/// Returns the answer of document 01 and C-14, by the crate `rules`, for a case with a clipped
-/// glyph, which the Rust writes, or panics on.
-fn by_the_rules(case: &Case) -> u32 {
-    let mut screen = Screen {
-        columns: case.columns.into(),
-        rows: case.rows.into(),
-        cells: case.cells.clone(),
-        styles: case.styles.clone(),
-    };
-    let drawn =
-        rules::notice::draw(&mut screen, &case.text, &case.titles, case.area.into(), &case.notice);
-    sum_drawn(drawn, screen.cells)
-}
-
-/// Returns the checksum of the counts, then of the cells' checksum.
-fn sum_drawn(drawn: Drawn, cells: Vec<u64>) -> u32 {
-    let Drawn { rows, placed, clipped, halved: _ } = drawn;
-    sum_numbers([rows, placed, clipped, sum_entries(cells.into_iter())])
-}

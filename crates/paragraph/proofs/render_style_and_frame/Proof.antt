@@ -1,5 +1,5 @@
 -- `paragraph::render_style_and_frame` meets its contract.
-use Rattle.paragraph.proofs.Notices.{notices}
+use Rattle.paragraph.proofs.Frames.{frame-laws}
 use borrow.Author.Needs.{needs}
 use Rattle.paragraph.proofs.render_style_and_frame.Statement.{statement}
 use Rattle.paragraph.proofs.render_style_and_frame.Tie as tie
@@ -17,7 +17,7 @@ same-length : tie.Need-same-length
 same-length c = search needs
 
 returns : tie.Need-returns
-returns c = search notices
+returns c = search frame-laws
 
 pub render-style-and-frame-spec : {M : Type 1} → statement M
 render-style-and-frame-spec =

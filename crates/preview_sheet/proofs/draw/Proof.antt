@@ -19,8 +19,8 @@ cast-rows c = search needs
 fill-requires : tie.Need-fill-requires
 fill-requires c κs = search needs
 
-draw-notice-requires : tie.Need-draw-notice-requires
-draw-notice-requires c κs = search needs
+draw-both-requires : tie.Need-draw-both-requires
+draw-both-requires c κs = search needs
 
 same-length : tie.Need-same-length
 same-length c = search needs
@@ -28,7 +28,7 @@ same-length c = search needs
 returns : tie.Need-returns
 returns c =
     let placed = c .before .before .before .before .before .before .before .before .before .before in
-    drawn-notice (placed .before .before .before .before .before .before .before .args .opening) _ _ _ _ _ _ _ _ (placed .before .area .ensures) (placed .notice-at .ensures) (c .before .before .before .before .before .before .fill .ensures) _ _ (c .before .before .draw-notice .ensures)
+    drawn-notice (placed .before .before .before .before .before .before .before .args .opening) _ _ _ _ _ _ _ _ (placed .before .area .ensures) (placed .notice-at .ensures) (c .before .before .before .before .before .before .fill .ensures) _ _ (c .before .before .draw-both .ensures)
 
 pub draw-spec : {M : Type 1} → statement M
 draw-spec =
@@ -39,6 +39,6 @@ draw-spec =
     cast-columns
     cast-rows
     fill-requires
-    draw-notice-requires
+    draw-both-requires
     same-length
     returns)

@@ -1,7 +1,7 @@
 //! Every set of borders with small rectangles and with those at the end of the 16-bit range; pairs
 //! of titles.
 
-use super::{Digits, asked, cells, read};
+use super::{Digits, FRAMED, asked, cells, read};
 use crate::input::{Call, Input};
 use crate::raw::Area;
 use crate::records::{AMBIGUOUS, glyph, head};
@@ -82,7 +82,7 @@ pub fn block(number: u64) -> (Input, &'static [Call]) {
     let [x, y] = [digits.below(6), digits.below(5)].map(|start| start as u16);
     let [width, height] = [digits.below(6), digits.below(5)].map(|size| size as u16);
     input.area = Area { x, y, width, height };
-    (input, &[Call::DrawBlock])
+    (input, FRAMED)
 }
 
 /// Titles as letters with their width codes.
@@ -115,7 +115,7 @@ pub fn pair(number: u64) -> (Input, &'static [Call]) {
     input.block.border_left = digits.below(2) as u8;
     input.block.border_right = digits.below(2) as u8;
     input.area = Area { x: 0, y: 0, width: digits.below(8) as u16, height: 2 };
-    asked(input, &[Call::DrawBlock])
+    asked(input, FRAMED)
 }
 
 /// A screen whose cells all differ, five styles, and a distinct symbol for each part.
@@ -131,5 +131,6 @@ fn on_screen(columns: u32, rows: u32) -> Input {
     let block = &mut input.block;
     block.shadow_symbol = u32::from(b'S');
     (block.style, block.border_style, block.titles_style, block.shadow_style) = (0, 2, 3, 4);
+    input.settings.style = 1;
     input
 }

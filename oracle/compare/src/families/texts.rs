@@ -74,7 +74,11 @@ pub fn notice_count(most: u32) -> u64 {
     texts(most) * READINGS * 3 * METHODS.len() as u64 * WIDTHS * HEIGHTS * SCROLLS * 2
 }
 
-/// A text without a frame, in an area with free columns on its right on the screen, or without.
+/// A text of up to so many records after the first head is drawn alone too.
+const ALONE: u32 = 3;
+
+/// A text without a frame, in an area with free columns on its right on the screen, or without. The
+/// frame call, which takes no text, is made alone for the first text only.
 pub fn notice(number: u64) -> (Input, &'static [Call]) {
     let mut digits = Digits(number);
     let mut input = Input::plain();
@@ -85,9 +89,15 @@ pub fn notice(number: u64) -> (Input, &'static [Call]) {
     input.area = Area { x: 1, y: 1, width: width as u16, height: height as u16 };
     input.settings.scroll = digits.below(SCROLLS) as u16;
     (input.columns, input.rows) = (2 + width as u32 - digits.below(2) as u32, 4);
-    input.text = records(digits.0);
+    let text_number = digits.0;
+    input.text = records(text_number);
     input.cells = cells(input.columns * input.rows);
     input.styles = vec![0, 1 << 63 | 5 << 55 | 3 << 37 | 4 << 28, 1 << 54 | 6 << 46];
     (input.settings.style, input.settings.text_style) = (2, 1);
-    asked(input, &[Call::DrawNotice, Call::Pages])
+    let calls: &[Call] = match text_number {
+        0 => &[Call::Pair, Call::Pages, Call::DrawText, Call::DrawFrame],
+        _ if text_number < texts(ALONE) => &[Call::Pair, Call::Pages, Call::DrawText],
+        _ => &[Call::Pair, Call::Pages],
+    };
+    asked(input, calls)
 }

@@ -9,7 +9,11 @@ use crate::records::{AMBIGUOUS, glyph, head};
 
 const STYLES: u32 = 5;
 
+const CALLS: &[Call] =
+    &[Call::Pair, Call::DrawFrame, Call::DrawText, Call::Tally, Call::ListLines, Call::Pages];
+
 /// A notice to draw and to ask for its pages; its text is tallied and listed at the inner width.
+/// The text drawn alone goes into the notice's area, not into the inner one.
 pub fn notice(random: &mut Random) -> (Input, &'static [Call]) {
     let mut input = Input::plain();
     input.styles = (0..STYLES).map(|_| random.word() & !0xfff_ffff).collect();
@@ -24,7 +28,7 @@ pub fn notice(random: &mut Random) -> (Input, &'static [Call]) {
         wrap => wrap - 1,
     };
     input.list = (0..input.text.len() + 3).map(|_| random.word()).collect();
-    (input, &[Call::DrawNotice, Call::Tally, Call::ListLines, Call::Pages])
+    (input, CALLS)
 }
 
 /// No borders, all four, or any; no padding, or any.

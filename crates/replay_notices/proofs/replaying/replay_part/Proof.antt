@@ -7,11 +7,11 @@ use Rattle.replay_notices.proofs.replaying.replay_part.Statement.{state
 use Rattle.replay_notices.proofs.replaying.replay_part.Tie as tie
 
 abbrev Inv-loop : tie.InvT-loop
-Inv-loop part fd cells₀ count number₀ differ₀ placing₀ clipping₀ rowless₀ cells number differ placing clipping rowless =
+Inv-loop asked part fd cells₀ count number₀ differ₀ placing₀ clipping₀ rowless₀ cells number differ placing clipping rowless =
     (number ≤ count) × (differ ≤ number) × (placing ≤ number) × (clipping ≤ number) × (rowless ≤ number) × (length cells ≡ length cells₀)
 
 abbrev μ-loop : tie.MeasureT-loop
-μ-loop part fd cells₀ count number₀ differ₀ placing₀ clipping₀ rowless₀ cells number differ placing clipping rowless =
+μ-loop asked part fd cells₀ count number₀ differ₀ placing₀ clipping₀ rowless₀ cells number differ placing clipping rowless =
     count - number
 
 count-requires : tie.Need-count-requires Inv-loop μ-loop
