@@ -38,13 +38,13 @@
    A notice is drawn by two calls: first notice_draw_frame, which draws its frame and returns the inner area, then
    notice_draw_text, which lays its text into that area. Give both the same cells, style table, `style` and
    `ambiguous`. Look at the frame's number before the text's: a refused frame returns an area of four zeros, and a
-   text that is laid into an area without a cell is accepted and draws nothing. A frame drawn after its text gives
-   the text's cells its styles again.
+   text that is laid into an area without a cell draws nothing, though it isn't refused for that. A frame drawn
+   after its text gives the text's cells its styles again.
 
    To redraw a word, call notice_draw_text with the word's own area: it changes no cell outside it, and takes time
-   for the word alone, whatever the screen and the frame. Cells without a glyph keep their symbols, so a shorter word
-   needs blanks up to the length of the one before; and cells keep the colours and modifiers that no style gives or
-   removes.
+   for the word and the style table alone, whatever the screen and the frame. Cells without a glyph keep their
+   symbols, so a shorter word needs blanks up to the length of the one before; and cells keep the colours and
+   modifiers that no style gives or removes.
 
    Pages: notice_pages returns the number of lines n, the number of pages that they take, and the inner
    area as drawn, h rows high, which is the one that notice_draw_frame returns. Page p, from 0, is drawn by
@@ -52,9 +52,9 @@
    blank cells. If that area has a cell and the text is wrapped, notice_tally at its width, with trim and
    ambiguous as the notice has them, returns the same n, and the pages are n / h, rounded up. The pages show all
    lines, but not always all glyphs. If none may be lost, check the tally at that width: every glyph that isn't
-   dropped whitespace is shown if clipped, zero_width and over_wide are 0.
-   Of an unwrapped text the pages show only what fits the width. No page and a text that isn't empty: nothing
-   can be shown, since the inner area has no cell.
+   dropped whitespace is shown if clipped, zero_width and over_wide are 0. Of an unwrapped text the pages show
+   only what fits the width. No page and a text that isn't empty: nothing can be shown, since the inner area has
+   no cell.
 
    Every call terminates, whatever numbers it is given. A call that can't be carried out is refused: its
    answer has 255 if that applies, else the lowest notice_refusal that does, of those listed for the call,
@@ -79,9 +79,9 @@
    notice_draw_notice, drew a whole notice: a program for it makes two, notice_draw_frame and notice_draw_text, as
    said above. Together they draw what it drew, and at least one of them is refused where it was. But where it was
    refused for the text alone (3, 4, 6) and left all cells, the frame is drawn now; notice_pages, asked first, is
-   refused with the number that it had. In version 1 no call
-   took a notice_ambiguous, and width code 7 was seven columns. A program for version 1 passes one to
-   notice_list_lines, notice_tally, notice_draw_block and notice_line_width, sets the field of notice_text,
+   refused with the number that it had. In version 1 no call took a notice_ambiguous, and width code 7 was seven
+   columns. A program for version 1 passes one to notice_list_lines, notice_tally, notice_draw_block,
+   notice_draw_frame and notice_line_width, sets the field of notice_text,
    which was 8 bytes long and is 10 (0 in it is answered with 255), and is compiled again: the functions' names
    are the same, so an old object would link and pass the wrong arguments. The first archives of version 2 placed
    and drew a wide glyph of the text that starts before the right edge, or the limit, even if it runs past: counts

@@ -60,7 +60,7 @@ static size_t packed(uint32_t *records, const char *line) {
 }
 
 /* Draws the frame and the notice, on blank cells. */
-static void draw_notice(void) {
+static void draw_once(void) {
     static const char TEXT[] = "Door 7 is locked until noon.";
     uint32_t text[sizeof TEXT];
     for (size_t i = 0; i < CELLS; i++) {
@@ -108,7 +108,7 @@ int main(void) {
     uint64_t framed[CELLS];
     styles[PLAIN] = notice_style(0, 0);
     styles[TIME] = notice_with_foreground(notice_style(1, 0), 3);
-    draw_notice();
+    draw_once();
     memcpy(framed, cells, sizeof cells);
     for (unsigned minute = 9 * 60 + 58; minute <= 10 * 60 + 1; minute++) {
         draw_time(minute);
