@@ -2,7 +2,7 @@
 -- those before the call. `elsewhere`: cells outside the met area and the shadow's area are equal. `answer-blind`: "The answer never
 -- depends on the cells found."
 use Prim.Native.Nat.{ℕ, _/_, _%_, _<_}
-use mathlib.Core.Path.{_≡_, refl, ap, _∙_}
+use mathlib.Core.Path.{_≡_, refl, sym}
 use mathlib.Core.Bool.{false}
 use mathlib.Core.List.{List}
 use lib.ListN.{length, getD}
@@ -10,12 +10,11 @@ use Rattle.cell.specs.Cell.{cellFrom}
 use Rattle.layout.specs.declared.Rect.{Rect}
 use Rattle.layout.specs.Rect.{meet, contains}
 use Rattle.buffer.specs.declared.Screen.{Screen as ScreenSize}
-use Rattle.buffer.specs.Drawing.{drawn, areaOf}
+use Rattle.buffer.specs.Drawing.{areaOf}
 use Rattle.buffer.specs.Screen.{screenOf}
-use Rattle.buffer.proofs.Drawn.{drawn-length, drawn-cell}
-use Rattle.refuse.specs.declared.Verdict.{Verdict}
-use Rattle.refuse.specs.declared.Verdict.the-variants.{Accepted, Refused as RefusedFor}
-use Rattle.refuse.specs.Refusal.{unlessRefused}
+use Rattle.buffer.proofs.Keeping.{untouchedBits, wholeCell}
+use Rattle.check_settings.proofs.Left.{left-length, left-keeps}
+use Rattle.refuse.specs.declared.Verdict.the-variants.{Accepted}
 use Rattle.shadow.proofs.Keeping.{inShadow}
 use Rattle.titles.specs.Titles.{titlesFrom}
 use Rattle.render_block.proofs.KeepsBits.{keeps-bits as block-keeps-bits}
@@ -30,43 +29,27 @@ module _ (call : Call) where
   abbrev pub metIn : Rect
   metIn = meet (call .area) (areaOf screenIn)
 
-  abbrev drawnCells : List ℕ
-  drawnCells = drawn (call .columns) (drawingOf call) (call .cells)
-
   pub same-length : length (cellsAfter call) ≡ length (call .cells)
   unfolding cellsAfter
-  same-length = go (verdictOf call)
-    where
-      go : (v : Verdict) → length (unlessRefused v drawnCells (call .cells)) ≡ length (call .cells)
-      go Accepted = drawn-length (call .columns) (drawingOf call) (call .cells)
-      go (RefusedFor why) = refl
+  same-length = left-length (verdictOf call) (call .columns) (drawingOf call) (call .cells)
 
   -- cell i; a refused call leaves it
   module _ (i : ℕ) (h : i < length (call .cells)) where
     pub keeps-bits : cellFrom (getD (cellsAfter call) i 0) .untouched ≡ cellFrom (getD (call .cells) i 0) .untouched
     unfolding cellsAfter drawingOf
-    keeps-bits = go (verdictOf call)
-      where
-        go : (v : Verdict)
-            → cellFrom (getD (unlessRefused v drawnCells (call .cells)) i 0) .untouched
-            ≡ cellFrom (getD (call .cells) i 0) .untouched
-        go Accepted =
-            ap (λ (cell : ℕ). cellFrom cell .untouched) (drawn-cell (call .columns) (drawingOf call) (call .cells) i h)
-            ∙ block-keeps-bits (call .styles) screenIn (titlesFrom (call .ambiguous) (call .titles)) (call .block) (i % call .columns) (i / call .columns) (call .area) (getD (call .cells) i 0)
-        go (RefusedFor why) = refl
+    keeps-bits =
+        left-keeps untouchedBits (verdictOf call) (call .columns) (drawingOf call) (call .cells) i h
+        (λ _ cell. block-keeps-bits (call .styles) screenIn (titlesFrom (call .ambiguous) (call .titles)) (call .block) (i % call .columns) (i / call .columns) (call .area) cell)
 
     pub elsewhere : contains metIn (i % call .columns) (i / call .columns) ≡ false
         → inShadow screenIn metIn (call .block .shadow) (i % call .columns) (i / call .columns) ≡ false
         → getD (cellsAfter call) i 0 ≡ getD (call .cells) i 0
     unfolding cellsAfter drawingOf
-    elsewhere outside unshadowed = go (verdictOf call) refl
-      where
-        go : (v : Verdict) → v ≡ verdictOf call → getD (unlessRefused v drawnCells (call .cells)) i 0 ≡ getD (call .cells) i 0
-        go Accepted e =
-            drawn-cell (call .columns) (drawingOf call) (call .cells) i h
-            ∙ block-elsewhere (call .styles) screenIn (drawable call Accepted e refl .1 .few-columns) (call .ambiguous) (call .titles) (call .block) (call .area)
-            (i % call .columns) (i / call .columns) (getD (call .cells) i 0) outside unshadowed
-        go (RefusedFor why) e = refl
+    elsewhere outside unshadowed =
+        left-keeps wholeCell (verdictOf call) (call .columns) (drawingOf call) (call .cells) i h
+        (λ accepted cell.
+        block-elsewhere (call .styles) screenIn (drawable call Accepted (sym accepted) refl .1 .few-columns) (call .ambiguous) (call .titles) (call .block) (call .area)
+        (i % call .columns) (i / call .columns) cell outside unshadowed)
 
   -- the same call on other cells
   abbrev pub onCells : List ℕ → Call

@@ -2,18 +2,16 @@
 -- those before the call. `elsewhere`: cells outside the met area and the shadow's area are equal. `answer-blind`: "The answer never
 -- depends on the cells found."
 use Prim.Native.Nat.{ℕ, _/_, _%_, _<_}
-use mathlib.Core.Path.{_≡_, refl, sym, ap, _∙_}
+use mathlib.Core.Path.{_≡_}
 use mathlib.Core.Bool.{false}
 use mathlib.Core.List.{List}
 use lib.ListN.{length, getD}
 use Rattle.cell.specs.Cell.{cellFrom}
 use Rattle.layout.specs.declared.Rect.{Rect}
 use Rattle.layout.specs.Rect.{meet, contains}
-use Rattle.buffer.specs.Drawing.{drawn, areaOf}
-use Rattle.buffer.proofs.Drawn.{drawn-length, drawn-cell}
-use Rattle.refuse.specs.declared.Verdict.{Verdict}
-use Rattle.refuse.specs.declared.Verdict.the-variants.{Accepted, Refused as RefusedFor}
-use Rattle.refuse.specs.Refusal.{unlessRefused}
+use Rattle.buffer.specs.Drawing.{areaOf}
+use Rattle.buffer.proofs.Keeping.{untouchedBits, wholeCell}
+use Rattle.check_settings.proofs.Left.{left-length, left-keeps}
 use Rattle.titles.specs.Titles.{titlesFrom}
 use Rattle.shadow.proofs.Keeping.{inShadow}
 use Rattle.paragraph.proofs.KeepsBits.{frame-keeps-bits}
@@ -25,44 +23,27 @@ module _ (call : Call) where
   abbrev pub metIn : Rect
   metIn = meet (call .area) (areaOf (screenIn call))
 
-  abbrev drawnCells : List ℕ
-  drawnCells = drawn (call .columns) (drawingOf call) (call .cells)
-
   pub same-length : length (cellsAfter call) ≡ length (call .cells)
   unfolding cellsAfter
-  same-length = go (verdictOf call)
-    where
-      go : (v : Verdict) → length (unlessRefused v drawnCells (call .cells)) ≡ length (call .cells)
-      go Accepted = drawn-length (call .columns) (drawingOf call) (call .cells)
-      go (RefusedFor why) = refl
+  same-length = left-length (verdictOf call) (call .columns) (drawingOf call) (call .cells)
 
   -- cell i; a refused call leaves it
   module _ (i : ℕ) (h : i < length (call .cells)) where
     pub keeps-bits : cellFrom (getD (cellsAfter call) i 0) .untouched ≡ cellFrom (getD (call .cells) i 0) .untouched
     unfolding cellsAfter drawingOf
-    keeps-bits = go (verdictOf call)
-      where
-        go : (v : Verdict)
-            → cellFrom (getD (unlessRefused v drawnCells (call .cells)) i 0) .untouched
-            ≡ cellFrom (getD (call .cells) i 0) .untouched
-        go Accepted =
-            ap (λ (cell : ℕ). cellFrom cell .untouched) (drawn-cell (call .columns) (drawingOf call) (call .cells) i h)
-            ∙ frame-keeps-bits (call .styles) (screenIn call) (i % call .columns) (i / call .columns) (getD (call .cells) i 0)
-            (titlesFrom (call .ambiguous) (call .titles)) (call .style) (call .block) (call .area)
-        go (RefusedFor why) = refl
+    keeps-bits =
+        left-keeps untouchedBits (verdictOf call) (call .columns) (drawingOf call) (call .cells) i h
+        (λ _ cell. frame-keeps-bits (call .styles) (screenIn call) (i % call .columns) (i / call .columns) cell (titlesFrom (call .ambiguous) (call .titles)) (call .style) (call .block) (call .area))
 
     pub elsewhere : contains metIn (i % call .columns) (i / call .columns) ≡ false
         → inShadow (screenIn call) metIn (call .block .shadow) (i % call .columns) (i / call .columns) ≡ false
         → getD (cellsAfter call) i 0 ≡ getD (call .cells) i 0
     unfolding cellsAfter drawingOf
-    elsewhere outside unshadowed = go (verdictOf call) refl
-      where
-        go : (v : Verdict) → v ≡ verdictOf call → getD (unlessRefused v drawnCells (call .cells)) i 0 ≡ getD (call .cells) i 0
-        go Accepted e =
-            drawn-cell (call .columns) (drawingOf call) (call .cells) i h
-            ∙ frame-elsewhere (call .styles) (screenIn call) (i % call .columns) (i / call .columns) (getD (call .cells) i 0)
-            (screen-cells call (sym e) .few-columns) (call .ambiguous) (call .titles) (call .style) (call .block) (call .area) outside unshadowed
-        go (RefusedFor why) e = refl
+    elsewhere outside unshadowed =
+        left-keeps wholeCell (verdictOf call) (call .columns) (drawingOf call) (call .cells) i h
+        (λ accepted cell.
+        frame-elsewhere (call .styles) (screenIn call) (i % call .columns) (i / call .columns) cell (screen-cells call accepted .few-columns)
+        (call .ambiguous) (call .titles) (call .style) (call .block) (call .area) outside unshadowed)
 
   -- the same call on other cells
   abbrev pub onCells : List ℕ → Call

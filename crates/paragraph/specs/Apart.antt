@@ -23,7 +23,7 @@ frameOf styles screen titles style b area =
     let met = meet area (areaOf screen) in
     onlyIf (not (isEmpty met)) (inOrder (over met (styled (styleAt styles style)) ∷ frame styles screen titles b met ∷ []))
 
--- "lays paragraph style and text into a given area, met with the screen first"
+-- "lays paragraph style and text into a given area, met with the screen first"; so the limit is the width of what is met
 unfoldable pub paragraphOf : List ℕ → Screen → List ℕ → TextSettings → Rect → Drawing
 paragraphOf styles screen text s area = insideOf styles text s (meet area (areaOf screen))
 
