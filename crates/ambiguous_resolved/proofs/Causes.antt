@@ -9,47 +9,47 @@ use lib.ListN.{length}
 use Rattle.text.specs.declared.AmbiguousWidth.{AmbiguousWidth}
 use Rattle.text.specs.declared.TitlePosition.{TitlePosition}
 use Rattle.text.specs.declared.TitlePosition.TheVariants.{Top, Bottom}
-use Rattle.text.specs.Record.{isHead, styleOf, position_of, zerosOf}
-use Rattle.text.specs.Line.{TextLine, lines_from, notOpening}
+use Rattle.text.specs.Record.{is_head, style_of, position_of, zeros_of}
+use Rattle.text.specs.Line.{TextLine, lines_from, not_opening}
 use Rattle.text.specs.Lists.{some}
 use Rattle.layout.specs.declared.Rect.{Rect}
 use Rattle.refuse.specs.declared.Ceilings.{Ceilings}
-use Rattle.refuse.specs.Causes.{textHeadWrong, textHeadsWrong, tooManyGlyphs, positionThree, headZerosSet, titlesWrong, glyphStyles}
+use Rattle.refuse.specs.Causes.{text_head_wrong, text_heads_wrong, too_many_glyphs, position_three, head_zeros_set, titles_wrong, glyph_styles}
 use Rattle.block.specs.declared.Block.{Block}
-use Rattle.block.specs.Inner.{titleIsAt, hasTitleAt, inner_of, verticalSpace}
-use Rattle.ambiguous_resolved.specs.Replaced.{codeReplaced, replaced}
+use Rattle.block.specs.Inner.{title_is_at, has_title_at, inner_of, vertical_space}
+use Rattle.ambiguous_resolved.specs.Replaced.{code_replaced, replaced}
 use Rattle.ambiguous_resolved.proofs.Records.{head-kept, same_head, same-style}
 use Rattle.ambiguous_resolved.proofs.Lines.{SameLine, lines-along}
 
 module _ (a : AmbiguousWidth) where
-  opening-same : (rs : List ℕ) → notOpening (replaced a rs) ≡ notOpening rs
-  opening-same [] = refl
-  opening-same (r ∷ rs) = rw (same_head a r)
+  opening_same : (rs : List ℕ) → not_opening (replaced a rs) ≡ not_opening rs
+  opening_same [] = refl
+  opening_same (r ∷ rs) = rw (same_head a r)
 
-  head-wrong-same : (r : ℕ) → textHeadWrong (codeReplaced a r) ≡ textHeadWrong r
-  head-wrong-same r = rw (same_head a r) (go (isHead r) refl)
+  head-wrong-same : (r : ℕ) → text_head_wrong (code_replaced a r) ≡ text_head_wrong r
+  head-wrong-same r = rw (same_head a r) (go (is_head r) refl)
     where
       wrong : ℕ → Bool
-      wrong head = not (eqb (zerosOf head) 0) || not (eqb (position_of head) 0)
+      wrong head = not (eqb (zeros_of head) 0) || not (eqb (position_of head) 0)
 
-      go : (x : Bool) → isHead r ≡ x → (x && wrong (codeReplaced a r)) ≡ (x && wrong r)
+      go : (x : Bool) → is_head r ≡ x → (x && wrong (code_replaced a r)) ≡ (x && wrong r)
       go true h = rw (head-kept a r h)
       go false h = refl
 
-  heads-wrong-same : (rs : List ℕ) → some textHeadWrong (replaced a rs) ≡ some textHeadWrong rs
+  heads-wrong-same : (rs : List ℕ) → some text_head_wrong (replaced a rs) ≡ some text_head_wrong rs
   heads-wrong-same [] = refl
   heads-wrong-same (r ∷ rs) = rw (head-wrong-same r, heads-wrong-same rs)
 
-  pub text-heads-same : (text : List ℕ) → textHeadsWrong (replaced a text) ≡ textHeadsWrong text
-  unfolding textHeadsWrong
-  text-heads-same text = rw (opening-same text, heads-wrong-same text)
+  pub text-heads-same : (text : List ℕ) → text_heads_wrong (replaced a text) ≡ text_heads_wrong text
+  unfolding text_heads_wrong
+  text-heads-same text = rw (opening_same text, heads-wrong-same text)
 
-  pub glyph-styles-same : (rs : List ℕ) → glyphStyles (replaced a rs) ≡ glyphStyles rs
+  pub glyph-styles-same : (rs : List ℕ) → glyph_styles (replaced a rs) ≡ glyph_styles rs
   glyph-styles-same [] = refl
-  glyph-styles-same (r ∷ rs) = rw (same_head a r) (go (isHead r) refl (glyph-styles-same rs))
+  glyph-styles-same (r ∷ rs) = rw (same_head a r) (go (is_head r) refl (glyph-styles-same rs))
     where
-      go : (x : Bool) → isHead r ≡ x → glyphStyles (replaced a rs) ≡ glyphStyles rs
-          → cond x (glyphStyles (replaced a rs)) (styleOf (codeReplaced a r) ∷ glyphStyles (replaced a rs)) ≡ cond x (glyphStyles rs) (styleOf r ∷ glyphStyles rs)
+      go : (x : Bool) → is_head r ≡ x → glyph_styles (replaced a rs) ≡ glyph_styles rs
+          → cond x (glyph_styles (replaced a rs)) (style_of (code_replaced a r) ∷ glyph_styles (replaced a rs)) ≡ cond x (glyph_styles rs) (style_of r ∷ glyph_styles rs)
       go true h ih = ih
       go false h ih = rw (same-style a r h, ih)
 
@@ -62,25 +62,25 @@ module _ (a : AmbiguousWidth) where
   line-count-same : (rs : List ℕ) → length (lines_from 0 (replaced a rs)) ≡ length (lines_from 0 rs)
   line-count-same = lines-along a a (λ ls ks. length ls ≡ length ks) refl (λ l k ls ks s e. omega (arith, e)) 0
 
-  pub titles-wrong-same : (most : Ceilings) (titles : List ℕ) → titlesWrong most (replaced a titles) ≡ titlesWrong most titles
-  unfolding titlesWrong
+  pub titles-wrong-same : (most : Ceilings) (titles : List ℕ) → titles_wrong most (replaced a titles) ≡ titles_wrong most titles
+  unfolding titles_wrong
   titles-wrong-same most titles =
       rw (
         line-count-same titles,
-        some_same (tooManyGlyphs most) (λ l k s. ap (ltb most.title_glyphs) s.count) titles,
-        opening-same titles,
-        some_same positionThree (λ l k s. rw s.head) titles,
-        some_same headZerosSet (λ l k s. rw s.head) titles,
+        some_same (too_many_glyphs most) (λ l k s. ap (ltb most.title_glyphs) s.count) titles,
+        opening_same titles,
+        some_same position_three (λ l k s. rw s.head) titles,
+        some_same head_zeros_set (λ l k s. rw s.head) titles,
       )
 
-  has-title-same : (b : Block) (position : TitlePosition) (titles : List ℕ) → hasTitleAt b (replaced a titles) position ≡ hasTitleAt b titles position
-  unfolding hasTitleAt
-  has-title-same b position titles = some_same (λ (t : TextLine). titleIsAt b position t.head) (λ l k s. rw s.head) titles
+  has_title-same : (b : Block) (position : TitlePosition) (titles : List ℕ) → has_title_at b (replaced a titles) position ≡ has_title_at b titles position
+  unfolding has_title_at
+  has_title-same b position titles = some_same (λ (t : TextLine). title_is_at b position t.head) (λ l k s. rw s.head) titles
 
   pub inner-same : (b : Block) (titles : List ℕ) (area : Rect) → inner_of b (replaced a titles) area ≡ inner_of b titles area
   unfolding inner_of
-  inner-same b titles area = rw (has-title-same b Top titles, has-title-same b Bottom titles)
+  inner-same b titles area = rw (has_title-same b Top titles, has_title-same b Bottom titles)
 
-  pub vertical-same : (b : Block) (titles : List ℕ) → verticalSpace b (replaced a titles) ≡ verticalSpace b titles
-  unfolding verticalSpace
-  vertical-same b titles = rw (has-title-same b Top titles, has-title-same b Bottom titles)
+  pub vertical_same : (b : Block) (titles : List ℕ) → vertical_space b (replaced a titles) ≡ vertical_space b titles
+  unfolding vertical_space
+  vertical_same b titles = rw (has_title-same b Top titles, has_title-same b Bottom titles)

@@ -46,12 +46,12 @@ pub record Putting (old bytes : List ℕ) (at : ℕ) (new : List ℕ) (next i : 
   pub written : Written old at new next (take i bytes)
 
 module _ (old bytes : List ℕ) (at : ℕ) (fits : at + length bytes ≤ length old) where
-  pub putting-starts : Putting old bytes at old at 0
-  putting-starts = record { within = omega arith; written = written_none old at }
+  pub putting_starts : Putting old bytes at old at 0
+  putting_starts = record { within = omega arith; written = written_none old at }
 
   module _ (new : List ℕ) (next i : ℕ) (p : Putting old bytes at new next i) where
-    pub putting-room : i < length bytes → next < length new
-    putting-room h = omega (arith, p.written.moved, p.written.kept, length-take-le i bytes p.within)
+    pub putting_room : i < length bytes → next < length new
+    putting_room h = omega (arith, p.written.moved, p.written.kept, length-take-le i bytes p.within)
 
     pub putting-goes :
         (newer : List ℕ) (further : ℕ) → i < length bytes → Written new next newer further (get_or bytes i 0 ∷ []) → Putting old bytes at newer further (i + 1)
@@ -61,13 +61,13 @@ module _ (old bytes : List ℕ) (at : ℕ) (fits : at + length bytes ≤ length 
           written = rw (add-one i, take-suc bytes i 0 h) (written_then old at new newer next further (take i bytes) (get_or bytes i 0 ∷ []) p.written w);
         }
 
-    pub putting-length : length new ≡ length old
-    putting-length = p.written.kept
+    pub putting_length : length new ≡ length old
+    putting_length = p.written.kept
 
-    pub putting-ends : length bytes ≤ i → Written old at new next bytes
-    putting-ends h =
+    pub putting_ends : length bytes ≤ i → Written old at new next bytes
+    putting_ends h =
         let e : i ≡ length bytes = omega (arith, p.within) in
         let t : take i bytes ≡ bytes = ap (λ (n : ℕ). take n bytes) e ∙ take-length bytes in
         rw t at p.written
 
-pub ruleset putting = (putting-starts, putting-room, putting-goes, putting-length, putting-ends)
+pub ruleset putting = (putting_starts, putting_room, putting-goes, putting_length, putting_ends)

@@ -4,39 +4,39 @@ use mathlib.Core.Path.{◌≡◌}
 use mathlib.Core.Bool.{Bool, true, false}
 use mathlib.Core.List.{List, [], ◌∷◌}
 use lib.IntN.{ℤ}
-use Rattle.refuse.specs.Causes.{noStyle, styleNumbersWrong, symbolsWrong}
+use Rattle.refuse.specs.Causes.{no_style, style_numbers_wrong, symbols_wrong}
 use Rattle.block.specs.declared.Block.{Block}
 use Rattle.block.specs.declared.Effect.{Effect}
 use Rattle.block.specs.declared.Effect.TheVariants.{Overlay, Symbol}
 use Rattle.block.specs.declared.Shadow.{Shadow}
 use Rattle.block.specs.declared.Shadow.TheVariants.{Present}
-use Rattle.block.specs.Causes.{shadowStyles, blockStyles, shadowSymbols}
-use Rattle.text.proofs.Either.{first-has, later-has}
+use Rattle.block.specs.Causes.{shadow_styles, block_styles, shadow_symbols}
+use Rattle.text.proofs.Either.{first_has, later_has}
 
 -- style number and symbol of a present shadow
 module _ (shadow : Shadow) (effect : Effect) (style : ℕ) (x y : ℤ) (e : shadow ≡ Present effect style x y) where
-  pub shadow-style-checked : (count : ℕ) (found : Bool) → found ≡ styleNumbersWrong count (style ∷ []) → found ≡ styleNumbersWrong count (shadowStyles shadow)
-  shadow-style-checked count found p = rw e p
+  pub shadow_style_checked : (count : ℕ) (found : Bool) → found ≡ style_numbers_wrong count (style ∷ []) → found ≡ style_numbers_wrong count (shadow_styles shadow)
+  shadow_style_checked count found p = rw e p
 
-  pub overlay-passes : effect ≡ Overlay → false ≡ symbolsWrong (shadowSymbols shadow)
-  overlay-passes o = rw (e, o)
+  pub overlay_passes : effect ≡ Overlay → false ≡ symbols_wrong (shadow_symbols shadow)
+  overlay_passes o = rw (e, o)
 
-  pub shadow-symbol-checked : (symbol : ℕ) (found : Bool) → effect ≡ Symbol symbol → found ≡ symbolsWrong (symbol ∷ []) → found ≡ symbolsWrong (shadowSymbols shadow)
-  shadow-symbol-checked symbol found s p = rw (e, s) p
+  pub shadow_symbol_checked : (symbol : ℕ) (found : Bool) → effect ≡ Symbol symbol → found ≡ symbols_wrong (symbol ∷ []) → found ≡ symbols_wrong (shadow_symbols shadow)
+  shadow_symbol_checked symbol found s p = rw (e, s) p
 
-pub ruleset shadows = (shadow-style-checked, overlay-passes, shadow-symbol-checked)
+pub ruleset shadows = (shadow_style_checked, overlay_passes, shadow_symbol_checked)
 
 -- a block's style numbers without its shadow's
-abbrev ownStyles : Block → List ℕ
-ownStyles b = b.border_style ∷ b.style ∷ b.titles_style ∷ []
+abbrev own_styles : Block → List ℕ
+own_styles b = b.border_style ∷ b.style ∷ b.titles_style ∷ []
 
-module _ (count : ℕ) (b : Block) (found : Bool) (e : found ≡ styleNumbersWrong count (ownStyles b)) where
-  pub own-style-wrong : found ≡ true → true ≡ styleNumbersWrong count (blockStyles b)
-  unfolding blockStyles
-  own-style-wrong t = first-has (noStyle count) (ownStyles b) (shadowStyles b.shadow) found e t
+module _ (count : ℕ) (b : Block) (found : Bool) (e : found ≡ style_numbers_wrong count (own_styles b)) where
+  pub own-style-wrong : found ≡ true → true ≡ style_numbers_wrong count (block_styles b)
+  unfolding block_styles
+  own-style-wrong t = first_has (no_style count) (own_styles b) (shadow_styles b.shadow) found e t
 
-  pub shadow-style-decides : (x : Bool) → found ≡ false → x ≡ styleNumbersWrong count (shadowStyles b.shadow) → x ≡ styleNumbersWrong count (blockStyles b)
-  unfolding blockStyles
-  shadow-style-decides x f p = later-has (noStyle count) (ownStyles b) (shadowStyles b.shadow) found e x f p
+  pub shadow_style_decides : (x : Bool) → found ≡ false → x ≡ style_numbers_wrong count (shadow_styles b.shadow) → x ≡ style_numbers_wrong count (block_styles b)
+  unfolding block_styles
+  shadow_style_decides x f p = later_has (no_style count) (own_styles b) (shadow_styles b.shadow) found e x f p
 
-pub ruleset block-styles = (own-style-wrong, shadow-style-decides)
+pub ruleset block-styles = (own-style-wrong, shadow_style_decides)

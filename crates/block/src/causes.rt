@@ -1,14 +1,14 @@
 // Checks of a block's settings: causes 6 (style numbers) and 7 (symbols).
 ghost use Rattle.std.specs.Prelude.{◌≡◌};
-ghost use Rattle.refuse.specs.Causes.{styleNumbersWrong, symbolsWrong};
-ghost use Rattle.block.specs.Causes.{shadowStyles, blockStyles, shadowSymbols, borderSymbols, blockSymbols};
+ghost use Rattle.refuse.specs.Causes.{style_numbers_wrong, symbols_wrong};
+ghost use Rattle.block.specs.Causes.{shadow_styles, block_styles, shadow_symbols, border_symbols, block_symbols};
 
 use crate::{Block, BorderSet, Effect, Shadow};
 use check_settings::styles;
 
 // Whether the shadow's style number is not below the count of styles (cause 6).
 fn shadow_style_wrong(count: usize, shadow: Shadow) -> bool
-    ensures { result ≡ styleNumbersWrong count (shadowStyles shadow) }
+    ensures { result ≡ style_numbers_wrong count (shadow_styles shadow) }
 {
     let Shadow::Present {
         effect: _,
@@ -25,7 +25,7 @@ fn shadow_style_wrong(count: usize, shadow: Shadow) -> bool
 impl Block {
     // Whether a style number of the settings is not below the count of styles (cause 6).
     pub fn style_numbers_wrong(self, count: usize) -> bool
-        ensures { result ≡ styleNumbersWrong count (blockStyles self) }
+        ensures { result ≡ style_numbers_wrong count (block_styles self) }
     {
         let shadow = self.shadow;
         if styles::style_numbers_wrong(count, &[self.border_style, self.style, self.titles_style]) {
@@ -36,7 +36,7 @@ impl Block {
 
     // Whether a border or shadow symbol is 2,097,152 or more (cause 7).
     pub fn symbols_wrong(self) -> bool
-        ensures { result ≡ symbolsWrong (blockSymbols self) }
+        ensures { result ≡ symbols_wrong (block_symbols self) }
     {
         let set = self.border_set;
         let shadow = self.shadow;
@@ -50,7 +50,7 @@ impl Block {
 impl BorderSet {
     // Whether one of the eight border symbols is too large (cause 7), even if its side has no border.
     fn symbols_wrong(self) -> bool
-        ensures { result ≡ symbolsWrong (borderSymbols self) }
+        ensures { result ≡ symbols_wrong (border_symbols self) }
     {
         styles::symbols_wrong(&[
             self.top_left,
@@ -67,7 +67,7 @@ impl BorderSet {
 
 // Whether the shadow's symbol is too large (cause 7).
 fn shadow_symbol_wrong(shadow: Shadow) -> bool
-    ensures { result ≡ symbolsWrong (shadowSymbols shadow) }
+    ensures { result ≡ symbols_wrong (shadow_symbols shadow) }
 {
     let Shadow::Present {
         effect,

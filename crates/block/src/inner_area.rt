@@ -1,7 +1,7 @@
 // The inner area of a block, and the space that its frame takes.
 ghost use Rattle.std.specs.Prelude.{◌≡◌, ◌+◌, ◌-◌};
 ghost use Rattle.num.specs.Held.{held};
-ghost use Rattle.block.specs.Inner.{movedIn, taken, atTop, atBottom, inner_of, space_of, horizontalSpace, verticalSpace};
+ghost use Rattle.block.specs.Inner.{moved_in, taken, at_top, at_bottom, inner_of, space_of, horizontal_space, vertical_space};
 
 use crate::{Block, Space};
 use layout::Rect;
@@ -16,7 +16,7 @@ pub fn cells_taken(present: bool) -> u16
 
 // Returns the inner area's x or y: moved by 1, not past the end, if a border or title is present, then by the padding.
 fn inner_start(present: bool, place: u16, end: u16, padding: u16) -> u16
-    ensures { result ≡ held (movedIn present place end + padding) }
+    ensures { result ≡ held (moved_in present place end + padding) }
 {
     if present {
         return num::saturating_add(num::min(num::saturating_add(place, 1), end), padding);
@@ -46,7 +46,7 @@ fn space(before: bool, after: bool, padding: u16, padding_after: u16) -> Space
 impl Block {
     // Whether the block has a top border or a top title.
     fn present_at_top(self, titles: &[u32]) -> bool
-        ensures { result ≡ atTop self titles.now }
+        ensures { result ≡ at_top self titles.now }
     {
         let borders = self.borders;
         if borders.top {
@@ -57,7 +57,7 @@ impl Block {
 
     // Whether the block has a bottom border or a bottom title.
     fn present_at_bottom(self, titles: &[u32]) -> bool
-        ensures { result ≡ atBottom self titles.now }
+        ensures { result ≡ at_bottom self titles.now }
     {
         let borders = self.borders;
         if borders.bottom {
@@ -90,7 +90,7 @@ impl Block {
 
     // Returns the columns that the frame takes at the left and right (block.rs: `Block::horizontal_space`).
     pub fn horizontal_space(self) -> Space
-        ensures { result ≡ horizontalSpace self }
+        ensures { result ≡ horizontal_space self }
     {
         let borders = self.borders;
         let padding = self.padding;
@@ -99,7 +99,7 @@ impl Block {
 
     // Returns the rows that the frame takes at the top and bottom (block.rs: `Block::vertical_space`).
     pub fn vertical_space(self, titles: &[u32]) -> Space
-        ensures { result ≡ verticalSpace self titles.now }
+        ensures { result ≡ vertical_space self titles.now }
     {
         let padding = self.padding;
         let top = self.present_at_top(titles);

@@ -1,13 +1,13 @@
 // Search for a title at the top or the bottom.
 ghost use Rattle.std.specs.Prelude.{◌≡◌};
 ghost use Rattle.text.specs.declared.TitlePosition.TheVariants.{Top};
-ghost use Rattle.block.specs.Inner.{samePosition, hasTitleAt};
+ghost use Rattle.block.specs.Inner.{same_position, has_title_at};
 
 use crate::Block;
 use text::{TitlePosition, head};
 
 fn is_top(position: TitlePosition) -> bool
-    ensures { result ≡ samePosition Top position }
+    ensures { result ≡ same_position Top position }
 {
     match position {
         TitlePosition::Top => true,
@@ -17,7 +17,7 @@ fn is_top(position: TitlePosition) -> bool
 
 // Whether two positions are the same.
 pub fn is_at(position: TitlePosition, wanted: TitlePosition) -> bool
-    ensures { result ≡ samePosition position wanted }
+    ensures { result ≡ same_position position wanted }
 {
     match position {
         TitlePosition::Top => is_top(wanted),
@@ -28,7 +28,7 @@ pub fn is_at(position: TitlePosition, wanted: TitlePosition) -> bool
 impl Block {
     // Whether a title is at the position, given or default (block.rs: `Block::has_title_at_position`).
     pub fn has_title_at_position(self, titles: &[u32], position: TitlePosition) -> bool
-        ensures { result ≡ hasTitleAt self titles.now position }
+        ensures { result ≡ has_title_at self titles.now position }
     {
         let default_position = self.titles_position;
         let mut i = 0;

@@ -1,7 +1,7 @@
 // The sides and corners of a block's area (block.rs: the tables in `Block::render_sides` and `Block::render_corners`).
 ghost use Rattle.std.specs.Prelude.{◌≡◌, ◌&&◌, ◌-◌};
-ghost use Rattle.layout.specs.Rect.{rightOf, bottomOf};
-ghost use Rattle.border_edges.specs.Edges.{leftEdge, topEdge, rightEdge, bottomEdge, bottomRightEdge, topRightEdge, bottomLeftEdge, topLeftEdge};
+ghost use Rattle.layout.specs.Rect.{right_of, bottom_of};
+ghost use Rattle.border_edges.specs.Edges.{left_edge, top_edge, right_edge, bottom_edge, bottom_right_edge, top_right_edge, bottom_left_edge, top_left_edge};
 
 use block::Block;
 use layout::Rect;
@@ -16,14 +16,14 @@ pub struct Edge {
 
 // Returns the last column of a rectangle: its right less 1, saturating at 0.
 fn last_column(area: Rect) -> u16
-    ensures { result ≡ rightOf area - 1 }
+    ensures { result ≡ right_of area - 1 }
 {
     num::saturating_sub(area.right(), 1)
 }
 
 // Returns the last row of a rectangle: its bottom less 1, saturating at 0.
 fn last_row(area: Rect) -> u16
-    ensures { result ≡ bottomOf area - 1 }
+    ensures { result ≡ bottom_of area - 1 }
 {
     num::saturating_sub(area.bottom(), 1)
 }
@@ -40,7 +40,7 @@ fn both(one: bool, other: bool) -> bool
 
 // Returns the left side: the first column.
 pub fn left_side(block: Block, area: Rect) -> Edge
-    ensures { result ≡ leftEdge block area }
+    ensures { result ≡ left_edge block area }
 {
     let on = block.borders;
     let set = block.border_set;
@@ -59,7 +59,7 @@ pub fn left_side(block: Block, area: Rect) -> Edge
 
 // Returns the top side: the first row.
 pub fn top_side(block: Block, area: Rect) -> Edge
-    ensures { result ≡ topEdge block area }
+    ensures { result ≡ top_edge block area }
 {
     let on = block.borders;
     let set = block.border_set;
@@ -78,7 +78,7 @@ pub fn top_side(block: Block, area: Rect) -> Edge
 
 // Returns the right side: the last column.
 pub fn right_side(block: Block, area: Rect) -> Edge
-    ensures { result ≡ rightEdge block area }
+    ensures { result ≡ right_edge block area }
 {
     let on = block.borders;
     let set = block.border_set;
@@ -97,7 +97,7 @@ pub fn right_side(block: Block, area: Rect) -> Edge
 
 // Returns the bottom side: the last row.
 pub fn bottom_side(block: Block, area: Rect) -> Edge
-    ensures { result ≡ bottomEdge block area }
+    ensures { result ≡ bottom_edge block area }
 {
     let on = block.borders;
     let set = block.border_set;
@@ -116,7 +116,7 @@ pub fn bottom_side(block: Block, area: Rect) -> Edge
 
 // Returns the bottom right corner.
 pub fn bottom_right(block: Block, area: Rect) -> Edge
-    ensures { result ≡ bottomRightEdge block area }
+    ensures { result ≡ bottom_right_edge block area }
 {
     let on = block.borders;
     let set = block.border_set;
@@ -135,7 +135,7 @@ pub fn bottom_right(block: Block, area: Rect) -> Edge
 
 // Returns the top right corner.
 pub fn top_right(block: Block, area: Rect) -> Edge
-    ensures { result ≡ topRightEdge block area }
+    ensures { result ≡ top_right_edge block area }
 {
     let on = block.borders;
     let set = block.border_set;
@@ -154,7 +154,7 @@ pub fn top_right(block: Block, area: Rect) -> Edge
 
 // Returns the bottom left corner.
 pub fn bottom_left(block: Block, area: Rect) -> Edge
-    ensures { result ≡ bottomLeftEdge block area }
+    ensures { result ≡ bottom_left_edge block area }
 {
     let on = block.borders;
     let set = block.border_set;
@@ -173,7 +173,7 @@ pub fn bottom_left(block: Block, area: Rect) -> Edge
 
 // Returns the top left corner.
 pub fn top_left(block: Block, area: Rect) -> Edge
-    ensures { result ≡ topLeftEdge block area }
+    ensures { result ≡ top_left_edge block area }
 {
     let on = block.borders;
     let set = block.border_set;

@@ -10,67 +10,67 @@ use borrow.Author.Tests.{eq-eqb, ne_eqb}
 use lib.Dec.{eqb}
 use lib.ListN.{length, take, drop, get_or, set, length-drop, length-set, take-append-drop}
 use lib.Seq.{length-take-le, take-length, drop-length, take-suc-set, drop-set-lt, drop-cons}
-use Rattle.buffer.specs.Drawing.{changedFrom, changed}
+use Rattle.buffer.specs.Drawing.{changed_from, changed}
 use Rattle.buffer.specs.PartsExtra.{windowed}
 use Rattle.buffer.proofs.Within.{within-inside, within-before, within-past}
 
-changedFrom-length : (n : ℕ) (f : ℕ → ℕ → ℕ) (xs : List ℕ) → length (changedFrom n f xs) ≡ length xs
-changedFrom-length n f [] = refl
-changedFrom-length n f (x ∷ xs) = ap suc (changedFrom-length (suc n) f xs)
+changed_from-length : (n : ℕ) (f : ℕ → ℕ → ℕ) (xs : List ℕ) → length (changed_from n f xs) ≡ length xs
+changed_from-length n f [] = refl
+changed_from-length n f (x ∷ xs) = ap suc (changed_from-length (suc n) f xs)
 
 pub length-changed : (f : ℕ → ℕ → ℕ) (xs : List ℕ) → length (changed f xs) ≡ length xs
-length-changed f xs = changedFrom-length 0 f xs
+length-changed f xs = changed_from-length 0 f xs
 
-changedFrom-at : (n : ℕ) (f : ℕ → ℕ → ℕ) (xs : List ℕ) (i : ℕ) → i < length xs → get_or (changedFrom n f xs) i 0 ≡ f (n + i) (get_or xs i 0)
-changedFrom-at n f [] i h = absurd (omega arith)
-changedFrom-at n f (x ∷ xs) zero h = rw add-zero
-changedFrom-at n f (x ∷ xs) (suc i) h = rw (add-suc, ← suc-add) (changedFrom-at (suc n) f xs i (omega arith))
+changed_from-at : (n : ℕ) (f : ℕ → ℕ → ℕ) (xs : List ℕ) (i : ℕ) → i < length xs → get_or (changed_from n f xs) i 0 ≡ f (n + i) (get_or xs i 0)
+changed_from-at n f [] i h = absurd (omega arith)
+changed_from-at n f (x ∷ xs) zero h = rw add-zero
+changed_from-at n f (x ∷ xs) (suc i) h = rw (add-suc, ← suc-add) (changed_from-at (suc n) f xs i (omega arith))
 
 pub changed-at : (f : ℕ → ℕ → ℕ) (xs : List ℕ) (i : ℕ) → i < length xs → get_or (changed f xs) i 0 ≡ f i (get_or xs i 0)
-changed-at f xs i h = rw zero-add at (changedFrom-at 0 f xs i h)
+changed-at f xs i h = rw zero-add at (changed_from-at 0 f xs i h)
 
 -- a change of a concatenation
-pub changedFrom-append : (n : ℕ) (f : ℕ → ℕ → ℕ) (xs ys : List ℕ) → changedFrom n f (xs ++ ys) ≡ changedFrom n f xs ++ changedFrom (n + length xs) f ys
-changedFrom-append n f [] ys = rw add-zero
-changedFrom-append n f (x ∷ xs) ys = rw (add-suc, ← suc-add) (ap (λ (t : List ℕ). f n x ∷ t) (changedFrom-append (suc n) f xs ys))
+pub changed_from-append : (n : ℕ) (f : ℕ → ℕ → ℕ) (xs ys : List ℕ) → changed_from n f (xs ++ ys) ≡ changed_from n f xs ++ changed_from (n + length xs) f ys
+changed_from-append n f [] ys = rw add-zero
+changed_from-append n f (x ∷ xs) ys = rw (add-suc, ← suc-add) (ap (λ (t : List ℕ). f n x ∷ t) (changed_from-append (suc n) f xs ys))
 
 -- changes that agree on every index of the list
-pub changedFrom-same : (n : ℕ) (f g : ℕ → ℕ → ℕ) (xs : List ℕ) → ((i x : ℕ) → n ≤ i → i < n + length xs → f i x ≡ g i x)
-    → changedFrom n f xs ≡ changedFrom n g xs
-changedFrom-same n f g [] h = refl
-changedFrom-same n f g (x ∷ xs) h =
+pub changed_from-same : (n : ℕ) (f g : ℕ → ℕ → ℕ) (xs : List ℕ) → ((i x : ℕ) → n ≤ i → i < n + length xs → f i x ≡ g i x)
+    → changed_from n f xs ≡ changed_from n g xs
+changed_from-same n f g [] h = refl
+changed_from-same n f g (x ∷ xs) h =
     let e : f n x ≡ g n x = h n x (omega arith) (omega arith) in
-    let t : changedFrom (suc n) f xs ≡ changedFrom (suc n) g xs = changedFrom-same (suc n) f g xs (λ i y p q. h i y (omega arith) (omega arith)) in
+    let t : changed_from (suc n) f xs ≡ changed_from (suc n) g xs = changed_from-same (suc n) f g xs (λ i y p q. h i y (omega arith) (omega arith)) in
     cc
 
 -- the same for indices from 0
 pub changed-same : (f g : ℕ → ℕ → ℕ) (xs : List ℕ) → ((i x : ℕ) → i < length xs → f i x ≡ g i x) → changed f xs ≡ changed g xs
-changed-same f g xs h = changedFrom-same 0 f g xs (λ i x p q. h i x (omega arith))
+changed-same f g xs h = changed_from-same 0 f g xs (λ i x p q. h i x (omega arith))
 
-changedFrom-none : (n : ℕ) (xs : List ℕ) → changedFrom n (λ i x. x) xs ≡ xs
-changedFrom-none n [] = refl
-changedFrom-none n (x ∷ xs) = ap (λ (t : List ℕ). x ∷ t) (changedFrom-none (suc n) xs)
+changed_from-none : (n : ℕ) (xs : List ℕ) → changed_from n (λ i x. x) xs ≡ xs
+changed_from-none n [] = refl
+changed_from-none n (x ∷ xs) = ap (λ (t : List ℕ). x ∷ t) (changed_from-none (suc n) xs)
 
 -- a change that changes no element
 pub changed-none : (xs : List ℕ) → changed (λ i x. x) xs ≡ xs
-changed-none xs = changedFrom-none 0 xs
+changed-none xs = changed_from-none 0 xs
 
 -- a change that keeps every element of the list
-pub changedFrom-alone : (n : ℕ) (f : ℕ → ℕ → ℕ) (xs : List ℕ) → ((i x : ℕ) → n ≤ i → i < n + length xs → f i x ≡ x) → changedFrom n f xs ≡ xs
-changedFrom-alone n f xs h = changedFrom-same n f (λ i x. x) xs h ∙ changedFrom-none n xs
+pub changed_from_alone : (n : ℕ) (f : ℕ → ℕ → ℕ) (xs : List ℕ) → ((i x : ℕ) → n ≤ i → i < n + length xs → f i x ≡ x) → changed_from n f xs ≡ xs
+changed_from_alone n f xs h = changed_from-same n f (λ i x. x) xs h ∙ changed_from-none n xs
 
-changedFrom-then : (n : ℕ) (f g : ℕ → ℕ → ℕ) (xs : List ℕ) → changedFrom n g (changedFrom n f xs) ≡ changedFrom n (λ i x. g i (f i x)) xs
-changedFrom-then n f g [] = refl
-changedFrom-then n f g (x ∷ xs) = ap (λ (t : List ℕ). g n (f n x) ∷ t) (changedFrom-then (suc n) f g xs)
+changed_from_then : (n : ℕ) (f g : ℕ → ℕ → ℕ) (xs : List ℕ) → changed_from n g (changed_from n f xs) ≡ changed_from n (λ i x. g i (f i x)) xs
+changed_from_then n f g [] = refl
+changed_from_then n f g (x ∷ xs) = ap (λ (t : List ℕ). g n (f n x) ∷ t) (changed_from_then (suc n) f g xs)
 
 -- two changes in a row compose element by element
 pub changed_then : (f g : ℕ → ℕ → ℕ) (xs : List ℕ) → changed g (changed f xs) ≡ changed (λ i x. g i (f i x)) xs
-changed_then f g xs = changedFrom-then 0 f g xs
+changed_then f g xs = changed_from_then 0 f g xs
 
 -- shifting the first index by a adds a to each index
-changedFrom-shift : (n a : ℕ) (f : ℕ → ℕ → ℕ) (xs : List ℕ) → changedFrom (a + n) f xs ≡ changedFrom n (λ i x. f (a + i) x) xs
-changedFrom-shift n a f [] = refl
-changedFrom-shift n a f (x ∷ xs) = ap (λ (t : List ℕ). f (a + n) x ∷ t) (rw (← add-suc) (changedFrom-shift (suc n) a f xs))
+changed_from_shift : (n a : ℕ) (f : ℕ → ℕ → ℕ) (xs : List ℕ) → changed_from (a + n) f xs ≡ changed_from n (λ i x. f (a + i) x) xs
+changed_from_shift n a f [] = refl
+changed_from_shift n a f (x ∷ xs) = ap (λ (t : List ℕ). f (a + n) x ∷ t) (rw (← add-suc) (changed_from_shift (suc n) a f xs))
 
 -- a change of the middle part of a list
 module _ (f : ℕ → ℕ → ℕ) (before part after : List ℕ) where
@@ -83,24 +83,24 @@ module _ (f : ℕ → ℕ → ℕ) (before part after : List ℕ) where
   abbrev change : ℕ → ℕ → ℕ
   change = windowed first end f
 
-  before-alone : changed change before ≡ before
-  before-alone = changedFrom-alone 0 change before (λ i x p q. simp (within-before first end i (omega arith)))
+  before_alone : changed change before ≡ before
+  before_alone = changed_from_alone 0 change before (λ i x p q. simp (within-before first end i (omega arith)))
 
-  part_shifted : changedFrom first change part ≡ changed f part
+  part_shifted : changed_from first change part ≡ changed f part
   part_shifted =
-      rw add-zero at (changedFrom-shift 0 first change part)
+      rw add-zero at (changed_from_shift 0 first change part)
       ∙ changed-same (λ i x. change (first + i) x) f part (λ i x h.
       let e : first + i - first ≡ i = omega arith in
       simp (within-inside first end (first + i) (omega arith) (omega arith), e))
 
-  after-alone : changedFrom end change after ≡ after
-  after-alone = changedFrom-alone end change after (λ i x p q. simp (within-past first end i (omega arith)))
+  after_alone : changed_from end change after ≡ after
+  after_alone = changed_from_alone end change after (λ i x p q. simp (within-past first end i (omega arith)))
 
   middle-changed : before ++ (changed f part ++ after) ≡ changed change (before ++ (part ++ after))
   middle-changed =
-      let e : changed change (before ++ (part ++ after)) ≡ changed change before ++ changedFrom first change (part ++ after) =
-      rw zero-add at (changedFrom-append 0 change before (part ++ after)) in
-      sym (e ∙ rw (changedFrom-append first change part after, before-alone, part_shifted, after-alone))
+      let e : changed change (before ++ (part ++ after)) ≡ changed change before ++ changed_from first change (part ++ after) =
+      rw zero-add at (changed_from-append 0 change before (part ++ after)) in
+      sym (e ∙ rw (changed_from-append first change part after, before_alone, part_shifted, after_alone))
 
 -- a slice from a up to e has e - a elements
 pub part_length : (a e : ℕ) (xs : List ℕ) → a ≤ e → e ≤ length xs → length (take (e - a) (drop a xs)) ≡ e - a
@@ -119,15 +119,15 @@ part-borrowed f a e xs part p q h =
 pub record Changing (f : ℕ → ℕ → ℕ) (old xs : List ℕ) (i : ℕ) : Type 0 where
   pub reached : i ≤ length old
   pub same_length : length xs ≡ length old
-  pub remaining : take i xs ++ changedFrom i f (drop i xs) ≡ changed f old
+  pub remaining : take i xs ++ changed_from i f (drop i xs) ≡ changed f old
 
-pub changing-starts : (f : ℕ → ℕ → ℕ) (xs : List ℕ) → Changing f xs xs 0
-changing-starts f xs = record { reached = omega arith; same_length = refl; remaining = refl }
+pub changing_starts : (f : ℕ → ℕ → ℕ) (xs : List ℕ) → Changing f xs xs 0
+changing_starts f xs = record { reached = omega arith; same_length = refl; remaining = refl }
 
 module _ (f : ℕ → ℕ → ℕ) (old xs : List ℕ) (i : ℕ) (c : Changing f old xs i) where
   -- a turn changes element i
-  pub changing-goes : (x : ℕ) → i < length xs → x ≡ f i (get_or xs i 0) → Changing f old (set xs i x) (i + 1)
-  changing-goes x h e =
+  pub changing_goes : (x : ℕ) → i < length xs → x ≡ f i (get_or xs i 0) → Changing f old (set xs i x) (i + 1)
+  changing_goes x h e =
       record {
         reached = omega (arith, c.same_length);
         same_length = length-set xs i x ∙ c.same_length;
@@ -137,23 +137,23 @@ module _ (f : ℕ → ℕ → ℕ) (old xs : List ℕ) (i : ℕ) (c : Changing f
       }
 
   -- at the end all elements are changed
-  pub changing-done : length xs ≤ i → xs ≡ changed f old
-  changing-done h =
+  pub changing_done : length xs ≤ i → xs ≡ changed f old
+  changing_done h =
       let e : i ≡ length xs = omega (arith, c.reached, c.same_length) in
       sym (append-nil xs) ∙ rw (e, take-length xs, drop-length xs) at c.remaining
 
-pub ruleset changing = (changing-starts, changing-goes, changing-done)
+pub ruleset changing = (changing_starts, changing_goes, changing_done)
 
-changedFrom-one : (f : ℕ → ℕ) (k n : ℕ) (xs : List ℕ) → set xs n (f (get_or xs n 0)) ≡ changedFrom k (λ i x. cond (eqb i (k + n)) (f x) x) xs
-changedFrom-one f k n [] = refl
-changedFrom-one f k zero (x ∷ xs) =
-    let e : changedFrom (suc k) (λ i y. cond (eqb i (k + 0)) (f y) y) xs ≡ xs =
-    changedFrom-alone (suc k) _ xs (λ i y p q. simp (ne_eqb i (k + 0) (λ e. omega arith))) in
+changed_from-one : (f : ℕ → ℕ) (k n : ℕ) (xs : List ℕ) → set xs n (f (get_or xs n 0)) ≡ changed_from k (λ i x. cond (eqb i (k + n)) (f x) x) xs
+changed_from-one f k n [] = refl
+changed_from-one f k zero (x ∷ xs) =
+    let e : changed_from (suc k) (λ i y. cond (eqb i (k + 0)) (f y) y) xs ≡ xs =
+    changed_from_alone (suc k) _ xs (λ i y p q. simp (ne_eqb i (k + 0) (λ e. omega arith))) in
     rw (e, eq-eqb k (k + 0) (omega arith))
-changedFrom-one f k (suc n) (x ∷ xs) =
+changed_from-one f k (suc n) (x ∷ xs) =
     let e : k + suc n ≡ suc k + n = omega arith in
-    rw (ne_eqb k (k + suc n) (λ e. omega arith), e) (ap (λ (t : List ℕ). x ∷ t) (changedFrom-one f (suc k) n xs))
+    rw (ne_eqb k (k + suc n) (λ e. omega arith), e) (ap (λ (t : List ℕ). x ∷ t) (changed_from-one f (suc k) n xs))
 
 -- a store to one element; no change if the index is past the end
 pub changed-one : (f : ℕ → ℕ) (n : ℕ) (xs : List ℕ) → set xs n (f (get_or xs n 0)) ≡ changed (λ i x. cond (eqb i n) (f x) x) xs
-changed-one f n xs = rw zero-add at (changedFrom-one f 0 n xs)
+changed-one f n xs = rw zero-add at (changed_from-one f 0 n xs)

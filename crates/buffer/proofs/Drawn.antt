@@ -14,10 +14,10 @@ unfolding drawn
 drawn-length columns d cells = length-changed _ cells
 
 -- cell i, which is in column i % columns and row i / columns, after a drawing
-pub drawn-cell : (columns : ℕ) (d : Drawing) (cells : List ℕ) (i : ℕ) → i < length cells
+pub drawn_cell : (columns : ℕ) (d : Drawing) (cells : List ℕ) (i : ℕ) → i < length cells
     → get_or (drawn columns d cells) i 0 ≡ d (i % columns) (i / columns) (get_or cells i 0)
 unfolding drawn
-drawn-cell columns d cells i h = changed-at (λ i cell. d (i % columns) (i / columns) cell) cells i h
+drawn_cell columns d cells i h = changed-at (λ i cell. d (i % columns) (i / columns) cell) cells i h
 
 -- the cell in a column and a row, after a drawing
 pub drawn-at : (columns : ℕ) (d : Drawing) (cells : List ℕ) (column row : ℕ) → column < columns → row * columns + column < length cells
@@ -28,16 +28,16 @@ drawn-at columns d cells column row h k =
     ∙ simp (digits_div row h, digits_mod row h)
 
 -- two drawings in a row compose cell by cell
-pub drawn-then : (columns : ℕ) (d e : Drawing) (cells : List ℕ)
+pub drawn_then : (columns : ℕ) (d e : Drawing) (cells : List ℕ)
     → drawn columns e (drawn columns d cells) ≡ drawn columns (λ column row cell. e column row (d column row cell)) cells
 unfolding drawn
-drawn-then columns d e cells =
+drawn_then columns d e cells =
     changed_then (λ i cell. d (i % columns) (i / columns) cell) (λ i cell. e (i % columns) (i / columns) cell) cells
 
 -- the same, from the contracts of two calls
-pub drawn-also : (columns : ℕ) (d e : Drawing) (cells next last : List ℕ) → next ≡ drawn columns d cells → last ≡ drawn columns e next
+pub drawn_also : (columns : ℕ) (d e : Drawing) (cells next last : List ℕ) → next ≡ drawn columns d cells → last ≡ drawn columns e next
     → last ≡ drawn columns (λ column row cell. e column row (d column row cell)) cells
-drawn-also columns d e cells next last p q = q ∙ ap (drawn columns e) p ∙ drawn-then columns d e cells
+drawn_also columns d e cells next last p q = q ∙ ap (drawn columns e) p ∙ drawn_then columns d e cells
 
 -- drawings that agree on every column of the screen
 pub drawn-same : (columns : ℕ) (d e : Drawing) (cells : List ℕ) → 0 < columns
@@ -51,13 +51,13 @@ unfolding drawn
 drawn-none columns cells = changed-none cells
 
 -- two drawings commute if for each cell at least one of them keeps it
-pub drawn-commute : (columns : ℕ) (d e : Drawing) (cells : List ℕ) → 0 < columns
+pub drawn_commute : (columns : ℕ) (d e : Drawing) (cells : List ℕ) → 0 < columns
     → ((column row : ℕ) → ((cell : ℕ) → d column row cell ≡ cell) ⊎ ((cell : ℕ) → e column row cell ≡ cell))
     → drawn columns e (drawn columns d cells) ≡ drawn columns d (drawn columns e cells)
-drawn-commute columns d e cells some apart =
-    drawn-then columns d e cells
+drawn_commute columns d e cells some apart =
+    drawn_then columns d e cells
     ∙ drawn-same columns _ _ cells some (λ column row cell _. swap column row cell (apart column row))
-    ∙ sym (drawn-then columns e d cells)
+    ∙ sym (drawn_then columns e d cells)
   where
     swap : (column row cell : ℕ) → ((cell : ℕ) → d column row cell ≡ cell) ⊎ ((cell : ℕ) → e column row cell ≡ cell)
         → e column row (d column row cell) ≡ d column row (e column row cell)

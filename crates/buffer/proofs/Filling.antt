@@ -14,24 +14,24 @@ pub record Filling (old : List ℕ) (cell : ℕ) (new : List ℕ) (i : ℕ) : Ty
   pub same : take i new ≡ replicate i cell
 
 module _ (old : List ℕ) (cell : ℕ) where
-  pub filling-starts : Filling old cell old 0
-  filling-starts = record { within = omega arith; kept = refl; same = refl }
+  pub filling_starts : Filling old cell old 0
+  filling_starts = record { within = omega arith; kept = refl; same = refl }
 
   module _ (new : List ℕ) (i : ℕ) (f : Filling old cell new i) where
-    pub filling-length : length new ≡ length old
-    filling-length = f.kept
+    pub filling_length : length new ≡ length old
+    filling_length = f.kept
 
-    pub filling-goes : i < length new → Filling old cell (set new i cell) (i + 1)
-    filling-goes h =
+    pub filling_goes : i < length new → Filling old cell (set new i cell) (i + 1)
+    filling_goes h =
         record {
           within = omega (arith, f.kept);
           kept = length-set new i cell ∙ f.kept;
           same = rw (add-one i, take-suc-set new i cell h, f.same) (replicate-append-replicate i 1 cell ∙ rw (add-one i) refl);
         }
 
-    pub filling-ends : length new ≤ i → new ≡ replicate (length old) cell
-    filling-ends h =
+    pub filling_ends : length new ≤ i → new ≡ replicate (length old) cell
+    filling_ends h =
         let e : i ≡ length old = omega (arith, f.within, f.kept) in
         sym (take-length new) ∙ ap (λ (n : ℕ). take n new) (f.kept ∙ sym e) ∙ f.same ∙ ap (λ (n : ℕ). replicate n cell) e
 
-pub ruleset filling = (filling-starts, filling-length, filling-goes, filling-ends)
+pub ruleset filling = (filling_starts, filling_length, filling_goes, filling_ends)

@@ -13,17 +13,17 @@ use lib.Dec.{eqb}
 use lib.ListN.{length}
 use Rattle.num.specs.Held.{held}
 use Rattle.layout.specs.declared.Rect.{Rect}
-use Rattle.layout.specs.Rect.{rightOf, bottomOf, is_empty, within, contains}
+use Rattle.layout.specs.Rect.{right_of, bottom_of, is_empty, within, contains}
 use Rattle.buffer.specs.declared.Screen.{Screen}
 use Rattle.buffer.specs.Drawing.{Drawing, drawn, over, inside, sparing}
-use Rattle.buffer.specs.PartsExtra.{in_row, inRows, OnScreen}
+use Rattle.buffer.specs.PartsExtra.{in_row, in_rows, OnScreen}
 use Rattle.buffer.proofs.Within.{within-inside, within-before, within-past}
-use Rattle.buffer.proofs.Drawn.{drawn-commute}
+use Rattle.buffer.proofs.Drawn.{drawn_commute}
 use Rattle.buffer.proofs.Rows.{DrawingRows, rows_start, rows-done, row_fits}
 
 -- the same change on all rows of a rectangle is a change of the rectangle
-pub rows-over : (r : Rect) (f : ℕ → ℕ) → inRows r.x (rightOf r) r.y (bottomOf r) (λ j i cell. f cell) ≡ over r f
-unfolding inRows over
+pub rows-over : (r : Rect) (f : ℕ → ℕ) → in_rows r.x (right_of r) r.y (bottom_of r) (λ j i cell. f cell) ≡ over r f
+unfolding in_rows over
 rows-over r f = refl
 
 -- the only row of a rectangle of height 1
@@ -37,14 +37,14 @@ one-row y row =
     (λ q. rw (within-past y (y + 1) row (omega (arith, n, q)), ne_eqb row y n)))
 
 pub row_inside : (r : Rect) (f : ℕ → ℕ → ℕ) (column row cell : ℕ) → r.height ≡ 1 → r.y < 65535
-    → in_row r.x (rightOf r) r.y f column row cell ≡ inside r (λ column row. f column) column row cell
+    → in_row r.x (right_of r) r.y f column row cell ≡ inside r (λ column row. f column) column row cell
 unfolding in_row inside
 row_inside r f column row cell high low =
-    let b : bottomOf r ≡ r.y + 1 = omega arith in
+    let b : bottom_of r ≡ r.y + 1 = omega arith in
     rw (b, one-row r.y row)
 
 -- a loop over the rows of a rectangle within the screen; right and bottom are read before the loop
-module _ (s : Screen) (r : Rect) (right bottom : ℕ) (right_is : right ≡ rightOf r) (bottom-is : bottom ≡ bottomOf r) where
+module _ (s : Screen) (r : Rect) (right bottom : ℕ) (right_is : right ≡ right_of r) (bottom-is : bottom ≡ bottom_of r) where
   -- the invariant holds at the first row
   pub area-starts : (f : ℕ → ℕ → ℕ → ℕ) (cells : List ℕ) → OnScreen s (length cells) r → Fits w16 r.y
       → DrawingRows s.columns r.x right r.y bottom f cells cells r.y
@@ -104,11 +104,11 @@ module _ (r : Rect) (d : Drawing) (column row cell : ℕ) where
   sparing-outside h = rw h
 
 -- a drawing that keeps every cell outside a rectangle commutes with one that keeps every cell inside
-pub sparing-commute : (columns : ℕ) (r : Rect) (d e : Drawing) (cells : List ℕ) → 0 < columns
+pub sparing_commute : (columns : ℕ) (r : Rect) (d e : Drawing) (cells : List ℕ) → 0 < columns
     → ((column row cell : ℕ) → contains r column row ≡ false → e column row cell ≡ cell)
     → drawn columns (sparing r d) (drawn columns e cells) ≡ drawn columns e (drawn columns (sparing r d) cells)
-sparing-commute columns r d e cells some alone =
-    drawn-commute columns e (sparing r d) cells some (λ column row. apart column row (contains r column row) refl)
+sparing_commute columns r d e cells some alone =
+    drawn_commute columns e (sparing r d) cells some (λ column row. apart column row (contains r column row) refl)
   where
     apart : (column row : ℕ) (b : Bool) → contains r column row ≡ b
         → ((cell : ℕ) → e column row cell ≡ cell) ⊎ ((cell : ℕ) → sparing r d column row cell ≡ cell)

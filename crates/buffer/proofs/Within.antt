@@ -18,27 +18,27 @@ within-before first end n h = simp (lt-leb first n h)
 pub within-past : (first end n : ℕ) → end ≤ n → within first end n ≡ false
 within-past first end n h = simp (le-ltb n end h, and-false)
 
-leb-shift : (a m n : ℕ) → leb (a + m) (a + n) ≡ leb m n
-leb-shift a m n =
+leb_shift : (a m n : ℕ) → leb (a + m) (a + n) ≡ leb m n
+leb_shift a m n =
     dite (dec_le m n)
     (λ h. simp (le-leb m n h, le-leb (a + m) (a + n) (omega (arith, h))))
     (λ h. simp (lt-leb m n (omega (arith, h)), lt-leb (a + m) (a + n) (omega (arith, h))))
 
 -- adding the same number to all three changes nothing
-pub within-shift : (a first end n : ℕ) → within (a + first) (a + end) (a + n) ≡ within first end n
-within-shift a first end n =
+pub within_shift : (a first end n : ℕ) → within (a + first) (a + end) (a + n) ≡ within first end n
+within_shift a first end n =
     let e : suc (a + n) ≡ a + suc n = omega arith in
-    rw (e, leb-shift a first n, leb-shift a (suc n) end)
+    rw (e, leb_shift a first n, leb_shift a (suc n) end)
 
 -- a cell inside a range of columns and a range of rows
-pub cell-inside : (left right y bottom column row : ℕ) → left ≤ column → column < right → y ≤ row → row < bottom
+pub cell_inside : (left right y bottom column row : ℕ) → left ≤ column → column < right → y ≤ row → row < bottom
     → (within left right column && within y bottom row) ≡ true
-cell-inside left right y bottom column row p q s t = simp (within-inside left right column p q, within-inside y bottom row s t)
+cell_inside left right y bottom column row p q s t = simp (within-inside left right column p q, within-inside y bottom row s t)
 
 -- a cell outside one of them
-pub cell-outside : (left right y bottom column row : ℕ) → (column < left) ⊎ (right ≤ column) ⊎ (row < y) ⊎ (bottom ≤ row)
+pub cell_outside : (left right y bottom column row : ℕ) → (column < left) ⊎ (right ≤ column) ⊎ (row < y) ⊎ (bottom ≤ row)
     → (within left right column && within y bottom row) ≡ false
-cell-outside left right y bottom column row (inl p) = simp (within-before left right column p)
-cell-outside left right y bottom column row (inr (inl p)) = simp (within-past left right column p)
-cell-outside left right y bottom column row (inr (inr (inl p))) = simp (within-before y bottom row p, and-false)
-cell-outside left right y bottom column row (inr (inr (inr p))) = simp (within-past y bottom row p, and-false)
+cell_outside left right y bottom column row (inl p) = simp (within-before left right column p)
+cell_outside left right y bottom column row (inr (inl p)) = simp (within-past left right column p)
+cell_outside left right y bottom column row (inr (inr (inl p))) = simp (within-before y bottom row p, and-false)
+cell_outside left right y bottom column row (inr (inr (inr p))) = simp (within-past y bottom row p, and-false)

@@ -9,12 +9,12 @@ abbrev pub Drawing : Type 0
 Drawing = ℕ → ℕ → ℕ → ℕ
 
 -- each element of a list changed by a function of its index and value; indices start at the number given
-abbrev pub changedFrom : ℕ → (ℕ → ℕ → ℕ) → List ℕ → List ℕ
-changedFrom n f [] = []
-changedFrom n f (x ∷ xs) = f n x ∷ changedFrom (suc n) f xs
+abbrev pub changed_from : ℕ → (ℕ → ℕ → ℕ) → List ℕ → List ℕ
+changed_from n f [] = []
+changed_from n f (x ∷ xs) = f n x ∷ changed_from (suc n) f xs
 
 abbrev pub changed : (ℕ → ℕ → ℕ) → List ℕ → List ℕ
-changed f xs = changedFrom 0 f xs
+changed f xs = changed_from 0 f xs
 
 -- the cells of a screen after a drawing; cells are stored row by row, so that cell i is in column i % columns and row i / columns
 unfoldable pub drawn : ℕ → Drawing → List ℕ → List ℕ
@@ -37,14 +37,14 @@ abbrev pub only_if : Bool → Drawing → Drawing
 only_if test d column row cell = cond test (d column row cell) cell
 
 -- drawings one after another
-abbrev pub inOrder : List Drawing → Drawing
-inOrder [] column row cell = cell
-inOrder (d ∷ ds) column row cell = inOrder ds column row (d column row cell)
+abbrev pub in_order : List Drawing → Drawing
+in_order [] column row cell = cell
+in_order (d ∷ ds) column row cell = in_order ds column row (d column row cell)
 
 -- the rectangle of all cells of a screen
-abbrev pub areaOf : Screen → Rect
-areaOf s = record { x = 0; y = 0; width = s.columns; height = s.rows }
+abbrev pub area_of : Screen → Rect
+area_of s = record { x = 0; y = 0; width = s.columns; height = s.rows }
 
 -- the style with a number: its index in the caller's list of styles
-abbrev pub styleAt : List ℕ → ℕ → ℕ
-styleAt styles number = get_or styles number 0
+abbrev pub style_at : List ℕ → ℕ → ℕ
+style_at styles number = get_or styles number 0

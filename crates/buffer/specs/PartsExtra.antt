@@ -2,7 +2,7 @@
 -- functions that draw.
 use Rattle.std.specs.Prelude.{ℕ, ◌-◌, ◌*◌, ◌<◌, ◌≤◌, ◌^◌, cond, ◌&&◌, eqb}
 use Rattle.layout.specs.declared.Rect.{Rect}
-use Rattle.layout.specs.Rect.{rightOf, bottomOf, within}
+use Rattle.layout.specs.Rect.{right_of, bottom_of, within}
 use Rattle.buffer.specs.declared.Screen.{Screen}
 use Rattle.buffer.specs.Drawing.{Drawing}
 
@@ -15,16 +15,16 @@ unfoldable pub in_row : ℕ → ℕ → ℕ → (ℕ → ℕ → ℕ) → Drawin
 in_row left right y f column row cell = cond (within left right column && eqb row y) (f (column - left) cell) cell
 
 -- a change of the cells in rows y up to bottom, columns left up to right; `f j i` changes the cell at row y + j, column left + i
-unfoldable pub inRows : ℕ → ℕ → ℕ → ℕ → (ℕ → ℕ → ℕ → ℕ) → Drawing
-inRows left right y bottom f column row cell =
+unfoldable pub in_rows : ℕ → ℕ → ℕ → ℕ → (ℕ → ℕ → ℕ → ℕ) → Drawing
+in_rows left right y bottom f column row cell =
     cond (within left right column && within y bottom row) (f (row - y) (column - left) cell) cell
 
 -- a rectangle that is within a screen, given the number of its cells
 pub record OnScreen (s : Screen) (cells : ℕ) (r : Rect) : Type 0 where
   pub columns : 0 < s.columns
   pub size : s.rows * s.columns ≤ cells
-  pub right : rightOf r ≤ s.columns
-  pub bottom : bottomOf r ≤ s.rows
+  pub right : right_of r ≤ s.columns
+  pub bottom : bottom_of r ≤ s.rows
 
 -- a screen with cells, its columns and rows few enough that no sum saturates: cause 1 refuses more than 512 and 256
 pub record HasCells (s : Screen) (cells : ℕ) : Type 0 where
@@ -35,6 +35,6 @@ pub record HasCells (s : Screen) (cells : ℕ) : Type 0 where
 
 -- an area within a screen that is small enough that no sum saturates
 pub record AreaOnScreen (s : Screen) (cells : ℕ) (r : Rect) : Type 0 where
-  pub on-screen : OnScreen s cells r
+  pub on_screen : OnScreen s cells r
   pub few-columns : s.columns < 2 ^ 15
   pub few-rows : s.rows < 2 ^ 15

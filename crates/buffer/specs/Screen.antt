@@ -3,5 +3,5 @@ use Rattle.std.specs.Prelude.{ℕ}
 use Rattle.buffer.specs.declared.Screen.{Screen}
 
 -- the screen of this size
-abbrev pub screenOf : ℕ → ℕ → Screen
-screenOf columns rows = record { columns = columns; rows = rows }
+abbrev pub screen_of : ℕ → ℕ → Screen
+screen_of columns rows = record { columns = columns; rows = rows }

@@ -1,6 +1,6 @@
 // The cells of a screen; applying a style or a symbol to the cells of a rectangle (`Buffer` of ratatui-core).
 ghost use Rattle.std.specs.Prelude.{◌≡◌, ◌+◌, ◌*◌, ◌<◌, ◌≤◌, length};
-ghost use Rattle.buffer.specs.Drawing.{changed, drawn, over, areaOf, styleAt};
+ghost use Rattle.buffer.specs.Drawing.{changed, drawn, over, area_of, style_at};
 ghost use Rattle.buffer.specs.InkExtra.{inked, SymbolFits};
 ghost use Rattle.buffer.specs.PartsExtra.{in_row, OnScreen};
 
@@ -26,7 +26,7 @@ pub enum Ink {
 impl Screen {
     // Returns the rectangle of all cells.
     pub fn area(self) -> Rect
-        ensures { result ≡ areaOf self }
+        ensures { result ≡ area_of self }
     {
         Rect {
             x: 0,
@@ -91,7 +91,7 @@ pub fn paint_area(screen: Screen, cells: &mut [u64], area: Rect, ink: Ink)
 
 // Returns the style with a number, or 0 if there is none.
 pub fn style_at(styles: &[u64], number: u8) -> u64
-    ensures { result ≡ styleAt styles.now number }
+    ensures { result ≡ style_at styles.now number }
 {
     let i = number as usize;
     if i < styles.len() {

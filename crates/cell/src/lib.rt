@@ -1,7 +1,7 @@
 // Cell, 64 bits: symbol 21 | foreground 8 | background 8 | modifiers 9 | 18 bits never touched.
 ghost use Rattle.std.specs.Prelude.{◌≡◌, cond, ◌-◌, ◌<◌, ◌^◌};
 ghost use Rattle.std.specs.Int.Bits.{bit_and, bit_or};
-ghost use Rattle.cell.specs.Cell.{Cell, cellFrom, cellPacked, blankCell, withSymbol, withUntouched, appearanceOf, styled};
+ghost use Rattle.cell.specs.Cell.{Cell, cell_from, cell_packed, blank_cell, with_symbol, with_untouched, appearance_of, styled};
 
 use style::{COLOURS, MODIFIERS};
 
@@ -21,38 +21,38 @@ const MODIFIERS_PLACE: u64 = 1 << 18;
 const ALL_MODIFIERS: u64 = MODIFIERS - 1;
 
 pub fn symbol(cell: u64) -> u64
-    ensures { result ≡ (cellFrom cell).symbol }
+    ensures { result ≡ (cell_from cell).symbol }
 {
     cell / SYMBOL_PLACE
 }
 
 pub fn foreground(cell: u64) -> u64
-    ensures { result ≡ (cellFrom cell).foreground }
+    ensures { result ≡ (cell_from cell).foreground }
 {
     cell / FOREGROUND_PLACE % COLOURS
 }
 
 pub fn background(cell: u64) -> u64
-    ensures { result ≡ (cellFrom cell).background }
+    ensures { result ≡ (cell_from cell).background }
 {
     cell / BACKGROUND_PLACE % COLOURS
 }
 
 pub fn modifiers(cell: u64) -> u64
-    ensures { result ≡ (cellFrom cell).modifiers }
+    ensures { result ≡ (cell_from cell).modifiers }
 {
     cell / MODIFIERS_PLACE % MODIFIERS
 }
 
 pub fn untouched(cell: u64) -> u64
-    ensures { result ≡ (cellFrom cell).untouched }
+    ensures { result ≡ (cell_from cell).untouched }
 {
     cell % MODIFIERS_PLACE
 }
 
 // Returns a cell with the blank symbol, other fields 0.
 pub fn blank() -> u64
-    ensures { result ≡ blankCell }
+    ensures { result ≡ blank_cell }
 {
     BLANK_SYMBOL * SYMBOL_PLACE
 }
@@ -60,7 +60,7 @@ pub fn blank() -> u64
 // Replaces the cell's symbol (`Cell::set_symbol`). A glyph's symbol has 21 bits; cause 7 refuses larger ones in settings.
 pub fn set_symbol(symbol: u64, cell: u64) -> u64
     requires { symbol < 2 ^ 21 }
-    ensures { result ≡ withSymbol symbol cell }
+    ensures { result ≡ with_symbol symbol cell }
 {
     symbol * SYMBOL_PLACE + cell % SYMBOL_PLACE
 }
@@ -68,14 +68,14 @@ pub fn set_symbol(symbol: u64, cell: u64) -> u64
 // Replaces the bits that drawing never touches; they are free for the caller's use.
 pub fn set_untouched(untouched: u64, cell: u64) -> u64
     requires { untouched < 2 ^ 18 }
-    ensures { result ≡ withUntouched untouched cell }
+    ensures { result ≡ with_untouched untouched cell }
 {
     cell / MODIFIERS_PLACE * MODIFIERS_PLACE + untouched
 }
 
 // Returns only the colours and modifiers of a cell: symbol and untouched bits are 0.
 pub fn appearance(cell: u64) -> u64
-    ensures { result ≡ appearanceOf cell }
+    ensures { result ≡ appearance_of cell }
 {
     cell % SYMBOL_PLACE / MODIFIERS_PLACE * MODIFIERS_PLACE
 }
@@ -99,7 +99,7 @@ fn modified(found: u64, add: u64, remove: u64) -> u64
 // Packs these fields into a cell.
 pub fn pack(symbol: u64, foreground: u64, background: u64, modifiers: u64, untouched: u64) -> u64
     requires { (symbol < 2 ^ 21) × (foreground < 2 ^ 8) × (background < 2 ^ 8) × (modifiers < 2 ^ 9) × (untouched < 2 ^ 18) }
-    ensures { result ≡ cellPacked (record {
+    ensures { result ≡ cell_packed (record {
       symbol = symbol;
       foreground = foreground;
       background = background;

@@ -1,16 +1,16 @@
 // Checks of a block and its titles: cause 6, and causes 5 and 7 for calls without styles.
 ghost use Rattle.std.specs.Prelude.{◌≡◌};
-ghost use Rattle.refuse.specs.Refusal.{firstCause};
-ghost use Rattle.refuse.specs.Causes.{styleNumbersWrong};
-ghost use Rattle.check_block.specs.Causes.{frameCauses};
-ghost use Rattle.check_block.specs.Styles.{frameStyles};
+ghost use Rattle.refuse.specs.Refusal.{first_cause};
+ghost use Rattle.refuse.specs.Causes.{style_numbers_wrong};
+ghost use Rattle.check_block.specs.Causes.{frame_causes};
+ghost use Rattle.check_block.specs.Styles.{frame_styles};
 
 use block::Block;
 use refuse::{Ceilings, Refusal, Verdict};
 
 // Whether a style number of the block or of a title's glyph is not below the count of styles (cause 6).
 pub fn style_numbers_wrong(count: usize, titles: &[u32], block: Block) -> bool
-    ensures { result ≡ styleNumbersWrong count (frameStyles block titles.now) }
+    ensures { result ≡ style_numbers_wrong count (frame_styles block titles.now) }
 {
     if block.style_numbers_wrong(count) {
         return true;
@@ -20,7 +20,7 @@ pub fn style_numbers_wrong(count: usize, titles: &[u32], block: Block) -> bool
 
 // Returns the verdict of causes 5 and 7, lowest first.
 pub fn frame_verdict(most: Ceilings, titles: &[u32], block: Block) -> Verdict
-    ensures { result ≡ firstCause (frameCauses most titles.now block) }
+    ensures { result ≡ first_cause (frame_causes most titles.now block) }
 {
     if check_records::titles_wrong(most, titles) {
         return Verdict::Refused(Refusal::Titles);

@@ -1,10 +1,10 @@
 // Checks of the records of a text and of titles: causes 3, 4, 5, cause 6 for glyphs, and the verdicts of calls with a text.
 ghost use Rattle.std.specs.Prelude.{◌≡◌};
-ghost use Rattle.text.specs.Line.{notOpening, Opens};
+ghost use Rattle.text.specs.Line.{not_opening, Opens};
 ghost use Rattle.text.specs.Lists.{count_of};
-ghost use Rattle.refuse.specs.Refusal.{firstCause};
-ghost use Rattle.refuse.specs.Causes.{textTooLong, textHeadWrong, textHeadsWrong, textCauses, lineCauses, titlesWrong, styleNumbersWrong, glyphStyles};
-ghost use Rattle.refuse.specs.ScanExtra.{titleWrong, scanWrong, glyphNoStyle};
+ghost use Rattle.refuse.specs.Refusal.{first_cause};
+ghost use Rattle.refuse.specs.Causes.{text_too_long, text_head_wrong, text_heads_wrong, text_causes, line_causes, titles_wrong, style_numbers_wrong, glyph_styles};
+ghost use Rattle.refuse.specs.ScanExtra.{title_wrong, scan_wrong, glyph_no_style};
 
 use check_settings::limits;
 use refuse::{Ceilings, Refusal, Verdict};
@@ -12,14 +12,14 @@ use text::{glyph, head, line};
 
 // Cause 3: whether a text has too many records.
 pub fn text_too_long(most: Ceilings, text: &[u32]) -> bool
-    ensures { result ≡ textTooLong most text.now }
+    ensures { result ≡ text_too_long most text.now }
 {
     most.records < text.len()
 }
 
 // Whether the first record, if any, isn't a head.
 fn opens_without_head(records: &[u32]) -> bool
-    ensures { result ≡ notOpening records.now }
+    ensures { result ≡ not_opening records.now }
 {
     if records.len() == 0 {
         return false;
@@ -29,7 +29,7 @@ fn opens_without_head(records: &[u32]) -> bool
 
 // Cause 4 for one record: whether it is a head whose zeros or position aren't 0.
 fn head_wrong(word: u32) -> bool
-    ensures { result ≡ textHeadWrong word }
+    ensures { result ≡ text_head_wrong word }
 {
     if head::is_head(word) {
         return head::zeros(word) != 0 || head::position(word) != 0;
@@ -39,7 +39,7 @@ fn head_wrong(word: u32) -> bool
 
 // Counts the wrong heads of a text. It doesn't stop at the first: so the compiler can take several records at a time.
 fn wrong_heads(text: &[u32]) -> usize
-    ensures { result ≡ count_of textHeadWrong text.now }
+    ensures { result ≡ count_of text_head_wrong text.now }
 {
     let mut count = 0;
     let mut i = 0;
@@ -54,7 +54,7 @@ fn wrong_heads(text: &[u32]) -> usize
 
 // Cause 4: whether a non-empty text doesn't open with a head, or a head's zeros or position aren't 0.
 pub fn text_heads_wrong(text: &[u32]) -> bool
-    ensures { result ≡ textHeadsWrong text.now }
+    ensures { result ≡ text_heads_wrong text.now }
 {
     if opens_without_head(text) {
         return true;
@@ -64,7 +64,7 @@ pub fn text_heads_wrong(text: &[u32]) -> bool
 
 // Returns the verdict of causes 3 and 4, for calls with a text.
 pub fn text_verdict(most: Ceilings, text: &[u32]) -> Verdict
-    ensures { result ≡ firstCause (textCauses most text.now) }
+    ensures { result ≡ first_cause (text_causes most text.now) }
 {
     if text_too_long(most, text) {
         return Verdict::Refused(Refusal::TextLength);
@@ -77,7 +77,7 @@ pub fn text_verdict(most: Ceilings, text: &[u32]) -> Verdict
 
 // Returns the verdict of causes 3, 4 and 8, for calls that compose the lines of a text at a limit.
 pub fn line_verdict(most: Ceilings, text: &[u32], limit: u16) -> Verdict
-    ensures { result ≡ firstCause (lineCauses most text.now limit) }
+    ensures { result ≡ first_cause (line_causes most text.now limit) }
 {
     if let Verdict::Refused(why) = text_verdict(most, text) {
         return Verdict::Refused(why);
@@ -90,7 +90,7 @@ pub fn line_verdict(most: Ceilings, text: &[u32], limit: u16) -> Verdict
 
 // Cause 5 for one title: whether it has too many glyphs, position 3, or zeros that aren't 0.
 fn title_wrong(most: Ceilings, head: u32, glyphs: usize) -> bool
-    ensures { result ≡ titleWrong most head glyphs }
+    ensures { result ≡ title_wrong most head glyphs }
 {
     if most.title_glyphs < glyphs {
         return true;
@@ -101,7 +101,7 @@ fn title_wrong(most: Ceilings, head: u32, glyphs: usize) -> bool
 // Cause 5 for titles that open with a head: whether there are too many, or one is wrong.
 fn any_title_wrong(most: Ceilings, titles: &[u32]) -> bool
     requires { Opens titles.now }
-    ensures { result ≡ scanWrong most titles.now }
+    ensures { result ≡ scan_wrong most titles.now }
 {
     let most_titles = most.titles;
     let mut count: usize = 0;
@@ -123,7 +123,7 @@ fn any_title_wrong(most: Ceilings, titles: &[u32]) -> bool
 
 // Cause 5: whether non-empty titles don't open with a head, there are too many, or one is wrong.
 pub fn titles_wrong(most: Ceilings, titles: &[u32]) -> bool
-    ensures { result ≡ titlesWrong most titles.now }
+    ensures { result ≡ titles_wrong most titles.now }
 {
     if opens_without_head(titles) {
         return true;
@@ -133,7 +133,7 @@ pub fn titles_wrong(most: Ceilings, titles: &[u32]) -> bool
 
 // Cause 6 for one record: whether it is a glyph whose style number isn't below the count of styles.
 fn glyph_has_no_style(count: usize, word: u32) -> bool
-    ensures { result ≡ glyphNoStyle count word }
+    ensures { result ≡ glyph_no_style count word }
 {
     if head::is_head(word) {
         return false;
@@ -143,7 +143,7 @@ fn glyph_has_no_style(count: usize, word: u32) -> bool
 
 // Counts the glyphs whose style number isn't below the count of styles; like `wrong_heads`, it doesn't stop at the first.
 fn glyphs_without_style(count: usize, records: &[u32]) -> usize
-    ensures { result ≡ count_of (glyphNoStyle count) records.now }
+    ensures { result ≡ count_of (glyph_no_style count) records.now }
 {
     let mut wrong = 0;
     let mut i = 0;
@@ -158,7 +158,7 @@ fn glyphs_without_style(count: usize, records: &[u32]) -> usize
 
 // Cause 6 for a text or for titles: whether a glyph's style number isn't below the count of styles.
 pub fn glyph_styles_wrong(count: usize, records: &[u32]) -> bool
-    ensures { result ≡ styleNumbersWrong count (glyphStyles records.now) }
+    ensures { result ≡ style_numbers_wrong count (glyph_styles records.now) }
 {
     0 < glyphs_without_style(count, records)
 }

@@ -4,22 +4,22 @@ use mathlib.Core.Path.{◌≡◌}
 use mathlib.Core.Bool.{false}
 use native.Mathlib.Nat.{mul_comm}
 use native.Mathlib.Omega.{arith}
-use Rattle.refuse.specs.Causes.{mostAccepted, screenWrong}
+use Rattle.refuse.specs.Causes.{most_accepted, screen_wrong}
 use Rattle.refuse.proofs.Accepted.{ScreenAccepted, sized}
-use Rattle.buffer.specs.Screen.{screenOf}
+use Rattle.buffer.specs.Screen.{screen_of}
 use Rattle.buffer.specs.PartsExtra.{HasCells}
 
-module _ (columns rows cells : ℕ) (e : screenWrong mostAccepted columns rows cells ≡ false) where
-  accepted : ScreenAccepted mostAccepted columns rows cells
-  accepted = sized mostAccepted columns rows cells e
+module _ (columns rows cells : ℕ) (e : screen_wrong most_accepted columns rows cells ≡ false) where
+  accepted : ScreenAccepted most_accepted columns rows cells
+  accepted = sized most_accepted columns rows cells e
 
-  pub columns-fit : columns < 2 ^ 16
-  columns-fit = omega (arith, accepted.most-columns)
+  pub columns_fit : columns < 2 ^ 16
+  columns_fit = omega (arith, accepted.most-columns)
 
   pub rows_fit : rows < 2 ^ 16
   rows_fit = omega (arith, accepted.most-rows)
 
-  pub has_cells : HasCells (screenOf columns rows) cells
+  pub has_cells : HasCells (screen_of columns rows) cells
   has_cells =
       record {
         columns = accepted.some-columns;

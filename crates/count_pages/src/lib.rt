@@ -2,9 +2,9 @@
 // given, it first takes the intersection of area and screen, as drawing does: paging by its height skips no line.
 ghost use Rattle.std.specs.Prelude.{◌≡◌, ◌<◌, ◌^◌, length};
 ghost use Rattle.text.specs.Line.{Opens, FewRecords};
-ghost use Rattle.paragraph.specs.Notice.{settingsOf, noticeLines};
+ghost use Rattle.paragraph.specs.Notice.{settings_of, notice_lines};
 ghost use Rattle.draw_notice.specs.Call.{call_of};
-ghost use Rattle.pages.specs.Pages.{pageCount};
+ghost use Rattle.pages.specs.Pages.{page_count};
 ghost use Rattle.count_pages.specs.Call.{answer_of};
 
 use buffer::Screen;
@@ -34,7 +34,7 @@ pub enum PagesAnswer {
 // Counts the composed lines of a notice at a width above 0, at which each text line gives one line if unwrapped.
 fn count_at(notice: Notice, width: u16, text: &[u32]) -> usize
     requires { FewRecords text.now × Opens text.now × (0 < width) }
-    ensures { result ≡ length (noticeLines (settingsOf notice) text.now width) }
+    ensures { result ≡ length (notice_lines (settings_of notice) text.now width) }
 {
     let alignment = notice.alignment;
     let wrap = notice.wrap;
@@ -53,7 +53,7 @@ fn count_at(notice: Notice, width: u16, text: &[u32]) -> usize
 // Returns the number of pages that lines make at a height above 0, rounded up.
 fn page_count(lines: u32, height: u16) -> u32
     requires { (lines < 2 ^ 16) × (0 < height) }
-    ensures { result ≡ pageCount lines height }
+    ensures { result ≡ page_count lines height }
 {
     (lines + (height as u32 - 1)) / height as u32
 }

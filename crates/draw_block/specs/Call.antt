@@ -4,17 +4,17 @@ use Rattle.std.specs.Prelude.{ℕ, List, [], ◌∷◌, ◌++◌, length}
 use Rattle.text.specs.declared.AmbiguousWidth.{AmbiguousWidth}
 use Rattle.layout.specs.declared.Rect.{Rect}
 use Rattle.buffer.specs.Drawing.{Drawing, drawn}
-use Rattle.buffer.specs.Screen.{screenOf}
+use Rattle.buffer.specs.Screen.{screen_of}
 use Rattle.refuse.specs.declared.Ceilings.{Ceilings}
 use Rattle.refuse.specs.declared.Refusal.TheVariants.{Titles, StyleNumber, Symbol}
 use Rattle.refuse.specs.declared.Verdict.{Verdict}
 use Rattle.refuse.specs.declared.Verdict.TheVariants.{Accepted, Refused as RefusedFor}
-use Rattle.refuse.specs.Refusal.{Cause, ◌if◌, firstCause, refusalNumber, unlessRefused}
-use Rattle.refuse.specs.Causes.{mostAccepted, screenCauses, titlesWrong, styleNumbersWrong, symbolsWrong}
+use Rattle.refuse.specs.Refusal.{Cause, ◌if◌, first_cause, refusal_number, unless_refused}
+use Rattle.refuse.specs.Causes.{most_accepted, screen_causes, titles_wrong, style_numbers_wrong, symbols_wrong}
 use Rattle.block.specs.declared.Block.{Block}
-use Rattle.block.specs.Causes.{blockSymbols}
-use Rattle.check_block.specs.Styles.{frameStyles}
-use Rattle.titles.specs.Titles.{titlesFrom}
+use Rattle.block.specs.Causes.{block_symbols}
+use Rattle.check_block.specs.Styles.{frame_styles}
+use Rattle.titles.specs.Titles.{titles_from}
 use Rattle.render_block.specs.Frame.{block_of}
 use Rattle.draw_block.specs.declared.BlockAnswer.{BlockAnswer}
 use Rattle.draw_block.specs.declared.BlockAnswer.TheVariants.{Done, Refused}
@@ -44,16 +44,16 @@ call_of columns rows cells styles titles ambiguous area block =
     }
 
 -- causes: 1, 2, 5, 6, 7
-unfoldable pub causesOf : Ceilings → Call → List Cause
-causesOf most call =
-    screenCauses most call.columns call.rows (length call.cells) call.styles
-    ++ (Titles if titlesWrong most call.titles
-    ∷ StyleNumber if styleNumbersWrong (length call.styles) (frameStyles call.block call.titles)
-    ∷ Symbol if symbolsWrong (blockSymbols call.block)
+unfoldable pub causes_of : Ceilings → Call → List Cause
+causes_of most call =
+    screen_causes most call.columns call.rows (length call.cells) call.styles
+    ++ (Titles if titles_wrong most call.titles
+    ∷ StyleNumber if style_numbers_wrong (length call.styles) (frame_styles call.block call.titles)
+    ∷ Symbol if symbols_wrong (block_symbols call.block)
     ∷ [])
 
-unfoldable pub verdictOf : Call → Verdict
-verdictOf call = firstCause (causesOf mostAccepted call)
+unfoldable pub verdict_of : Call → Verdict
+verdict_of call = first_cause (causes_of most_accepted call)
 
 -- answer: drawn, even if on no cell, or the cause of refusal
 abbrev pub framed : Verdict → BlockAnswer
@@ -61,17 +61,17 @@ framed Accepted = Done
 framed (RefusedFor why) = Refused why
 
 unfoldable pub answer_of : Call → BlockAnswer
-answer_of call = framed (verdictOf call)
+answer_of call = framed (verdict_of call)
 
 -- number of an answer, 0 if the block is drawn
-abbrev pub blockAnswerNumber : BlockAnswer → ℕ
-blockAnswerNumber Done = 0
-blockAnswerNumber (Refused why) = refusalNumber why
+abbrev pub block_answer_number : BlockAnswer → ℕ
+block_answer_number Done = 0
+block_answer_number (Refused why) = refusal_number why
 
 -- cells after the call: the block drawn on them; if the call is refused, "all cells" left
-unfoldable pub drawingOf : Call → Drawing
-drawingOf call =
-    block_of call.styles (screenOf call.columns call.rows) (titlesFrom call.ambiguous call.titles) call.block call.area
+unfoldable pub drawing_of : Call → Drawing
+drawing_of call =
+    block_of call.styles (screen_of call.columns call.rows) (titles_from call.ambiguous call.titles) call.block call.area
 
-unfoldable pub cellsAfter : Call → List ℕ
-cellsAfter call = unlessRefused (verdictOf call) (drawn call.columns (drawingOf call) call.cells) call.cells
+unfoldable pub cells_after : Call → List ℕ
+cells_after call = unless_refused (verdict_of call) (drawn call.columns (drawing_of call) call.cells) call.cells

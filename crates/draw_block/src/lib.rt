@@ -1,6 +1,6 @@
 // The call `draw_block`.
 ghost use Rattle.std.specs.Prelude.{◌≡◌};
-ghost use Rattle.draw_block.specs.Call.{call_of, verdictOf, answer_of, cellsAfter};
+ghost use Rattle.draw_block.specs.Call.{call_of, verdict_of, answer_of, cells_after};
 
 use block::Block;
 use buffer::Screen;
@@ -28,7 +28,7 @@ fn draw_block_verdict(
     block: Block,
 ) -> Verdict
     ensures { let call = call_of columns rows cells.now styles.now titles.now ambiguous area block in
-        result ≡ verdictOf call }
+        result ≡ verdict_of call }
 {
     let lent = cells.len();
     if let Verdict::Refused(why) = screen::screen_verdict(ACCEPTED, columns, rows, lent, styles) {
@@ -59,7 +59,7 @@ pub fn draw_block(
     block: Block,
 ) -> BlockAnswer
     ensures { let call = call_of columns rows cells.old styles.now titles.now ambiguous area block in
-        (result ≡ answer_of call) × (cells.new ≡ cellsAfter call) }
+        (result ≡ answer_of call) × (cells.new ≡ cells_after call) }
 {
     if let Verdict::Refused(why) = draw_block_verdict(
         columns, rows, cells, styles, titles, ambiguous, area, block,

@@ -1,7 +1,7 @@
 // The call `draw_frame`: checks its inputs, then draws the frame of a notice.
 ghost use Rattle.std.specs.Prelude.{◌≡◌};
-ghost use Rattle.refuse.specs.Causes.{styleNumbersWrong};
-ghost use Rattle.draw_frame.specs.Call.{call_of, noticeFrameStyles, verdictOf, answer_of, cellsAfter};
+ghost use Rattle.refuse.specs.Causes.{style_numbers_wrong};
+ghost use Rattle.draw_frame.specs.Call.{call_of, notice_frame_styles, verdict_of, answer_of, cells_after};
 
 use block::Block;
 use buffer::Screen;
@@ -13,7 +13,7 @@ use text::AmbiguousWidth;
 
 // Whether the notice's style number, or one of the block or a title glyph, isn't below the count of styles (cause 6).
 fn style_numbers_wrong(count: usize, titles: &[u32], style: u8, block: Block) -> bool
-    ensures { result ≡ styleNumbersWrong count (noticeFrameStyles style block titles.now) }
+    ensures { result ≡ style_numbers_wrong count (notice_frame_styles style block titles.now) }
 {
     if count <= style as usize {
         return true;
@@ -34,7 +34,7 @@ fn draw_frame_verdict(
     block: Block,
 ) -> Verdict
     ensures { let call = call_of columns rows cells.now styles.now titles.now ambiguous area style block in
-        result ≡ verdictOf call }
+        result ≡ verdict_of call }
 {
     let lent = cells.len();
     if let Verdict::Refused(why) = screen::screen_verdict(ACCEPTED, columns, rows, lent, styles) {
@@ -66,7 +66,7 @@ pub fn draw_frame(
     block: Block,
 ) -> InnerAnswer
     ensures { let call = call_of columns rows cells.old styles.now titles.now ambiguous area style block in
-        (result ≡ answer_of call) × (cells.new ≡ cellsAfter call) }
+        (result ≡ answer_of call) × (cells.new ≡ cells_after call) }
 {
     let checked = draw_frame_verdict(
         columns, rows, cells, styles, titles, ambiguous, area, style, block,

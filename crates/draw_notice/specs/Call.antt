@@ -5,18 +5,18 @@ use Rattle.std.specs.Prelude.{ℕ, List, [], ◌∷◌, ◌++◌, length}
 use Rattle.layout.specs.declared.Rect.{Rect}
 use Rattle.buffer.specs.declared.Screen.{Screen as ScreenSize}
 use Rattle.buffer.specs.Drawing.{Drawing, drawn}
-use Rattle.buffer.specs.Screen.{screenOf}
+use Rattle.buffer.specs.Screen.{screen_of}
 use Rattle.refuse.specs.declared.Ceilings.{Ceilings}
 use Rattle.refuse.specs.declared.Refusal.TheVariants.{Titles, StyleNumber, Symbol}
 use Rattle.refuse.specs.declared.Verdict.{Verdict}
-use Rattle.refuse.specs.Refusal.{Cause, ◌if◌, firstCause, unlessRefused}
-use Rattle.refuse.specs.Causes.{mostAccepted, screenCauses, textCauses, titlesWrong, styleNumbersWrong, symbolsWrong}
-use Rattle.block.specs.Causes.{blockSymbols}
-use Rattle.check_block.specs.Styles.{frameStyles}
+use Rattle.refuse.specs.Refusal.{Cause, ◌if◌, first_cause, unless_refused}
+use Rattle.refuse.specs.Causes.{most_accepted, screen_causes, text_causes, titles_wrong, style_numbers_wrong, symbols_wrong}
+use Rattle.block.specs.Causes.{block_symbols}
+use Rattle.check_block.specs.Styles.{frame_styles}
 use Rattle.render_lines.specs.declared.DrawCounts.{DrawCounts}
 use Rattle.paragraph.specs.declared.Notice.{Notice}
-use Rattle.paragraph.specs.Notice.{settingsOf, noticeOf, noticeCounts, noDrawCounts}
-use Rattle.draw_text.specs.Call.{textStyles}
+use Rattle.paragraph.specs.Notice.{settings_of, notice_of, notice_counts, no_draw_counts}
+use Rattle.draw_text.specs.Call.{text_styles}
 
 -- a notice and its screen, with the cells before it is drawn
 pub record Call : Type 0 where
@@ -43,35 +43,35 @@ call_of columns rows cells styles text titles area notice =
     }
 
 -- all style numbers of a notice: its own, the text's, the text glyphs', the block's and the title glyphs'
-unfoldable pub noticeStyles : Notice → List ℕ → List ℕ → List ℕ
-noticeStyles n text titles = textStyles (settingsOf n) text ++ frameStyles n.block titles
+unfoldable pub notice_styles : Notice → List ℕ → List ℕ → List ℕ
+notice_styles n text titles = text_styles (settings_of n) text ++ frame_styles n.block titles
 
 -- causes 1 to 7
-unfoldable pub causesOf : Ceilings → Call → List Cause
-causesOf most call =
-    screenCauses most call.columns call.rows (length call.cells) call.styles
-    ++ (textCauses most call.text
-    ++ (Titles if titlesWrong most call.titles
-    ∷ StyleNumber if styleNumbersWrong (length call.styles) (noticeStyles call.notice call.text call.titles)
-    ∷ Symbol if symbolsWrong (blockSymbols call.notice.block)
+unfoldable pub causes_of : Ceilings → Call → List Cause
+causes_of most call =
+    screen_causes most call.columns call.rows (length call.cells) call.styles
+    ++ (text_causes most call.text
+    ++ (Titles if titles_wrong most call.titles
+    ∷ StyleNumber if style_numbers_wrong (length call.styles) (notice_styles call.notice call.text call.titles)
+    ∷ Symbol if symbols_wrong (block_symbols call.notice.block)
     ∷ []))
 
-unfoldable pub verdictOf : Call → Verdict
-verdictOf call = firstCause (causesOf mostAccepted call)
+unfoldable pub verdict_of : Call → Verdict
+verdict_of call = first_cause (causes_of most_accepted call)
 
-abbrev pub screenIn : Call → ScreenSize
-screenIn call = screenOf call.columns call.rows
+abbrev pub screen_in : Call → ScreenSize
+screen_in call = screen_of call.columns call.rows
 
-unfoldable pub drawingOf : Call → Drawing
-drawingOf call = noticeOf call.styles (screenIn call) call.text call.titles call.notice call.area
+unfoldable pub drawing_of : Call → Drawing
+drawing_of call = notice_of call.styles (screen_in call) call.text call.titles call.notice call.area
 
 unfoldable pub rows_of : Call → DrawCounts
-rows_of call = noticeCounts (screenIn call) call.text call.titles call.notice call.area
+rows_of call = notice_counts (screen_in call) call.text call.titles call.notice call.area
 
 -- the counts: "number, counts 0" if refused
-unfoldable pub countsOf : Call → DrawCounts
-countsOf call = unlessRefused (verdictOf call) (rows_of call) noDrawCounts
+unfoldable pub counts_of : Call → DrawCounts
+counts_of call = unless_refused (verdict_of call) (rows_of call) no_draw_counts
 
 -- the cells afterwards; "all cells" are left if refused
-unfoldable pub cellsAfter : Call → List ℕ
-cellsAfter call = unlessRefused (verdictOf call) (drawn call.columns (drawingOf call) call.cells) call.cells
+unfoldable pub cells_after : Call → List ℕ
+cells_after call = unless_refused (verdict_of call) (drawn call.columns (drawing_of call) call.cells) call.cells

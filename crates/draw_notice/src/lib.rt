@@ -1,7 +1,7 @@
 // The checks of the calls that take a whole notice, frame and text: causes 1 to 7, in the order of the combined drawing.
 ghost use Rattle.std.specs.Prelude.{◌≡◌};
-ghost use Rattle.refuse.specs.Causes.{styleNumbersWrong};
-ghost use Rattle.draw_notice.specs.Call.{call_of, noticeStyles, verdictOf};
+ghost use Rattle.refuse.specs.Causes.{style_numbers_wrong};
+ghost use Rattle.draw_notice.specs.Call.{call_of, notice_styles, verdict_of};
 
 use check_settings::screen;
 use layout::Rect;
@@ -10,7 +10,7 @@ use refuse::{ACCEPTED, Refusal, Verdict};
 
 // Whether a style number of the notice, a text glyph, the block or a title glyph isn't below the count of styles (cause 6).
 fn style_numbers_wrong(count: usize, text: &[u32], titles: &[u32], notice: Notice) -> bool
-    ensures { result ≡ styleNumbersWrong count (noticeStyles notice text.now titles.now) }
+    ensures { result ≡ style_numbers_wrong count (notice_styles notice text.now titles.now) }
 {
     if draw_text::style_numbers_wrong(count, text, notice.text_settings()) {
         return true;
@@ -30,7 +30,7 @@ pub fn draw_notice_verdict(
     notice: Notice,
 ) -> Verdict
     ensures { let call = call_of columns rows cells.now styles.now text.now titles.now area notice in
-        result ≡ verdictOf call }
+        result ≡ verdict_of call }
 {
     let block = notice.block;
     let lent = cells.len();

@@ -11,86 +11,86 @@ use Rattle.refuse.specs.declared.Refusal.{Refusal}
 use Rattle.refuse.specs.declared.Refusal.TheVariants.{Screen, TextLength, TextHeads}
 use Rattle.refuse.specs.declared.Verdict.{Verdict}
 use Rattle.refuse.specs.declared.Verdict.TheVariants.{Accepted, Refused as RefusedFor}
-use Rattle.refuse.specs.Refusal.{verdictNumber}
-use Rattle.refuse.specs.Causes.{mostAccepted, screenCauses, textCauses, screenWrong, glyphStyles, styleNumbersWrong}
-use Rattle.refuse.proofs.Calls.{no-cause, answer-refused, answer-accepted, left-refused, left-accepted, answered-number, answered-value}
+use Rattle.refuse.specs.Refusal.{verdict_number}
+use Rattle.refuse.specs.Causes.{most_accepted, screen_causes, text_causes, screen_wrong, glyph_styles, style_numbers_wrong}
+use Rattle.refuse.proofs.Calls.{no_cause, answer_refused, answer_accepted, left_refused, left-accepted, answered-number, answered_value}
 use Rattle.refuse.proofs.Accepted.{sound}
 use Rattle.refuse.proofs.Lowest.{InOrder, in_order}
-use Rattle.check_settings.proofs.Cells.{columns-fit, rows_fit, has_cells}
+use Rattle.check_settings.proofs.Cells.{columns_fit, rows_fit, has_cells}
 use Rattle.buffer.specs.Drawing.{drawn}
 use Rattle.buffer.specs.PartsExtra.{HasCells}
 use Rattle.render_lines.specs.declared.DrawCounts.{DrawCounts}
 use Rattle.render_lines.specs.DrawingExtra.{Composable}
 use Rattle.render_text.specs.declared.TextSettings.{TextSettings}
-use Rattle.paragraph.specs.Notice.{noDrawCounts}
+use Rattle.paragraph.specs.Notice.{no_draw_counts}
 use Rattle.draw_text.specs.declared.DrawAnswer.TheVariants.{Counts, Refused}
-use Rattle.draw_text.specs.Call.{Call, textStyles, causesOf, verdictOf, screenIn, drawingOf, rows_of, answer_of, countsOf, cellsAfter, drawAnswerNumber, drawAnswerCounts}
+use Rattle.draw_text.specs.Call.{Call, text_styles, causes_of, verdict_of, screen_in, drawing_of, rows_of, answer_of, counts_of, cells_after, draw_answer_number, draw_answer_counts}
 
 -- cause 6: one law for each path through `style_numbers_wrong`
 module _ (count : ℕ) (s : TextSettings) (text : List ℕ) where
-  pub own-style : count ≤ s.style → true ≡ styleNumbersWrong count (textStyles s text)
-  unfolding textStyles
+  pub own-style : count ≤ s.style → true ≡ style_numbers_wrong count (text_styles s text)
+  unfolding text_styles
   own-style h = rw (le-leb count s.style h)
 
   module _ (default : s.style < count) where
-    pub text-style : count ≤ s.text_style → true ≡ styleNumbersWrong count (textStyles s text)
-    unfolding textStyles
+    pub text-style : count ≤ s.text_style → true ≡ style_numbers_wrong count (text_styles s text)
+    unfolding text_styles
     text-style h = rw (lt-leb count s.style default, le-leb count s.text_style h)
 
-    pub glyph-style : (x : Bool) → s.text_style < count → x ≡ styleNumbersWrong count (glyphStyles text) → x ≡ styleNumbersWrong count (textStyles s text)
-    unfolding textStyles
+    pub glyph-style : (x : Bool) → s.text_style < count → x ≡ style_numbers_wrong count (glyph_styles text) → x ≡ style_numbers_wrong count (text_styles s text)
+    unfolding text_styles
     glyph-style x h p = rw (lt-leb count s.style default, lt-leb count s.text_style h) p
 
 pub ruleset style-numbers = (own-style, text-style, glyph-style)
 
 -- a call is refused if and only if a cause holds, and for the lowest such cause
-pub lowest-first : (most : Ceilings) (call : Call) → InOrder (causesOf most call)
-unfolding causesOf screenCauses textCauses
-lowest-first most call = in_order (causesOf most call) refl
+pub lowest-first : (most : Ceilings) (call : Call) → InOrder (causes_of most call)
+unfolding causes_of screen_causes text_causes
+lowest-first most call = in_order (causes_of most call) refl
 
 module _ (call : Call) where
-  pub answer-number : drawAnswerNumber (answer_of call) ≡ verdictNumber (verdictOf call)
+  pub answer_number : draw_answer_number (answer_of call) ≡ verdict_number (verdict_of call)
   unfolding answer_of
-  answer-number = answered-number Counts Refused drawAnswerNumber (λ counts. refl) (λ why. refl) (verdictOf call) (rows_of call)
+  answer_number = answered-number Counts Refused draw_answer_number (λ counts. refl) (λ why. refl) (verdict_of call) (rows_of call)
 
-  pub answer-counts : drawAnswerCounts (answer_of call) ≡ countsOf call
-  unfolding answer_of countsOf
-  answer-counts = answered-value Counts Refused drawAnswerCounts (λ counts. counts) noDrawCounts (λ counts. refl) (λ why. refl) (verdictOf call) (rows_of call)
+  pub answer_counts : draw_answer_counts (answer_of call) ≡ counts_of call
+  unfolding answer_of counts_of
+  answer_counts = answered_value Counts Refused draw_answer_counts (λ counts. counts) no_draw_counts (λ counts. refl) (λ why. refl) (verdict_of call) (rows_of call)
 
   -- a refused call leaves all cells unchanged
-  pub refused-cells : (why : Refusal) → verdictOf call ≡ RefusedFor why → cellsAfter call ≡ call.cells
-  unfolding cellsAfter
-  refused-cells why e = rw e
+  pub refused_cells : (why : Refusal) → verdict_of call ≡ RefusedFor why → cells_after call ≡ call.cells
+  unfolding cells_after
+  refused_cells why e = rw e
 
   -- v is the verdict of the checks
-  module _ (v : Verdict) (e : v ≡ verdictOf call) where
-    pub text-refused : (why : Refusal) → v ≡ RefusedFor why → (Refused why ≡ answer_of call) × (call.cells ≡ cellsAfter call)
-    unfolding answer_of cellsAfter
-    text-refused why r =
-        let k : verdictOf call ≡ RefusedFor why = sym e ∙ r in
-        (answer-refused Counts Refused (verdictOf call) (rows_of call) why k, left-refused (verdictOf call) (drawn call.columns (drawingOf call) call.cells) call.cells why k)
+  module _ (v : Verdict) (e : v ≡ verdict_of call) where
+    pub text_refused : (why : Refusal) → v ≡ RefusedFor why → (Refused why ≡ answer_of call) × (call.cells ≡ cells_after call)
+    unfolding answer_of cells_after
+    text_refused why r =
+        let k : verdict_of call ≡ RefusedFor why = sym e ∙ r in
+        (answer_refused Counts Refused (verdict_of call) (rows_of call) why k, left_refused (verdict_of call) (drawn call.columns (drawing_of call) call.cells) call.cells why k)
 
     module _ (a : v ≡ Accepted) where
-      screen-right : screenWrong mostAccepted call.columns call.rows (length call.cells) ≡ false
-      unfolding verdictOf causesOf screenCauses textCauses
-      screen-right = no-cause (causesOf mostAccepted call) Screen (sym e ∙ a)
+      screen_right : screen_wrong most_accepted call.columns call.rows (length call.cells) ≡ false
+      unfolding verdict_of causes_of screen_causes text_causes
+      screen_right = no_cause (causes_of most_accepted call) Screen (sym e ∙ a)
 
-      pub text-drawn : (r : DrawCounts) (next : List ℕ) → r ≡ rows_of call → next ≡ drawn call.columns (drawingOf call) call.cells
-          → (Counts r ≡ answer_of call) × (next ≡ cellsAfter call)
-      unfolding answer_of cellsAfter
+      pub text-drawn : (r : DrawCounts) (next : List ℕ) → r ≡ rows_of call → next ≡ drawn call.columns (drawing_of call) call.cells
+          → (Counts r ≡ answer_of call) × (next ≡ cells_after call)
+      unfolding answer_of cells_after
       text-drawn r next c p =
-          let k : verdictOf call ≡ Accepted = sym e ∙ a in
-          (answer-accepted Counts Refused (verdictOf call) (rows_of call) k r c, left-accepted (verdictOf call) (drawn call.columns (drawingOf call) call.cells) call.cells k next p)
+          let k : verdict_of call ≡ Accepted = sym e ∙ a in
+          (answer_accepted Counts Refused (verdict_of call) (rows_of call) k r c, left-accepted (verdict_of call) (drawn call.columns (drawing_of call) call.cells) call.cells k next p)
 
       pub few-columns : call.columns < 2 ^ 16
-      few-columns = columns-fit call.columns call.rows (length call.cells) screen-right
+      few-columns = columns_fit call.columns call.rows (length call.cells) screen_right
 
       pub few-rows : call.rows < 2 ^ 16
-      few-rows = rows_fit call.columns call.rows (length call.cells) screen-right
+      few-rows = rows_fit call.columns call.rows (length call.cells) screen_right
 
-      pub composable : Composable call.text × HasCells (screenIn call) (length call.cells)
-      unfolding verdictOf causesOf screenCauses textCauses
+      pub composable : Composable call.text × HasCells (screen_in call) (length call.cells)
+      unfolding verdict_of causes_of screen_causes text_causes
       composable =
-          let causes = causesOf mostAccepted call in
-          let s = sound call.text (no-cause causes TextLength (sym e ∙ a)) (no-cause causes TextHeads (sym e ∙ a)) in
-          (record { opens = s.opens; few = s.few }, has_cells call.columns call.rows (length call.cells) screen-right)
+          let causes = causes_of most_accepted call in
+          let s = sound call.text (no_cause causes TextLength (sym e ∙ a)) (no_cause causes TextHeads (sym e ∙ a)) in
+          (record { opens = s.opens; few = s.few }, has_cells call.columns call.rows (length call.cells) screen_right)

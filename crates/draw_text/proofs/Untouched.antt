@@ -1,57 +1,57 @@
--- Document 01 on the call `draw_text`: "untouched cells are named equal". `keeps-bits`: the 18 bits "never touched" of every cell are
--- those before the call. `elsewhere`: cells outside the area given are equal. `empty-area`: in an empty one, all are. `answer-blind`: "The
+-- Document 01 on the call `draw_text`: "untouched cells are named equal". `keeps_bits`: the 18 bits "never touched" of every cell are
+-- those before the call. `elsewhere`: cells outside the area given are equal. `empty-area`: in an empty one, all are. `answer_blind`: "The
 -- answer never depends on the cells found."
 use Prim.Native.Nat.{ℕ, ◌/◌, ◌%◌, ◌<◌}
 use mathlib.Core.Path.{◌≡◌, refl}
 use mathlib.Core.Bool.{true, false}
 use mathlib.Core.List.{List}
 use lib.ListN.{length, get_or}
-use Rattle.cell.specs.Cell.{cellFrom}
+use Rattle.cell.specs.Cell.{cell_from}
 use Rattle.layout.specs.Rect.{is_empty, contains}
 use Rattle.buffer.specs.Drawing.{drawn}
-use Rattle.buffer.proofs.Keeping.{untouchedBits, wholeCell}
-use Rattle.check_settings.proofs.Left.{left-length, left-keeps}
+use Rattle.buffer.proofs.Keeping.{untouched_bits, whole_cell}
+use Rattle.check_settings.proofs.Left.{left-length, left_keeps}
 use Rattle.refuse.specs.declared.Verdict.{Verdict}
 use Rattle.refuse.specs.declared.Verdict.TheVariants.{Accepted, Refused as RefusedFor}
-use Rattle.refuse.specs.Refusal.{unlessRefused}
-use Rattle.paragraph.proofs.KeepsBits.{paragraph-keeps-bits}
-use Rattle.paragraph.proofs.Elsewhere.{paragraph-elsewhere}
-use Rattle.paragraph.proofs.Apart.{paragraph-empty}
-use Rattle.draw_text.specs.Call.{Call, call_of, causesOf, verdictOf, screenIn, rows_of, answer_of, drawingOf, cellsAfter}
+use Rattle.refuse.specs.Refusal.{unless_refused}
+use Rattle.paragraph.proofs.KeepsBits.{paragraph_keeps_bits}
+use Rattle.paragraph.proofs.Elsewhere.{paragraph_elsewhere}
+use Rattle.paragraph.proofs.Apart.{paragraph_empty}
+use Rattle.draw_text.specs.Call.{Call, call_of, causes_of, verdict_of, screen_in, rows_of, answer_of, drawing_of, cells_after}
 use Rattle.draw_text.proofs.Answers.{composable}
 
 module _ (call : Call) where
-  pub same_length : length (cellsAfter call) ≡ length call.cells
-  unfolding cellsAfter
-  same_length = left-length (verdictOf call) call.columns (drawingOf call) call.cells
+  pub same_length : length (cells_after call) ≡ length call.cells
+  unfolding cells_after
+  same_length = left-length (verdict_of call) call.columns (drawing_of call) call.cells
 
   -- cell i; a refused call leaves it
   module _ (i : ℕ) (h : i < length call.cells) where
-    pub keeps-bits : (cellFrom (get_or (cellsAfter call) i 0)).untouched ≡ (cellFrom (get_or call.cells i 0)).untouched
-    unfolding cellsAfter drawingOf
-    keeps-bits =
-        left-keeps untouchedBits (verdictOf call) call.columns (drawingOf call) call.cells i h
-        (λ _ cell. paragraph-keeps-bits call.styles (screenIn call) (i % call.columns) (i / call.columns) cell call.text call.settings call.area)
+    pub keeps_bits : (cell_from (get_or (cells_after call) i 0)).untouched ≡ (cell_from (get_or call.cells i 0)).untouched
+    unfolding cells_after drawing_of
+    keeps_bits =
+        left_keeps untouched_bits (verdict_of call) call.columns (drawing_of call) call.cells i h
+        (λ _ cell. paragraph_keeps_bits call.styles (screen_in call) (i % call.columns) (i / call.columns) cell call.text call.settings call.area)
 
-    pub elsewhere : contains call.area (i % call.columns) (i / call.columns) ≡ false → get_or (cellsAfter call) i 0 ≡ get_or call.cells i 0
-    unfolding cellsAfter drawingOf
+    pub elsewhere : contains call.area (i % call.columns) (i / call.columns) ≡ false → get_or (cells_after call) i 0 ≡ get_or call.cells i 0
+    unfolding cells_after drawing_of
     elsewhere outside =
-        left-keeps wholeCell (verdictOf call) call.columns (drawingOf call) call.cells i h
-        (λ _ cell. paragraph-elsewhere call.styles (screenIn call) (i % call.columns) (i / call.columns) cell call.text call.settings call.area outside)
+        left_keeps whole_cell (verdict_of call) call.columns (drawing_of call) call.cells i h
+        (λ _ cell. paragraph_elsewhere call.styles (screen_in call) (i % call.columns) (i / call.columns) cell call.text call.settings call.area outside)
 
   -- in an empty area no cell is drawn
-  pub empty-area : is_empty call.area ≡ true → cellsAfter call ≡ call.cells
-  unfolding cellsAfter drawingOf
-  empty-area none = go (verdictOf call) refl
+  pub empty-area : is_empty call.area ≡ true → cells_after call ≡ call.cells
+  unfolding cells_after drawing_of
+  empty-area none = go (verdict_of call) refl
     where
-      go : (v : Verdict) → v ≡ verdictOf call → unlessRefused v (drawn call.columns (drawingOf call) call.cells) call.cells ≡ call.cells
-      go Accepted e = paragraph-empty (screenIn call) call.styles call.text call.settings call.area call.cells none (composable call Accepted e refl).1.columns
+      go : (v : Verdict) → v ≡ verdict_of call → unless_refused v (drawn call.columns (drawing_of call) call.cells) call.cells ≡ call.cells
+      go Accepted e = paragraph_empty (screen_in call) call.styles call.text call.settings call.area call.cells none (composable call Accepted e refl).1.columns
       go (RefusedFor why) e = refl
 
   -- the same call on other cells
-  abbrev pub onCells : List ℕ → Call
-  onCells cells = call_of call.columns call.rows cells call.styles call.text call.area call.settings
+  abbrev pub on_cells : List ℕ → Call
+  on_cells cells = call_of call.columns call.rows cells call.styles call.text call.area call.settings
 
-  pub answer-blind : (cells : List ℕ) → length cells ≡ length call.cells → answer_of (onCells cells) ≡ answer_of call
-  unfolding answer_of verdictOf causesOf rows_of
-  answer-blind cells e = rw e
+  pub answer_blind : (cells : List ℕ) → length cells ≡ length call.cells → answer_of (on_cells cells) ≡ answer_of call
+  unfolding answer_of verdict_of causes_of rows_of
+  answer_blind cells e = rw e

@@ -4,16 +4,16 @@ use Rattle.std.specs.Prelude.{ℕ, List, [], ◌∷◌, ◌++◌, length}
 use Rattle.layout.specs.declared.Rect.{Rect}
 use Rattle.buffer.specs.declared.Screen.{Screen as ScreenSize}
 use Rattle.buffer.specs.Drawing.{Drawing, drawn}
-use Rattle.buffer.specs.Screen.{screenOf}
+use Rattle.buffer.specs.Screen.{screen_of}
 use Rattle.refuse.specs.declared.Ceilings.{Ceilings}
 use Rattle.refuse.specs.declared.Refusal.TheVariants.{StyleNumber}
 use Rattle.refuse.specs.declared.Verdict.{Verdict}
-use Rattle.refuse.specs.Refusal.{Cause, ◌if◌, firstCause, refusalNumber, answering, unlessRefused}
-use Rattle.refuse.specs.Causes.{mostAccepted, screenCauses, textCauses, glyphStyles, styleNumbersWrong}
+use Rattle.refuse.specs.Refusal.{Cause, ◌if◌, first_cause, refusal_number, answering, unless_refused}
+use Rattle.refuse.specs.Causes.{most_accepted, screen_causes, text_causes, glyph_styles, style_numbers_wrong}
 use Rattle.render_lines.specs.declared.DrawCounts.{DrawCounts}
 use Rattle.render_text.specs.declared.TextSettings.{TextSettings}
-use Rattle.paragraph.specs.Notice.{noDrawCounts}
-use Rattle.paragraph.specs.Apart.{paragraphOf, paragraphCounts}
+use Rattle.paragraph.specs.Notice.{no_draw_counts}
+use Rattle.paragraph.specs.Apart.{paragraph_of, paragraph_counts}
 use Rattle.draw_text.specs.declared.DrawAnswer.{DrawAnswer}
 use Rattle.draw_text.specs.declared.DrawAnswer.TheVariants.{Counts, Refused}
 
@@ -32,45 +32,45 @@ call_of columns rows cells styles text area settings =
     record { columns = columns; rows = rows; cells = cells; styles = styles; text = text; area = area; settings = settings }
 
 -- all style numbers of the text of a notice: the paragraph style's, the text style's and the text glyphs'
-unfoldable pub textStyles : TextSettings → List ℕ → List ℕ
-textStyles s text = s.style ∷ s.text_style ∷ glyphStyles text
+unfoldable pub text_styles : TextSettings → List ℕ → List ℕ
+text_styles s text = s.style ∷ s.text_style ∷ glyph_styles text
 
 -- causes: 1, 2, 3, 4, 6
-unfoldable pub causesOf : Ceilings → Call → List Cause
-causesOf most call =
-    screenCauses most call.columns call.rows (length call.cells) call.styles
-    ++ (textCauses most call.text
-    ++ (StyleNumber if styleNumbersWrong (length call.styles) (textStyles call.settings call.text)
+unfoldable pub causes_of : Ceilings → Call → List Cause
+causes_of most call =
+    screen_causes most call.columns call.rows (length call.cells) call.styles
+    ++ (text_causes most call.text
+    ++ (StyleNumber if style_numbers_wrong (length call.styles) (text_styles call.settings call.text)
     ∷ []))
 
-unfoldable pub verdictOf : Call → Verdict
-verdictOf call = firstCause (causesOf mostAccepted call)
+unfoldable pub verdict_of : Call → Verdict
+verdict_of call = first_cause (causes_of most_accepted call)
 
-abbrev pub screenIn : Call → ScreenSize
-screenIn call = screenOf call.columns call.rows
+abbrev pub screen_in : Call → ScreenSize
+screen_in call = screen_of call.columns call.rows
 
-unfoldable pub drawingOf : Call → Drawing
-drawingOf call = paragraphOf call.styles (screenIn call) call.text call.settings call.area
+unfoldable pub drawing_of : Call → Drawing
+drawing_of call = paragraph_of call.styles (screen_in call) call.text call.settings call.area
 
 unfoldable pub rows_of : Call → DrawCounts
-rows_of call = paragraphCounts (screenIn call) call.text call.settings call.area
+rows_of call = paragraph_counts (screen_in call) call.text call.settings call.area
 
 unfoldable pub answer_of : Call → DrawAnswer
-answer_of call = answering Counts Refused (verdictOf call) (rows_of call)
+answer_of call = answering Counts Refused (verdict_of call) (rows_of call)
 
 -- the counts in the answer: "number, counts 0" if refused
-unfoldable pub countsOf : Call → DrawCounts
-countsOf call = unlessRefused (verdictOf call) (rows_of call) noDrawCounts
+unfoldable pub counts_of : Call → DrawCounts
+counts_of call = unless_refused (verdict_of call) (rows_of call) no_draw_counts
 
 -- the cells after the call; a refused one leaves "all cells"
-unfoldable pub cellsAfter : Call → List ℕ
-cellsAfter call = unlessRefused (verdictOf call) (drawn call.columns (drawingOf call) call.cells) call.cells
+unfoldable pub cells_after : Call → List ℕ
+cells_after call = unless_refused (verdict_of call) (drawn call.columns (drawing_of call) call.cells) call.cells
 
 -- an answer as document 01's number, 0 if accepted, and counts
-abbrev pub drawAnswerNumber : DrawAnswer → ℕ
-drawAnswerNumber (Counts counts) = 0
-drawAnswerNumber (Refused why) = refusalNumber why
+abbrev pub draw_answer_number : DrawAnswer → ℕ
+draw_answer_number (Counts counts) = 0
+draw_answer_number (Refused why) = refusal_number why
 
-abbrev pub drawAnswerCounts : DrawAnswer → DrawCounts
-drawAnswerCounts (Counts counts) = counts
-drawAnswerCounts (Refused why) = noDrawCounts
+abbrev pub draw_answer_counts : DrawAnswer → DrawCounts
+draw_answer_counts (Counts counts) = counts
+draw_answer_counts (Refused why) = no_draw_counts

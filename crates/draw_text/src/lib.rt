@@ -1,7 +1,7 @@
 // The call `draw_text`: checks its inputs, then lays the text of a notice into an area.
 ghost use Rattle.std.specs.Prelude.{◌≡◌};
-ghost use Rattle.refuse.specs.Causes.{styleNumbersWrong};
-ghost use Rattle.draw_text.specs.Call.{call_of, textStyles, verdictOf, answer_of, cellsAfter};
+ghost use Rattle.refuse.specs.Causes.{style_numbers_wrong};
+ghost use Rattle.draw_text.specs.Call.{call_of, text_styles, verdict_of, answer_of, cells_after};
 
 use buffer::Screen;
 use check_settings::screen;
@@ -19,7 +19,7 @@ pub enum DrawAnswer {
 
 // Whether a style number of the settings or of a text glyph isn't below the count of styles (cause 6).
 pub fn style_numbers_wrong(count: usize, text: &[u32], settings: TextSettings) -> bool
-    ensures { result ≡ styleNumbersWrong count (textStyles settings text.now) }
+    ensures { result ≡ style_numbers_wrong count (text_styles settings text.now) }
 {
     if count <= settings.style as usize {
         return true;
@@ -41,7 +41,7 @@ fn draw_text_verdict(
     settings: TextSettings,
 ) -> Verdict
     ensures { let call = call_of columns rows cells.now styles.now text.now area settings in
-        result ≡ verdictOf call }
+        result ≡ verdict_of call }
 {
     let lent = cells.len();
     if let Verdict::Refused(why) = screen::screen_verdict(ACCEPTED, columns, rows, lent, styles) {
@@ -68,7 +68,7 @@ pub fn draw_text(
     settings: TextSettings,
 ) -> DrawAnswer
     ensures { let call = call_of columns rows cells.old styles.now text.now area settings in
-        (result ≡ answer_of call) × (cells.new ≡ cellsAfter call) }
+        (result ≡ answer_of call) × (cells.new ≡ cells_after call) }
 {
     let checked = draw_text_verdict(columns, rows, cells, styles, text, area, settings);
     if let Verdict::Refused(why) = checked {

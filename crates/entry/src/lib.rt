@@ -1,6 +1,6 @@
 // Entry of a composed line, 64 bits: first 15 | end 15 | width 16 | alignment 2 | mark 1 | 15 zeros.
 ghost use Rattle.std.specs.Prelude.{◌≡◌, ◌<◌, ◌^◌};
-ghost use Rattle.entry.specs.Entry.{entryFirst, entryEnd, entryWidth, entryAlignment, entryMark, markNumber, entryMarked};
+ghost use Rattle.entry.specs.Entry.{entry_first, entry_end, entry_width, entry_alignment, entry_mark, mark_number, entry_marked};
 
 use line_composer::WrappedLine;
 
@@ -25,38 +25,38 @@ const ALIGNMENT_PLACE: u64 = 1 << 16;
 const MARK_PLACE: u64 = 1 << 15;
 
 pub fn first(entry: u64) -> u64
-    ensures { result ≡ entryFirst entry }
+    ensures { result ≡ entry_first entry }
 {
     entry / FIRST_PLACE
 }
 
 pub fn end(entry: u64) -> u64
-    ensures { result ≡ entryEnd entry }
+    ensures { result ≡ entry_end entry }
 {
     entry / END_PLACE % RECORDS
 }
 
 pub fn width(entry: u64) -> u64
-    ensures { result ≡ entryWidth entry }
+    ensures { result ≡ entry_width entry }
 {
     entry / WIDTH_PLACE % WIDTHS
 }
 
 pub fn alignment(entry: u64) -> u64
-    ensures { result ≡ entryAlignment entry }
+    ensures { result ≡ entry_alignment entry }
 {
     entry / ALIGNMENT_PLACE % ALIGNMENTS
 }
 
 pub fn mark(entry: u64) -> u64
-    ensures { result ≡ entryMark entry }
+    ensures { result ≡ entry_mark entry }
 {
     entry / MARK_PLACE % MARKS
 }
 
 // Returns the number of a mark, its one bit.
 fn mark_number(mark: bool) -> u64
-    ensures { (result ≡ markNumber mark) × (result < 2) }
+    ensures { (result ≡ mark_number mark) × (result < 2) }
 {
     if mark { 1 } else { 0 }
 }
@@ -64,7 +64,7 @@ fn mark_number(mark: bool) -> u64
 // Packs a composed line and its mark into an entry.
 pub fn pack(line: WrappedLine, mark: bool) -> u64
     requires { (line.first < 2 ^ 15) × (line.end < 2 ^ 15) × (line.width < 2 ^ 16) }
-    ensures { result ≡ entryMarked line mark }
+    ensures { result ≡ entry_marked line mark }
 {
     let alignment = line.alignment;
     line.first as u64 * FIRST_PLACE

@@ -7,53 +7,53 @@ use mathlib.Core.Bool.{Bool, true, false}
 use mathlib.Core.List.{List, [], ◌∷◌}
 use Rattle.text.specs.declared.Alignment.TheVariants.{Center}
 use Rattle.text.specs.declared.AmbiguousWidth.{AmbiguousWidth}
-use Rattle.text.specs.Record.{readWidth}
+use Rattle.text.specs.Record.{read_width}
 use Rattle.block.specs.declared.Block.{Block}
-use Rattle.padding.specs.Padding.{paddingOf}
+use Rattle.padding.specs.Padding.{padding_of}
 use Rattle.block.specs.Inner.{inner_of}
-use Rattle.wrapping.specs.Wrapping.{overWide, mustJoin, takesSpaces, gathered, joined, unjoined, full, emptied, drops, appended, ◌then◌, joinStep, emitStep, appendStep, step, lastLines, wrap}
-use Rattle.line_composer.specs.Lines.{lines_of, lineLines, lines, wrappedLineOf}
+use Rattle.wrapping.specs.Wrapping.{is_over_wide, must_join, takes_spaces, gathered, joined, unjoined, full, emptied, drops, appended, ◌then◌, join_step, emit_step, append_step, step, last_lines, wrap}
+use Rattle.line_composer.specs.Lines.{lines_of, line_lines, lines, wrapped_line_of}
 use Rattle.place.specs.Place.{place_of}
-use Rattle.line_composer.specs.Places.{is_placed, isClipped}
-use Rattle.render_line.specs.RenderLine.{lineOffset}
-use Rattle.block.proofs.Examples.{rect, fourBorders, four-borders}
-use Rattle.examples.specs.Notation.{glyphs, wrapped, widths, placed_of, clippedOf}
+use Rattle.line_composer.specs.Places.{is_placed, is_clipped}
+use Rattle.render_line.specs.RenderLine.{line_offset}
+use Rattle.block.proofs.Examples.{rect, four_borders, four_borders_lem}
+use Rattle.examples.specs.Notation.{glyphs, wrapped, widths, placed_of, clipped_of}
 
 pub record Examples (a : AmbiguousWidth) : Type 0 where
   -- limit 5 trim "___abc": empty | abc. Not trimmed: "___ab" | c.
-  pub leading-trimmed : wrapped a 5 true "___abc" ≡ [] ∷ glyphs a 4 "abc" ∷ []
-  pub leading-kept : wrapped a 5 false "___abc" ≡ glyphs a 1 "___ab" ∷ glyphs a 6 "c" ∷ []
+  pub leading_trimmed : wrapped a 5 true "___abc" ≡ [] ∷ glyphs a 4 "abc" ∷ []
+  pub leading_kept : wrapped a 5 false "___abc" ≡ glyphs a 1 "___ab" ∷ glyphs a 6 "c" ∷ []
   -- limit 3 "abW": one line, width 4; C-14: two placed and one clipped. limit 1 "aWb": a | b.
   pub past-limit : (trim : Bool) → (wrapped a 3 trim "abW" ≡ glyphs a 1 "abW" ∷ []) × (widths a 3 trim "abW" ≡ 4 ∷ [])
-  pub past-limit-places : (placed_of 3 (glyphs a 1 "abW") ≡ true ∷ true ∷ false ∷ []) × (clippedOf 3 (glyphs a 1 "abW") ≡ false ∷ false ∷ true ∷ [])
+  pub past-limit-places : (placed_of 3 (glyphs a 1 "abW") ≡ true ∷ true ∷ false ∷ []) × (clipped_of 3 (glyphs a 1 "abW") ≡ false ∷ false ∷ true ∷ [])
   pub over-wide : (trim : Bool) → wrapped a 1 trim "aWb" ≡ glyphs a 1 "a" ∷ glyphs a 3 "b" ∷ []
   -- limit 3 trim "ZzabcD": Z | abcD, D clipped. limit 4 trim "___aWWx": a | WWx, x clipped.
   pub zero-width : (wrapped a 3 true "ZzabcD" ≡ glyphs a 1 "Z" ∷ glyphs a 3 "abcD" ∷ [])
-      × (clippedOf 3 (glyphs a 1 "Z") ≡ false ∷ []) × (clippedOf 3 (glyphs a 3 "abcD") ≡ false ∷ false ∷ false ∷ true ∷ [])
+      × (clipped_of 3 (glyphs a 1 "Z") ≡ false ∷ []) × (clipped_of 3 (glyphs a 3 "abcD") ≡ false ∷ false ∷ false ∷ true ∷ [])
   pub wide : (wrapped a 4 true "___aWWx" ≡ glyphs a 4 "a" ∷ glyphs a 5 "WWx" ∷ [])
-      × (clippedOf 4 (glyphs a 4 "a") ≡ false ∷ []) × (clippedOf 4 (glyphs a 5 "WWx") ≡ false ∷ false ∷ true ∷ [])
+      × (clipped_of 4 (glyphs a 4 "a") ≡ false ∷ []) × (clipped_of 4 (glyphs a 5 "WWx") ≡ false ∷ false ∷ true ∷ [])
   -- limit 3, not trimmed, "____": "___". Trimmed: one empty line. Empty line: one empty line.
   pub spaces-kept : wrapped a 3 false "____" ≡ glyphs a 1 "___" ∷ []
-  pub spaces-trimmed : wrapped a 3 true "____" ≡ [] ∷ []
+  pub spaces_trimmed : wrapped a 3 true "____" ≡ [] ∷ []
   pub empty-line : (trim : Bool) → wrapped a 3 trim "" ≡ [] ∷ []
   -- area 4, line 3, centre: column 1. inner of (0,0,1,1), four borders: (1,1,0,0).
-  pub centre : lineOffset Center 4 3 ≡ 1
-  pub inner : (b : Block) (titles : List ℕ) → b.borders ≡ fourBorders → b.padding ≡ paddingOf 0 0 0 0 → inner_of b titles (rect 0 0 1 1) ≡ rect 1 1 0 0
+  pub centre : line_offset Center 4 3 ≡ 1
+  pub inner : (b : Block) (titles : List ℕ) → b.borders ≡ four_borders → b.padding ≡ padding_of 0 0 0 0 → inner_of b titles (rect 0 0 1 1) ≡ rect 1 1 0 0
 
 pub examples : (a : AmbiguousWidth) → Examples a
-unfolding readWidth overWide mustJoin takesSpaces gathered joined unjoined full emptied drops appended ◌then◌ joinStep emitStep appendStep step lastLines wrap lines_of lineLines lines wrappedLineOf place_of is_placed isClipped lineOffset
+unfolding read_width is_over_wide must_join takes_spaces gathered joined unjoined full emptied drops appended ◌then◌ join_step emit_step append_step step last_lines wrap lines_of line_lines lines wrapped_line_of place_of is_placed is_clipped line_offset
 examples a =
     record {
-      leading-trimmed = refl;
-      leading-kept = refl;
+      leading_trimmed = refl;
+      leading_kept = refl;
       past-limit = λ trim. elim trim [ true ↦ (refl, refl) | false ↦ (refl, refl) ];
       past-limit-places = (refl, refl);
       over-wide = λ trim. elim trim [ true ↦ refl | false ↦ refl ];
       zero-width = (refl, refl, refl);
       wide = (refl, refl, refl);
       spaces-kept = refl;
-      spaces-trimmed = refl;
+      spaces_trimmed = refl;
       empty-line = λ trim. elim trim [ true ↦ refl | false ↦ refl ];
       centre = refl;
-      inner = four-borders;
+      inner = four_borders_lem;
     }

@@ -7,21 +7,21 @@ use lib.ListN.{replicate}
 use Rattle.text.specs.declared.Alignment.TheVariants.{Left}
 use Rattle.text.specs.declared.TitlePosition.TheVariants.{Top}
 use Rattle.text.specs.declared.AmbiguousWidth.{AmbiguousWidth}
-use Rattle.text.specs.Record.{readWidth, glyphRecord, headRecord}
-use Rattle.cell.specs.Cell.{cellFrom, blankCell, withSymbol, styled}
+use Rattle.text.specs.Record.{read_width, glyph_record, head_record}
+use Rattle.cell.specs.Cell.{cell_from, blank_cell, with_symbol, styled}
 use Rattle.buffer.specs.Drawing.{drawn, over, inside}
 use Rattle.block.specs.declared.Block.{Block}
 use Rattle.block.specs.declared.Shadow.TheVariants.{Absent}
-use Rattle.title_glyphs.specs.TitleGlyphs.{isDrawn, titleGlyphOn}
-use Rattle.title.specs.Title.{titleLineWidth, titleLine, titleIn}
-use Rattle.titles.specs.Titles.{titlesFrom, isChosen, centerTitles, groupsIn, titlesOn}
+use Rattle.title_glyphs.specs.TitleGlyphs.{is_drawn, title_glyph_on}
+use Rattle.title.specs.Title.{title_line_width, title_line, title_in}
+use Rattle.titles.specs.Titles.{titles_from, is_chosen, center_titles, groups_in, titles_on}
 
 -- a letter of one cell in style 0, and the head of a centred title at the top
 abbrev pub letter : ℕ → ℕ
-letter symbol = glyphRecord symbol 1 false 0
+letter symbol = glyph_record symbol 1 false 0
 
 abbrev pub centred : ℕ
-centred = headRecord 1 0
+centred = head_record 1 0
 
 -- a block without borders whose titles have style 0
 abbrev pub bare : Block
@@ -51,8 +51,8 @@ bare =
 -- the symbols of a row of blank cells, given its width, after the titles are drawn on it
 abbrev pub shown : AmbiguousWidth → ℕ → List ℕ → List ℕ
 shown ambiguous width records =
-    map (λ (cell : ℕ). (cellFrom cell).symbol)
-    (drawn width (titlesOn (0 ∷ []) bare (record { x = 0; y = 0; width = width; height = 1 }) (titlesFrom ambiguous records)) (replicate width blankCell))
+    map (λ (cell : ℕ). (cell_from cell).symbol)
+    (drawn width (titles_on (0 ∷ []) bare (record { x = 0; y = 0; width = width; height = 1 }) (titles_from ambiguous records)) (replicate width blank_cell))
 
 -- a is 97, and the blank symbol is 32
 pub centred-titles : (a : AmbiguousWidth) →
@@ -60,5 +60,5 @@ pub centred-titles : (a : AmbiguousWidth) →
     ≡ 98 ∷ 99 ∷ 100 ∷ 32 ∷ 101 ∷ [])
     × (shown a 4 (centred ∷ letter 97 ∷ centred ∷ letter 98 ∷ letter 99 ∷ letter 100 ∷ letter 101 ∷ letter 102 ∷ letter 103 ∷ [])
     ≡ 32 ∷ 102 ∷ 103 ∷ 32 ∷ [])
-unfolding readWidth titleLineWidth isDrawn titleGlyphOn titleLine titleIn isChosen centerTitles groupsIn titlesOn drawn over inside styled withSymbol
+unfolding read_width title_line_width is_drawn title_glyph_on title_line title_in is_chosen center_titles groups_in titles_on drawn over inside styled with_symbol
 centred-titles a = (refl, refl)

@@ -1,8 +1,8 @@
 // Settings as flat structs of numbers, for callers without enums, and the case that each number names. include/notice.h
 // declares the structs in C.
 ghost use Rattle.std.specs.Prelude.{◌≡◌, ◌&&◌};
-ghost use Rattle.flat.specs.FlatExtra.{unnamed, alignmentNamed, ambiguousKnown, ambiguousNamed, tallyKnown, listKnown};
-ghost use Rattle.flat.specs.FlatExtra.{positionNamed, shadowNamed, wrapNamed, areaFrom, blockKnown, blockFrom, textKnown, settingsFrom, noticeFrom};
+ghost use Rattle.flat.specs.FlatExtra.{unnamed, alignment_named, ambiguous_known, ambiguous_named, tally_known, list_known};
+ghost use Rattle.flat.specs.FlatExtra.{position_named, shadow_named, wrap_named, area_from, block_known, block_from, text_known, settings_from, notice_from};
 
 use block::{Block, BorderSet, Borders, Effect, Shadow};
 use check_settings::styles;
@@ -79,7 +79,7 @@ fn any_unnamed(cases: usize, numbers: &[u8]) -> bool
 
 // Returns the alignment that a number names; numbers above 2 give the last.
 pub fn alignment_named(number: u8) -> Alignment
-    ensures { result ≡ alignmentNamed number }
+    ensures { result ≡ alignment_named number }
 {
     if number == 0 {
         return Alignment::Left;
@@ -92,7 +92,7 @@ pub fn alignment_named(number: u8) -> Alignment
 
 // Whether a number names a reading of ambiguous glyphs.
 pub fn ambiguous_known(number: u8) -> bool
-    ensures { result ≡ ambiguousKnown number }
+    ensures { result ≡ ambiguous_known number }
 {
     if number == 0 {
         return false;
@@ -102,7 +102,7 @@ pub fn ambiguous_known(number: u8) -> bool
 
 // Returns the reading of ambiguous glyphs that a number names; numbers other than 1 give wide.
 pub fn ambiguous_named(number: u8) -> AmbiguousWidth
-    ensures { result ≡ ambiguousNamed number }
+    ensures { result ≡ ambiguous_named number }
 {
     if number == 1 {
         return AmbiguousWidth::Narrow;
@@ -112,7 +112,7 @@ pub fn ambiguous_named(number: u8) -> AmbiguousWidth
 
 // Whether the settings of a tally name cases.
 pub fn tally_known(ambiguous: u8, trim: u8) -> bool
-    ensures { result ≡ tallyKnown ambiguous trim }
+    ensures { result ≡ tally_known ambiguous trim }
 {
     if ambiguous_known(ambiguous) {
         return trim <= 1;
@@ -122,7 +122,7 @@ pub fn tally_known(ambiguous: u8, trim: u8) -> bool
 
 // Whether the settings of a list call name cases.
 pub fn list_known(ambiguous: u8, alignment: u8, trim: u8) -> bool
-    ensures { result ≡ listKnown ambiguous alignment trim }
+    ensures { result ≡ list_known ambiguous alignment trim }
 {
     if tally_known(ambiguous, trim) {
         return alignment <= 2;
@@ -132,7 +132,7 @@ pub fn list_known(ambiguous: u8, alignment: u8, trim: u8) -> bool
 
 // Returns the title position that a number names; numbers above 1 give the last.
 fn position_named(number: u8) -> TitlePosition
-    ensures { result ≡ positionNamed number }
+    ensures { result ≡ position_named number }
 {
     if number == 0 {
         return TitlePosition::Top;
@@ -142,7 +142,7 @@ fn position_named(number: u8) -> TitlePosition
 
 // Returns the shadow that a number names; numbers above 2 give the last.
 fn shadow_named(kind: u8, symbol: u32, style: u8, x: i32, y: i32) -> Shadow
-    ensures { result ≡ shadowNamed kind symbol style x y }
+    ensures { result ≡ shadow_named kind symbol style x y }
 {
     if kind == 0 {
         return Shadow::Absent;
@@ -165,7 +165,7 @@ fn shadow_named(kind: u8, symbol: u32, style: u8, x: i32, y: i32) -> Shadow
 
 impl FlatArea {
     pub fn area(self) -> Rect
-        ensures { result ≡ areaFrom self }
+        ensures { result ≡ area_from self }
     {
         Rect {
             x: self.x,
@@ -179,7 +179,7 @@ impl FlatArea {
 impl FlatBlock {
     // Whether every number names a case.
     pub fn is_known(self) -> bool
-        ensures { result ≡ blockKnown self }
+        ensures { result ≡ block_known self }
     {
         if any_unnamed(
             2,
@@ -201,7 +201,7 @@ impl FlatBlock {
 
     // Returns which borders are present.
     fn borders(self) -> Borders
-        ensures { result ≡ (blockFrom self).borders }
+        ensures { result ≡ (block_from self).borders }
     {
         Borders {
             top: self.border_top == 1,
@@ -213,7 +213,7 @@ impl FlatBlock {
 
     // Converts known settings to a block.
     pub fn block(self) -> Block
-        ensures { result ≡ blockFrom self }
+        ensures { result ≡ block_from self }
     {
         let borders = self.borders();
         let titles_alignment = alignment_named(self.titles_alignment);
@@ -258,7 +258,7 @@ impl FlatBlock {
 impl FlatText {
     // Whether every number names a case.
     pub fn is_known(self) -> bool
-        ensures { result ≡ textKnown self }
+        ensures { result ≡ text_known self }
     {
         if any_unnamed(3, &[self.alignment, self.wrap]) {
             return false;
@@ -268,7 +268,7 @@ impl FlatText {
 
     // Returns how lines are composed.
     pub fn named_wrap(self) -> Wrap
-        ensures { result ≡ wrapNamed self }
+        ensures { result ≡ wrap_named self }
     {
         if self.wrap == 0 {
             return Wrap::Off {
@@ -282,7 +282,7 @@ impl FlatText {
 
     // Converts known settings of a text.
     pub fn text_settings(self) -> TextSettings
-        ensures { result ≡ settingsFrom self }
+        ensures { result ≡ settings_from self }
     {
         let alignment = alignment_named(self.alignment);
         let wrap = self.named_wrap();
@@ -299,7 +299,7 @@ impl FlatText {
 
     // Converts known settings of text and block to a notice.
     pub fn notice(self, block: FlatBlock) -> Notice
-        ensures { result ≡ noticeFrom block self }
+        ensures { result ≡ notice_from block self }
     {
         let alignment = alignment_named(self.alignment);
         let wrap = self.named_wrap();
@@ -319,7 +319,7 @@ impl FlatText {
 
 // Whether every number of a notice's settings names a case.
 pub fn all_known(block: FlatBlock, text: FlatText) -> bool
-    ensures { result ≡ (blockKnown block && textKnown text) }
+    ensures { result ≡ (block_known block && text_known text) }
 {
     if block.is_known() {
         return text.is_known();
@@ -329,7 +329,7 @@ pub fn all_known(block: FlatBlock, text: FlatText) -> bool
 
 // Whether every number of a block's settings names a case, and the number of a reading of ambiguous glyphs does.
 pub fn block_and_reading_known(block: FlatBlock, ambiguous: u8) -> bool
-    ensures { result ≡ (blockKnown block && ambiguousKnown ambiguous) }
+    ensures { result ≡ (block_known block && ambiguous_known ambiguous) }
 {
     if block.is_known() {
         return ambiguous_known(ambiguous);

@@ -3,20 +3,20 @@
 use Rattle.std.specs.Prelude.{ℕ}
 use Rattle.layout.specs.declared.Rect.{Rect}
 use Rattle.inner.specs.declared.InnerAnswer.{InnerAnswer}
-use Rattle.inner.specs.Call.{innerAnswerNumber, innerAnswerRect}
+use Rattle.inner.specs.Call.{inner_answer_number, inner_answer_rect}
 use Rattle.list_lines.specs.declared.ListAnswer.{ListAnswer}
-use Rattle.list_lines.specs.Call.{listAnswerNumber, listAnswerCount}
+use Rattle.list_lines.specs.Call.{list_answer_number, list_answer_count}
 use Rattle.tally.specs.declared.TallyCounts.{TallyCounts}
 use Rattle.tally.specs.declared.TallyAnswer.{TallyAnswer}
-use Rattle.tally.specs.Call.{tallyAnswerNumber, tallyAnswerCounts}
+use Rattle.tally.specs.Call.{tally_answer_number, tally_answer_counts}
 use Rattle.measure.specs.declared.MeasureAnswer.{MeasureAnswer}
-use Rattle.measure.specs.Answers.{measureAnswerNumber, measureAnswerValue}
+use Rattle.measure.specs.Answers.{measure_answer_number, measure_answer_value}
 use Rattle.render_lines.specs.declared.DrawCounts.{DrawCounts}
 use Rattle.draw_text.specs.declared.DrawAnswer.{DrawAnswer}
-use Rattle.draw_text.specs.Call.{drawAnswerNumber, drawAnswerCounts}
+use Rattle.draw_text.specs.Call.{draw_answer_number, draw_answer_counts}
 use Rattle.count_pages.specs.declared.PageCounts.{PageCounts}
 use Rattle.count_pages.specs.declared.PagesAnswer.{PagesAnswer}
-use Rattle.count_pages.specs.Call.{pagesAnswerNumber, pagesAnswerCounts}
+use Rattle.count_pages.specs.Call.{pages_answer_number, pages_answer_counts}
 use Rattle.flat_answers.specs.declared.FlatListAnswer.{FlatListAnswer}
 use Rattle.flat_answers.specs.declared.FlatTallyAnswer.{FlatTallyAnswer}
 use Rattle.flat_answers.specs.declared.FlatAreaAnswer.{FlatAreaAnswer}
@@ -25,18 +25,18 @@ use Rattle.flat_answers.specs.declared.FlatMeasureAnswer.{FlatMeasureAnswer}
 use Rattle.flat_answers.specs.declared.FlatPagesAnswer.{FlatPagesAnswer}
 
 -- number returned for a setting whose number names no case
-abbrev pub unknownNumber : ℕ
-unknownNumber = 255
+abbrev pub unknown_number : ℕ
+unknown_number = 255
 
 -- each answer as a flat struct
-unfoldable pub listFlat : ListAnswer → FlatListAnswer
-listFlat answer = record { lines = listAnswerCount answer; number = listAnswerNumber answer }
+unfoldable pub list_flat : ListAnswer → FlatListAnswer
+list_flat answer = record { lines = list_answer_count answer; number = list_answer_number answer }
 
-unfoldable pub tallyFlat : TallyAnswer → FlatTallyAnswer
-tallyFlat answer =
-    let c : TallyCounts = tallyAnswerCounts answer in
+unfoldable pub tally_flat : TallyAnswer → FlatTallyAnswer
+tally_flat answer =
+    let c : TallyCounts = tally_answer_counts answer in
     record {
-      number = tallyAnswerNumber answer;
+      number = tally_answer_number answer;
       lines = c.lines;
       placed = c.placed;
       clipped = c.clipped;
@@ -45,24 +45,24 @@ tallyFlat answer =
       dropped = c.dropped;
     }
 
-unfoldable pub areaFlat : InnerAnswer → FlatAreaAnswer
-areaFlat answer =
-    let r : Rect = innerAnswerRect answer in
-    record { number = innerAnswerNumber answer; x = r.x; y = r.y; width = r.width; height = r.height }
+unfoldable pub area_flat : InnerAnswer → FlatAreaAnswer
+area_flat answer =
+    let r : Rect = inner_answer_rect answer in
+    record { number = inner_answer_number answer; x = r.x; y = r.y; width = r.width; height = r.height }
 
-unfoldable pub drawFlat : DrawAnswer → FlatDrawAnswer
-drawFlat answer =
-    let r : DrawCounts = drawAnswerCounts answer in
-    record { number = drawAnswerNumber answer; rows = r.rows; placed = r.placed; clipped = r.clipped }
+unfoldable pub draw_flat : DrawAnswer → FlatDrawAnswer
+draw_flat answer =
+    let r : DrawCounts = draw_answer_counts answer in
+    record { number = draw_answer_number answer; rows = r.rows; placed = r.placed; clipped = r.clipped }
 
-unfoldable pub measureFlat : MeasureAnswer → FlatMeasureAnswer
-measureFlat answer = record { number = measureAnswerNumber answer; value = measureAnswerValue answer }
+unfoldable pub measure_flat : MeasureAnswer → FlatMeasureAnswer
+measure_flat answer = record { number = measure_answer_number answer; value = measure_answer_value answer }
 
-unfoldable pub pagesFlat : PagesAnswer → FlatPagesAnswer
-pagesFlat answer =
-    let c : PageCounts = pagesAnswerCounts answer in
+unfoldable pub pages_flat : PagesAnswer → FlatPagesAnswer
+pages_flat answer =
+    let c : PageCounts = pages_answer_counts answer in
     record {
-      number = pagesAnswerNumber answer;
+      number = pages_answer_number answer;
       x = c.inner.x;
       y = c.inner.y;
       width = c.inner.width;
@@ -72,21 +72,21 @@ pagesFlat answer =
     }
 
 -- the answers to a setting whose number names no case
-abbrev pub listUnknown : FlatListAnswer
-listUnknown = record { lines = 0; number = unknownNumber }
+abbrev pub list_unknown : FlatListAnswer
+list_unknown = record { lines = 0; number = unknown_number }
 
-abbrev pub tallyUnknown : FlatTallyAnswer
-tallyUnknown =
-    record { number = unknownNumber; lines = 0; placed = 0; clipped = 0; zero_width = 0; over_wide = 0; dropped = 0 }
+abbrev pub tally_unknown : FlatTallyAnswer
+tally_unknown =
+    record { number = unknown_number; lines = 0; placed = 0; clipped = 0; zero_width = 0; over_wide = 0; dropped = 0 }
 
-abbrev pub areaUnknown : FlatAreaAnswer
-areaUnknown = record { number = unknownNumber; x = 0; y = 0; width = 0; height = 0 }
+abbrev pub area_unknown : FlatAreaAnswer
+area_unknown = record { number = unknown_number; x = 0; y = 0; width = 0; height = 0 }
 
-abbrev pub drawUnknown : FlatDrawAnswer
-drawUnknown = record { number = unknownNumber; rows = 0; placed = 0; clipped = 0 }
+abbrev pub draw_unknown : FlatDrawAnswer
+draw_unknown = record { number = unknown_number; rows = 0; placed = 0; clipped = 0 }
 
-abbrev pub measureUnknown : FlatMeasureAnswer
-measureUnknown = record { number = unknownNumber; value = 0 }
+abbrev pub measure_unknown : FlatMeasureAnswer
+measure_unknown = record { number = unknown_number; value = 0 }
 
-abbrev pub pagesUnknown : FlatPagesAnswer
-pagesUnknown = record { number = unknownNumber; x = 0; y = 0; width = 0; height = 0; lines = 0; pages = 0 }
+abbrev pub pages_unknown : FlatPagesAnswer
+pages_unknown = record { number = unknown_number; x = 0; y = 0; width = 0; height = 0; lines = 0; pages = 0 }

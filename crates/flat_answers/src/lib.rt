@@ -1,7 +1,7 @@
 // The calls' answers as flat structs, for callers without enums.
 ghost use Rattle.std.specs.Prelude.{◌≡◌};
-ghost use Rattle.draw_block.specs.Call.{blockAnswerNumber};
-ghost use Rattle.flat_answers.specs.AnswerExtra.{listFlat, tallyFlat, areaFlat, drawFlat, measureFlat, pagesFlat};
+ghost use Rattle.draw_block.specs.Call.{block_answer_number};
+ghost use Rattle.flat_answers.specs.AnswerExtra.{list_flat, tally_flat, area_flat, draw_flat, measure_flat, pages_flat};
 
 use notice::{
     BlockAnswer, DrawAnswer, InnerAnswer, ListAnswer, MeasureAnswer, PagesAnswer, TallyAnswer,
@@ -71,7 +71,7 @@ pub struct FlatPagesAnswer {
 }
 
 pub fn list_answer(listed: ListAnswer) -> FlatListAnswer
-    ensures { result ≡ listFlat listed }
+    ensures { result ≡ list_flat listed }
 {
     match listed {
         ListAnswer::Written(lines) => FlatListAnswer { lines, number: 0 },
@@ -83,7 +83,7 @@ pub fn list_answer(listed: ListAnswer) -> FlatListAnswer
 }
 
 pub fn tally_answer(tallied: TallyAnswer) -> FlatTallyAnswer
-    ensures { result ≡ tallyFlat tallied }
+    ensures { result ≡ tally_flat tallied }
 {
     match tallied {
         TallyAnswer::Counted(counts) => FlatTallyAnswer {
@@ -108,7 +108,7 @@ pub fn tally_answer(tallied: TallyAnswer) -> FlatTallyAnswer
 }
 
 pub fn area_answer(inner: InnerAnswer) -> FlatAreaAnswer
-    ensures { result ≡ areaFlat inner }
+    ensures { result ≡ area_flat inner }
 {
     match inner {
         InnerAnswer::Area(area) => FlatAreaAnswer {
@@ -129,7 +129,7 @@ pub fn area_answer(inner: InnerAnswer) -> FlatAreaAnswer
 }
 
 pub fn framed_number(framed: BlockAnswer) -> u32
-    ensures { result ≡ blockAnswerNumber framed }
+    ensures { result ≡ block_answer_number framed }
 {
     match framed {
         BlockAnswer::Done => 0,
@@ -138,7 +138,7 @@ pub fn framed_number(framed: BlockAnswer) -> u32
 }
 
 pub fn draw_answer(drawn: DrawAnswer) -> FlatDrawAnswer
-    ensures { result ≡ drawFlat drawn }
+    ensures { result ≡ draw_flat drawn }
 {
     match drawn {
         DrawAnswer::Counts(rows) => FlatDrawAnswer {
@@ -157,7 +157,7 @@ pub fn draw_answer(drawn: DrawAnswer) -> FlatDrawAnswer
 }
 
 pub fn measure_answer(measured: MeasureAnswer) -> FlatMeasureAnswer
-    ensures { result ≡ measureFlat measured }
+    ensures { result ≡ measure_flat measured }
 {
     match measured {
         MeasureAnswer::Value(value) => FlatMeasureAnswer { number: 0, value },
@@ -169,7 +169,7 @@ pub fn measure_answer(measured: MeasureAnswer) -> FlatMeasureAnswer
 }
 
 pub fn pages_answer(counted: PagesAnswer) -> FlatPagesAnswer
-    ensures { result ≡ pagesFlat counted }
+    ensures { result ≡ pages_flat counted }
 {
     match counted {
         PagesAnswer::Pages(counts) => FlatPagesAnswer {

@@ -3,11 +3,11 @@ use Rattle.std.specs.Prelude.{ℕ, List}
 use Rattle.layout.specs.declared.Rect.{Rect}
 use Rattle.refuse.specs.declared.Ceilings.{Ceilings}
 use Rattle.refuse.specs.declared.Verdict.{Verdict}
-use Rattle.refuse.specs.Refusal.{Cause, firstCause, refusalNumber, answering, unlessRefused}
-use Rattle.refuse.specs.Causes.{mostAccepted}
+use Rattle.refuse.specs.Refusal.{Cause, first_cause, refusal_number, answering, unless_refused}
+use Rattle.refuse.specs.Causes.{most_accepted}
 use Rattle.block.specs.declared.Block.{Block}
 use Rattle.block.specs.Inner.{inner_of}
-use Rattle.check_block.specs.Causes.{frameCauses}
+use Rattle.check_block.specs.Causes.{frame_causes}
 use Rattle.inner.specs.declared.InnerAnswer.{InnerAnswer}
 use Rattle.inner.specs.declared.InnerAnswer.TheVariants.{Area, Refused}
 
@@ -21,28 +21,28 @@ abbrev pub call_of : Block → List ℕ → Rect → Call
 call_of block titles area = record { block = block; titles = titles; area = area }
 
 -- causes: 5, 7
-unfoldable pub causesOf : Ceilings → Call → List Cause
-causesOf most call = frameCauses most call.titles call.block
+unfoldable pub causes_of : Ceilings → Call → List Cause
+causes_of most call = frame_causes most call.titles call.block
 
-unfoldable pub verdictOf : Call → Verdict
-verdictOf call = firstCause (causesOf mostAccepted call)
+unfoldable pub verdict_of : Call → Verdict
+verdict_of call = first_cause (causes_of most_accepted call)
 
 -- answer: the inner area, or the cause of refusal
 unfoldable pub answer_of : Call → InnerAnswer
-answer_of call = answering Area Refused (verdictOf call) (inner_of call.block call.titles call.area)
+answer_of call = answering Area Refused (verdict_of call) (inner_of call.block call.titles call.area)
 
 -- area of a refused call: four zeros, as its counts are
-abbrev pub noRect : Rect
-noRect = record { x = 0; y = 0; width = 0; height = 0 }
+abbrev pub no_rect : Rect
+no_rect = record { x = 0; y = 0; width = 0; height = 0 }
 
 -- number of an answer, 0 if the call is accepted, and its area
-abbrev pub innerAnswerNumber : InnerAnswer → ℕ
-innerAnswerNumber (Area area) = 0
-innerAnswerNumber (Refused why) = refusalNumber why
+abbrev pub inner_answer_number : InnerAnswer → ℕ
+inner_answer_number (Area area) = 0
+inner_answer_number (Refused why) = refusal_number why
 
-abbrev pub innerAnswerRect : InnerAnswer → Rect
-innerAnswerRect (Area area) = area
-innerAnswerRect (Refused why) = noRect
+abbrev pub inner_answer_rect : InnerAnswer → Rect
+inner_answer_rect (Area area) = area
+inner_answer_rect (Refused why) = no_rect
 
-unfoldable pub areaOf : Call → Rect
-areaOf call = unlessRefused (verdictOf call) (inner_of call.block call.titles call.area) noRect
+unfoldable pub area_of : Call → Rect
+area_of call = unless_refused (verdict_of call) (inner_of call.block call.titles call.area) no_rect

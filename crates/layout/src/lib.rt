@@ -1,6 +1,6 @@
 // Rectangles of cells: `Rect` of ratatui-core.
 ghost use Rattle.std.specs.Prelude.{◌≡◌, ◌<◌, ◌^◌};
-ghost use Rattle.layout.specs.Rect.{rightOf, bottomOf, meet, is_empty, within, contains, moved, offsetBy};
+ghost use Rattle.layout.specs.Rect.{right_of, bottom_of, meet, is_empty, within, contains, moved, offset_by};
 ghost use Rattle.layout.specs.BiasedExtra.{biased};
 
 #[derive(Drop)]
@@ -14,14 +14,14 @@ pub struct Rect {
 impl Rect {
     // Returns x + width, saturating at 65,535.
     pub fn right(self) -> u16
-        ensures { result ≡ rightOf self }
+        ensures { result ≡ right_of self }
     {
         num::saturating_add(self.x, self.width)
     }
 
     // Returns y + height, saturating at 65,535.
     pub fn bottom(self) -> u16
-        ensures { result ≡ bottomOf self }
+        ensures { result ≡ bottom_of self }
     {
         num::saturating_add(self.y, self.height)
     }
@@ -60,7 +60,7 @@ impl Rect {
 
     // Moves the rectangle by a signed offset, clamping x from 0 to 65,535 less width, and y from 0 to 65,535 less height.
     pub fn offset(self, x: i32, y: i32) -> Rect
-        ensures { result ≡ offsetBy self x y }
+        ensures { result ≡ offset_by self x y }
     {
         Rect {
             x: move_by(self.x, x, 65535 - self.width),

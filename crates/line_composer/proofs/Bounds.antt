@@ -7,16 +7,16 @@ use native.Mathlib.Omega.{arith}
 use lib.ListN.{length, length-append, length-map}
 use Rattle.text.specs.declared.Alignment.{Alignment}
 use Rattle.text.specs.declared.AmbiguousWidth.{AmbiguousWidth}
-use Rattle.text.specs.Record.{isHead, alignmentOf}
+use Rattle.text.specs.Record.{is_head, alignment_of}
 use Rattle.text.specs.Alignment.{resolved}
-use Rattle.text.specs.Line.{Glyph, TextLine, numbered, untilHead, lines_from, glyphsOf, total}
+use Rattle.text.specs.Line.{Glyph, TextLine, numbered, until_head, lines_from, glyphs_of, total}
 use Rattle.wrapping.specs.declared.Rule.{Rule}
 use Rattle.wrapping.specs.Wrapping.{wrap}
 use Rattle.nothing_lost.specs.Glyphs.{NoWider, none, one}
 use Rattle.nothing_lost.proofs.Bounds.{any_cells, numbered-widths}
 use Rattle.nothing_lost.proofs.Few.{lines-few}
 use Rattle.line_composer.specs.declared.Method.TheVariants.{WordWrap}
-use Rattle.line_composer.specs.Lines.{Line, aligned, lines_of, lineLines, allLines, lines}
+use Rattle.line_composer.specs.Lines.{Line, aligned, lines_of, line_lines, all_lines, lines}
 
 -- no line is wider than `most`
 abbrev pub Narrow : ℕ → List Line → Type 0
@@ -31,12 +31,12 @@ narrow-aligned : {most : ℕ} {ls : List (List Glyph)} (a : Alignment) → NoWid
 narrow-aligned a none = tt
 narrow-aligned a (one h rest) = (h, narrow-aligned a rest)
 
-narrow-all : (u : Rule) (default : Alignment) (ls : List TextLine) → Narrow (u.limit + 11) (allLines u WordWrap default ls)
-unfolding lineLines lines_of
+narrow-all : (u : Rule) (default : Alignment) (ls : List TextLine) → Narrow (u.limit + 11) (all_lines u WordWrap default ls)
+unfolding line_lines lines_of
 narrow-all u default [] = tt
 narrow-all u default (l ∷ ls) =
-    narrow-append (u.limit + 11) (lineLines u WordWrap default l) (allLines u WordWrap default ls)
-    (narrow-aligned (resolved (alignmentOf l.head) default) (any_cells u (glyphsOf u.ambiguous l) (numbered-widths u.ambiguous l.first l.records)))
+    narrow-append (u.limit + 11) (line_lines u WordWrap default l) (all_lines u WordWrap default ls)
+    (narrow-aligned (resolved (alignment_of l.head) default) (any_cells u (glyphs_of u.ambiguous l) (numbered-widths u.ambiguous l.first l.records)))
     (narrow-all u default ls)
 
 pub narrow-lines : (u : Rule) (default : Alignment) (text : List ℕ) → Narrow (u.limit + 11) (lines u WordWrap default text)
@@ -47,28 +47,28 @@ numbered-length : (a : AmbiguousWidth) (number : ℕ) (rs : List ℕ) → length
 numbered-length a number [] = refl
 numbered-length a number (r ∷ rs) = omega (arith, numbered-length a (suc number) rs)
 
-line-short : (u : Rule) (default : Alignment) (l : TextLine) → length (lineLines u WordWrap default l) ≤ suc (length l.records)
-unfolding lineLines lines_of
+line-short : (u : Rule) (default : Alignment) (l : TextLine) → length (line_lines u WordWrap default l) ≤ suc (length l.records)
+unfolding line_lines lines_of
 line-short u default l =
     omega (
       arith,
-      length-map (wrap u (glyphsOf u.ambiguous l)).lines (aligned (resolved (alignmentOf l.head) default)),
-      lines-few u (glyphsOf u.ambiguous l),
+      length-map (wrap u (glyphs_of u.ambiguous l)).lines (aligned (resolved (alignment_of l.head) default)),
+      lines-few u (glyphs_of u.ambiguous l),
       numbered-length u.ambiguous l.first l.records,
     )
 
 -- at most one line for each head and each glyph
-all_short : (u : Rule) (default : Alignment) (i : ℕ) (rs : List ℕ) → length (allLines u WordWrap default (lines_from i rs)) + length (untilHead rs) ≤ length rs
+all_short : (u : Rule) (default : Alignment) (i : ℕ) (rs : List ℕ) → length (all_lines u WordWrap default (lines_from i rs)) + length (until_head rs) ≤ length rs
 all_short u default i [] = omega arith
-all_short u default i (r ∷ rs) = go (isHead r) (all_short u default (suc i) rs)
+all_short u default i (r ∷ rs) = go (is_head r) (all_short u default (suc i) rs)
   where
-    go : (b : Bool) → length (allLines u WordWrap default (lines_from (suc i) rs)) + length (untilHead rs) ≤ length rs
-        → length (allLines u WordWrap default (cond b (record { head = r; first = suc i; records = untilHead rs } ∷ lines_from (suc i) rs) (lines_from (suc i) rs))) + length (cond b [] (r ∷ untilHead rs)) ≤ suc (length rs)
+    go : (b : Bool) → length (all_lines u WordWrap default (lines_from (suc i) rs)) + length (until_head rs) ≤ length rs
+        → length (all_lines u WordWrap default (cond b (record { head = r; first = suc i; records = until_head rs } ∷ lines_from (suc i) rs) (lines_from (suc i) rs))) + length (cond b [] (r ∷ until_head rs)) ≤ suc (length rs)
     go true h =
         omega (
           arith,
-          length-append (lineLines u WordWrap default (record { head = r; first = suc i; records = untilHead rs })) (allLines u WordWrap default (lines_from (suc i) rs)),
-          line-short u default (record { head = r; first = suc i; records = untilHead rs }),
+          length-append (line_lines u WordWrap default (record { head = r; first = suc i; records = until_head rs })) (all_lines u WordWrap default (lines_from (suc i) rs)),
+          line-short u default (record { head = r; first = suc i; records = until_head rs }),
         )
     go false h = omega arith
 

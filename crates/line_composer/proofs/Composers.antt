@@ -11,40 +11,40 @@ use Rattle.word_wrapper.specs.declared.WordWrapper.{WordWrapper}
 use Rattle.word_wrapper.specs.declared.NextRun.{NextRun}
 use Rattle.word_wrapper.specs.declared.NextRun.TheVariants.{OneRun, Done}
 use Rattle.wrapping.specs.RunsExtra.{run_of, Spans}
-use Rattle.word_wrapper.specs.StepsExtra.{closeRun}
+use Rattle.word_wrapper.specs.StepsExtra.{close_run}
 use Rattle.word_wrapper.specs.PullsExtra.{WrapperInvariant, pulled, PulledRun}
-use Rattle.line_truncator.specs.Truncation.{offset_of, shownFrom}
+use Rattle.line_truncator.specs.Truncation.{offset_of, shown_from}
 use Rattle.line_truncator.proofs.Truncated.{shown_read}
 use Rattle.line_composer.specs.declared.Method.{Method}
 use Rattle.line_composer.specs.declared.Method.TheVariants.{WordWrap, Truncate}
-use Rattle.line_composer.specs.ComposersExtra.{lineRuns, MethodInvariant, PulledMethodRun}
+use Rattle.line_composer.specs.ComposersExtra.{line_runs, MethodInvariant, PulledMethodRun}
 
 module _ (u : Rule) (a : Alignment) (records : List ℕ) (w : WordWrapper) where
   wrapped-pulled : (next : NextRun) → PulledRun u records w next → PulledMethodRun u WordWrap a records w next
-  unfolding lineRuns pulled
+  unfolding line_runs pulled
   wrapped-pulled (OneRun run n) p = record { lines = p.lines; sound = p.sound }
   wrapped-pulled Done p = record { lines = p.lines; sound = tt }
 
   module _ (method : Method) where
     -- wrapping
     module _ (e : method ≡ WordWrap) where
-      pub wrapping-sound : MethodInvariant u method records w → WrapperInvariant u records w
-      wrapping-sound h = rw e at h
+      pub wrapping_sound : MethodInvariant u method records w → WrapperInvariant u records w
+      wrapping_sound h = rw e at h
 
-      pub wrapping-next : (next : NextRun) → PulledRun u records w next → PulledMethodRun u method a records w next
-      wrapping-next next p = rw e (wrapped-pulled next p)
+      pub wrapping_next : (next : NextRun) → PulledRun u records w next → PulledMethodRun u method a records w next
+      wrapping_next next p = rw e (wrapped-pulled next p)
 
     -- truncating
     module _ (column : ℕ) (e : method ≡ Truncate column) where
-      pub truncating-line : w.live ≡ true → (run : Run) → run ≡ run_of (shownFrom u (offset_of column a) 0 (numbered u.ambiguous 0 records))
-          → (n : WordWrapper) → n ≡ closeRun w → PulledMethodRun u method a records w (OneRun run n)
-      unfolding lineRuns closeRun
-      truncating-line l run f n g =
+      pub truncating_line : w.live ≡ true → (run : Run) → run ≡ run_of (shown_from u (offset_of column a) 0 (numbered u.ambiguous 0 records))
+          → (n : WordWrapper) → n ≡ close_run w → PulledMethodRun u method a records w (OneRun run n)
+      unfolding line_runs close_run
+      truncating_line l run f n g =
           let spans : Spans u records run = rw f (shown_read u (offset_of column a) records).spans in
           rw (e, g) (record { lines = rw (l, f); sound = (tt, spans) })
 
-      pub truncating-done : w.live ≡ false → PulledMethodRun u method a records w Done
-      unfolding lineRuns
-      truncating-done l = rw e (record { lines = rw l; sound = tt })
+      pub truncating_done : w.live ≡ false → PulledMethodRun u method a records w Done
+      unfolding line_runs
+      truncating_done l = rw e (record { lines = rw l; sound = tt })
 
-pub ruleset pulling-lines = (wrapping-sound, wrapping-next, truncating-line, truncating-done)
+pub ruleset pulling-lines = (wrapping_sound, wrapping_next, truncating_line, truncating_done)

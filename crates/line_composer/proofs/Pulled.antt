@@ -14,38 +14,38 @@ use Rattle.line_composer.specs.declared.NextLine.{NextLine}
 use Rattle.line_composer.specs.declared.NextLine.TheVariants.{OneLine, Done}
 use Rattle.line_composer.specs.declared.Method.{Method}
 use Rattle.line_composer.specs.Lines.{Line, aligned, line_at}
-use Rattle.line_composer.specs.Marks.{MarkedLine, withMark, markedLines}
-use Rattle.line_composer.specs.ComposingExtra.{linesLeft, markedLeft, Ready, Started, ReadsBack, PulledLine}
+use Rattle.line_composer.specs.Marks.{MarkedLine, with_mark, marked_lines}
+use Rattle.line_composer.specs.ComposingExtra.{remaining_lines, remaining_marked, Ready, Started, ReadsBack, PulledLine}
 
 module _ (u : Rule) (default : Alignment) (text : List ℕ) (c : LineComposer) (o : NextLine) (p : PulledLine u default text c o) where
   module _ (line : WrappedLine) (d : LineComposer) (e : o ≡ OneLine line d) where
-    pub pulled-left : linesLeft u default text c ≡ line_at u text line ∷ linesLeft u default text d
+    pub pulled-left : remaining_lines u default text c ≡ line_at u text line ∷ remaining_lines u default text d
     pulled-left = rw e at p.pulled-lines
 
     pub pulled-ready : Ready u text d
     pulled-ready = (rw e at p.ready).0
 
-    pub pulled-reads-back : ReadsBack u text line
-    pulled-reads-back = (rw e at p.ready).1
+    pub pulled_reads_back : ReadsBack u text line
+    pulled_reads_back = (rw e at p.ready).1
 
     -- the line returned before it is the last of its text line if this one is of another
-    pub pulled-mark : (before : Line) → markedLeft u default text before c ≡ withMark before (not (eqb d.from c.from)) ∷ markedLeft u default text (line_at u text line) d
+    pub pulled-mark : (before : Line) → remaining_marked u default text before c ≡ with_mark before (not (eqb d.from c.from)) ∷ remaining_marked u default text (line_at u text line) d
     pulled-mark before = rw e at (p.pulled-marked before)
 
-  pub none_left : o ≡ Done → linesLeft u default text c ≡ []
+  pub none_left : o ≡ Done → remaining_lines u default text c ≡ []
   none_left e = rw e at p.pulled-lines
 
-  pub last-marked : o ≡ Done → (before : Line) → markedLeft u default text before c ≡ withMark before true ∷ []
+  pub last-marked : o ≡ Done → (before : Line) → remaining_marked u default text before c ≡ with_mark before true ∷ []
   last-marked e before = rw e at (p.pulled-marked before)
 
   -- the first line of the text, or none
   module _ (method : Method) (s : Started u method text c) where
-    pub marked-from-first : (line : WrappedLine) (d : LineComposer) → o ≡ OneLine line d → markedLeft u default text (line_at u text line) d ≡ markedLines u method default text
+    pub marked-from-first : (line : WrappedLine) (d : LineComposer) → o ≡ OneLine line d → remaining_marked u default text (line_at u text line) d ≡ marked_lines u method default text
     marked-from-first line d e =
         let none : Line = aligned Left [] in
         ap (drop {A = MarkedLine} 1) (sym (pulled-mark line d e none) ∙ s.marked-left default none)
 
-    pub nothing-marked : o ≡ Done → markedLines u method default text ≡ []
+    pub nothing-marked : o ≡ Done → marked_lines u method default text ≡ []
     nothing-marked e =
         let none : Line = aligned Left [] in
         ap (drop {A = MarkedLine} 1) (sym (s.marked-left default none) ∙ last-marked e none)

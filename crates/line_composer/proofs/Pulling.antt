@@ -16,39 +16,39 @@ use Rattle.wrapping.specs.declared.Rule.{Rule}
 use Rattle.word_wrapper.specs.declared.WordWrapper.{WordWrapper}
 use Rattle.word_wrapper.specs.declared.NextRun.{NextRun}
 use Rattle.word_wrapper.specs.declared.NextRun.TheVariants.{OneRun, Done as NoLine}
-use Rattle.word_wrapper.specs.StepsExtra.{newWrapper, closeRun}
+use Rattle.word_wrapper.specs.StepsExtra.{new_wrapper, close_run}
 use Rattle.wrapping.specs.RunsExtra.{Spans}
 use Rattle.line_composer.specs.declared.Method.{Method}
 use Rattle.line_composer.specs.declared.WrappedLine.{WrappedLine}
 use Rattle.line_composer.specs.declared.LineComposer.{LineComposer}
 use Rattle.line_composer.specs.declared.NextLine.TheVariants.{OneLine as Pulls, Done}
-use Rattle.line_composer.specs.Lines.{Line, allLines, lines, line_at}
-use Rattle.line_composer.specs.Marks.{MarkedLine, withMark, marked, allMarked, markedLines}
-use Rattle.line_composer.specs.ComposingExtra.{part, lineOfRun, currentLeft, laterLines, linesLeft, markedLeft, Ready, Opened, Started, PulledLine}
-use Rattle.line_composer.specs.ComposersExtra.{lineRuns, MethodInvariant, PulledMethodRun}
-use Rattle.line_composer.proofs.Methods.{starts-sound, closed_none, closed-sound}
-use Rattle.line_composer.proofs.RunLines.{converted-reads-back}
-use Rattle.line_composer.proofs.Opening.{OpenedInText, opened-more, opened-ready, opened-left, markedFrom, opened-marked}
+use Rattle.line_composer.specs.Lines.{Line, all_lines, lines, line_at}
+use Rattle.line_composer.specs.Marks.{MarkedLine, with_mark, marked, all_marked, marked_lines}
+use Rattle.line_composer.specs.ComposingExtra.{part, line_of_run, current_left, later_lines, remaining_lines, remaining_marked, Ready, Opened, Started, PulledLine}
+use Rattle.line_composer.specs.ComposersExtra.{line_runs, MethodInvariant, PulledMethodRun}
+use Rattle.line_composer.proofs.Methods.{starts-sound, closed_none, closed_sound}
+use Rattle.line_composer.proofs.RunLines.{converted_reads_back}
+use Rattle.line_composer.proofs.Opening.{OpenedInText, opened_more, opened-ready, opened-left, marked_from, opened-marked}
 
 -- the remaining lines with their marks, after the line `before` of the initial state s: `before` is the last of its text line if the
 -- state c is in another one
 unfoldable pub waiting : Rule → Alignment → List ℕ → LineComposer → Line → LineComposer → List MarkedLine
 waiting u default text s before c =
     cond (eqb c.from s.from)
-    (markedLeft u default text before c)
-    (withMark before true ∷ markedFrom u default text c)
+    (remaining_marked u default text before c)
+    (with_mark before true ∷ marked_from u default text c)
 
 -- Loop invariant: before each turn, the state c meets its invariant and has the remaining lines of the initial state s. It is in the text
 -- line of s, or in a later one, and by that the marks of the remaining lines are those of s.
 pub record Composing (u : Rule) (default : Alignment) (text : List ℕ) (s c : LineComposer) : Type 0 where
   pub ready : Ready u text c
-  pub same : linesLeft u default text s ≡ linesLeft u default text c
+  pub same : remaining_lines u default text s ≡ remaining_lines u default text c
   pub forward : s.from ≤ c.from
-  pub same-marked : (before : Line) → markedLeft u default text before s ≡ waiting u default text s before c
+  pub same-marked : (before : Line) → remaining_marked u default text before s ≡ waiting u default text s before c
 
-pub composing-starts : (u : Rule) (default : Alignment) (text : List ℕ) (s : LineComposer) → Ready u text s → Composing u default text s s
+pub composing_starts : (u : Rule) (default : Alignment) (text : List ℕ) (s : LineComposer) → Ready u text s → Composing u default text s s
 unfolding waiting
-composing-starts u default text s r =
+composing_starts u default text s r =
     record { ready = r; same = refl; forward = omega arith; same-marked = λ before. rw (eq-eqb s.from s.from refl) }
 
 part_length : (from to : ℕ) (text : List ℕ) → length (take (to - from) (drop from text)) ≤ length text - from
@@ -59,12 +59,12 @@ part-short from to text h = omega (arith, part_length from to text)
 
 -- The current text line has another line, or none; `before` is of it if `same` is true, else of an earlier one.
 mark-line : (same : Bool) (before line : Line) (rest : List Line) (later : List MarkedLine)
-    → cond same (marked (before ∷ line ∷ rest) ++ later) (withMark before true ∷ (marked (line ∷ rest) ++ later)) ≡ withMark before (not same) ∷ (marked (line ∷ rest) ++ later)
+    → cond same (marked (before ∷ line ∷ rest) ++ later) (with_mark before true ∷ (marked (line ∷ rest) ++ later)) ≡ with_mark before (not same) ∷ (marked (line ∷ rest) ++ later)
 mark-line true before line rest later = refl
 mark-line false before line rest later = refl
 
 mark-last : (same : Bool) (before : Line) (later : List MarkedLine)
-    → cond same (marked (before ∷ []) ++ later) (withMark before true ∷ (marked [] ++ later)) ≡ withMark before true ∷ later
+    → cond same (marked (before ∷ []) ++ later) (with_mark before true ∷ (marked [] ++ later)) ≡ with_mark before true ∷ later
 mark-last true before later = refl
 mark-last false before later = refl
 
@@ -82,75 +82,75 @@ module _ (u : Rule) (default : Alignment) (text : List ℕ) (s c : LineComposer)
     pub end_fits : length text < 2 ^ 28 → c.from + run.end < 2 ^ 64
     end_fits h = omega (arith, spans.within, part_length c.from c.to text, p.ready.from-to, p.ready.to_end)
 
-    pub pull-line : (line : WrappedLine) → line ≡ lineOfRun c.from c.alignment run
+    pub pull_line : (line : WrappedLine) → line ≡ line_of_run c.from c.alignment run
         → PulledLine u default text s (Pulls line (record { method = c.method; wrapper = n; from = c.from; to = c.to; alignment = c.alignment }))
-    unfolding linesLeft markedLeft waiting
-    pull-line line f =
-        let r : lineRuns u c.method c.alignment (part text c) c.wrapper ≡ run ∷ lineRuns u c.method c.alignment (part text c) n = rw e at q.lines in
+    unfolding remaining_lines remaining_marked waiting
+    pull_line line f =
+        let r : line_runs u c.method c.alignment (part text c) c.wrapper ≡ run ∷ line_runs u c.method c.alignment (part text c) n = rw e at q.lines in
         let d : LineComposer = record { method = c.method; wrapper = n; from = c.from; to = c.to; alignment = c.alignment } in
         record {
           pulled-lines = p.same ∙ rw (r, f);
           pulled-marked = λ before.
               p.same-marked before
               ∙ rw (r, f)
-              (mark-line (eqb c.from s.from) before (line_at u text (lineOfRun c.from c.alignment run)) (currentLeft u text d) (allMarked u c.method default (laterLines text d)));
+              (mark-line (eqb c.from s.from) before (line_at u text (line_of_run c.from c.alignment run)) (current_left u text d) (all_marked u c.method default (later_lines text d)));
           ready = (
             record { from-to = p.ready.from-to; to_end = p.ready.to_end; sound = sound.0; head = p.ready.head },
-            rw f (converted-reads-back u text c.from c.to c.alignment run spans),
+            rw f (converted_reads_back u text c.from c.to c.alignment run spans),
           );
         }
 
   module _ (e : o ≡ NoLine) where
-    later-left : linesLeft u default text c ≡ allLines u c.method default (laterLines text c)
-    unfolding linesLeft
-    later-left = let r : lineRuns u c.method c.alignment (part text c) c.wrapper ≡ [] = rw e at q.lines in rw r
+    later-left : remaining_lines u default text c ≡ all_lines u c.method default (later_lines text c)
+    unfolding remaining_lines
+    later-left = let r : line_runs u c.method c.alignment (part text c) c.wrapper ≡ [] = rw e at q.lines in rw r
 
-    later-marked : (before : Line) → waiting u default text s before c ≡ withMark before true ∷ allMarked u c.method default (laterLines text c)
-    unfolding markedLeft waiting
+    later-marked : (before : Line) → waiting u default text s before c ≡ with_mark before true ∷ all_marked u c.method default (later_lines text c)
+    unfolding remaining_marked waiting
     later-marked before =
-        let r : lineRuns u c.method c.alignment (part text c) c.wrapper ≡ [] = rw e at q.lines in
-        rw r (mark-last (eqb c.from s.from) before (allMarked u c.method default (laterLines text c)))
+        let r : line_runs u c.method c.alignment (part text c) c.wrapper ≡ [] = rw e at q.lines in
+        rw r (mark-last (eqb c.from s.from) before (all_marked u c.method default (later_lines text c)))
 
-    pub pull-done : length text ≤ c.to → PulledLine u default text s Done
-    pull-done h =
+    pub pull_done : length text ≤ c.to → PulledLine u default text s Done
+    pull_done h =
         let z : drop c.to text ≡ [] = drop_of_length-le text h in
         record {
-          pulled-lines = p.same ∙ later-left ∙ ap (λ (l : List ℕ). allLines u c.method default (lines_from c.to l)) z;
+          pulled-lines = p.same ∙ later-left ∙ ap (λ (l : List ℕ). all_lines u c.method default (lines_from c.to l)) z;
           pulled-marked = λ before.
-              p.same-marked before ∙ later-marked before ∙ ap (λ (l : List ℕ). withMark before true ∷ allMarked u c.method default (lines_from c.to l)) z;
+              p.same-marked before ∙ later-marked before ∙ ap (λ (l : List ℕ). with_mark before true ∷ all_marked u c.method default (lines_from c.to l)) z;
           ready = tt;
         }
 
     module _ (n : LineComposer) (k : c.to < length text) (f : Opened u c.method default text c.to n) where
-      opened-next : OpenedInText u c.method default text c.to n
-      opened-next = record { in-text = k; at_head = record { within = p.ready.to_end; head = p.ready.head }; opened = f }
+      opened_next : OpenedInText u c.method default text c.to n
+      opened_next = record { in_text = k; at_head = record { within = p.ready.to_end; head = p.ready.head }; opened = f }
 
-      pub composing-opens : Composing u default text s n
+      pub composing_opens : Composing u default text s n
       unfolding waiting
-      composing-opens =
+      composing_opens =
           let further : n.from ≡ s.from → ⊥ = λ k. omega (arith, f.from, p.forward, p.ready.from-to) in
           record {
-            ready = opened-ready u c.method default text c.to n opened-next;
-            same = p.same ∙ later-left ∙ sym (opened-left u c.method default text c.to n opened-next);
+            ready = opened-ready u c.method default text c.to n opened_next;
+            same = p.same ∙ later-left ∙ sym (opened-left u c.method default text c.to n opened_next);
             forward = omega (arith, f.from, p.forward, p.ready.from-to);
             same-marked = λ before.
                 p.same-marked before ∙ later-marked before
-                ∙ rw (ne_eqb n.from s.from further, opened-marked u c.method default text c.to n opened-next);
+                ∙ rw (ne_eqb n.from s.from further, opened-marked u c.method default text c.to n opened_next);
           }
 
-      pub composing-less : length text - n.to < length text - c.to
-      composing-less = omega (arith, opened-more u c.method default text c.to n opened-next)
+      pub composing_less : length text - n.to < length text - c.to
+      composing_less = omega (arith, opened_more u c.method default text c.to n opened_next)
 
-pub ruleset composing = (composing-starts, pull-line, pull-done, composing-opens, composing-less)
+pub ruleset composing = (composing_starts, pull_line, pull_done, composing_opens, composing_less)
 
 -- the state before a text's first line is at the end of a text line without remaining lines
-pub started : (u : Rule) (method : Method) (text : List ℕ) (w n : WordWrapper) → n ≡ newWrapper u → w ≡ closeRun n → Opens text
+pub started : (u : Rule) (method : Method) (text : List ℕ) (w n : WordWrapper) → n ≡ new_wrapper u → w ≡ close_run n → Opens text
     → Started u method text (record { method = method; wrapper = w; from = 0; to = 0; alignment = Left })
-unfolding linesLeft lines markedLeft markedLines
+unfolding remaining_lines lines remaining_marked marked_lines
 started u method text w n e f h =
-    let z : lineRuns u method Left (take (0 - 0) (drop 0 text)) w ≡ [] = rw f (closed_none u _ n method Left) in
+    let z : line_runs u method Left (take (0 - 0) (drop 0 text)) w ≡ [] = rw f (closed_none u _ n method Left) in
     record {
-      ready = record { from-to = omega arith; to_end = omega arith; sound = rw f (closed-sound u _ n method (rw e (starts-sound u method _))); head = (opens-start text h).head };
+      ready = record { from-to = omega arith; to_end = omega arith; sound = rw f (closed_sound u _ n method (rw e (starts-sound u method _))); head = (opens-start text h).head };
       lines_left = λ default. rw z;
       marked-left = λ default before. rw z;
     }

@@ -12,22 +12,22 @@ use Rattle.text.specs.declared.Alignment.{Alignment}
 use Rattle.text.specs.Line.{Glyph, numbered}
 use Rattle.wrapping.specs.declared.Run.{Run}
 use Rattle.wrapping.specs.declared.Rule.{Rule}
-use Rattle.wrapping.specs.Wrapping.{overWide, notOverWide}
-use Rattle.wrapping.specs.RunsExtra.{endFrom, run_of, glyphsIn, Spans}
+use Rattle.wrapping.specs.Wrapping.{is_over_wide, not_over_wide}
+use Rattle.wrapping.specs.RunsExtra.{end_from, run_of, glyphs_in, Spans}
 use Rattle.wrapping.proofs.Renumbering.{renumber, total-map, numbered-from}
 use Rattle.line_composer.specs.declared.WrappedLine.{WrappedLine}
-use Rattle.line_composer.specs.Lines.{aligned, end_of, wrappedLineOf, line_at}
-use Rattle.line_composer.specs.ComposingExtra.{lineOfRun, ReadsBack}
+use Rattle.line_composer.specs.Lines.{aligned, end_of, wrapped_line_of, line_at}
+use Rattle.line_composer.specs.ComposingExtra.{line_of_run, ReadsBack}
 
 -- one law for each path through `wrapped_line`
 module _ (from : ℕ) (alignment : Alignment) (run : Run) where
-  pub composed-none : run.end ≡ 0 → record { first = 0; end = 0; width = run.width; alignment = alignment } ≡ lineOfRun from alignment run
-  unfolding lineOfRun
+  pub composed-none : run.end ≡ 0 → record { first = 0; end = 0; width = run.width; alignment = alignment } ≡ line_of_run from alignment run
+  unfolding line_of_run
   composed-none h = simp (eq-eqb run.end 0 h)
 
   pub composed-some : (run.end ≡ 0 → ⊥)
-      → record { first = from + run.first; end = from + run.end; width = run.width; alignment = alignment } ≡ lineOfRun from alignment run
-  unfolding lineOfRun
+      → record { first = from + run.first; end = from + run.end; width = run.width; alignment = alignment } ≡ line_of_run from alignment run
+  unfolding line_of_run
   composed-some h = simp (ne_eqb run.end 0 h)
 
 -- a slice of a slice of the text is a slice of the text
@@ -42,21 +42,21 @@ slice-part from to first end text h =
     sym (drop-drop first from (take (from + end) text))
     ∙ ap (drop first) (drop-take from end text ∙ sym (take-take end (to - from) (drop from text) h))
 
-fits-shift : (u : Rule) (k : ℕ) (gs : List Glyph) → notOverWide u (map (renumber k) gs) ≡ map (renumber k) (notOverWide u gs)
-unfolding overWide
-fits-shift u k [] = refl
-fits-shift u k (g ∷ gs) = go (ltb u.limit g.width) (fits-shift u k gs)
+fits_shift : (u : Rule) (k : ℕ) (gs : List Glyph) → not_over_wide u (map (renumber k) gs) ≡ map (renumber k) (not_over_wide u gs)
+unfolding is_over_wide
+fits_shift u k [] = refl
+fits_shift u k (g ∷ gs) = go (ltb u.limit g.width) (fits_shift u k gs)
   where
-    go : (b : Bool) → notOverWide u (map (renumber k) gs) ≡ map (renumber k) (notOverWide u gs)
-        → cond b (notOverWide u (map (renumber k) gs)) (renumber k g ∷ notOverWide u (map (renumber k) gs)) ≡ map (renumber k) (cond b (notOverWide u gs) (g ∷ notOverWide u gs))
+    go : (b : Bool) → not_over_wide u (map (renumber k) gs) ≡ map (renumber k) (not_over_wide u gs)
+        → cond b (not_over_wide u (map (renumber k) gs)) (renumber k g ∷ not_over_wide u (map (renumber k) gs)) ≡ map (renumber k) (cond b (not_over_wide u gs) (g ∷ not_over_wide u gs))
     go true ih = ih
     go false ih = ap {B = List Glyph} (λ (l : List Glyph). renumber k g ∷ l) ih
 
-end-shift : (k : ℕ) (g : Glyph) (gs : List Glyph) → end_of (map (renumber k) (g ∷ gs)) ≡ k + endFrom (g.number + 1) gs
-end-shift k g [] = omega arith
-end-shift k g (h ∷ gs) = end-shift k h gs
+end_shift : (k : ℕ) (g : Glyph) (gs : List Glyph) → end_of (map (renumber k) (g ∷ gs)) ≡ k + end_from (g.number + 1) gs
+end_shift k g [] = omega arith
+end_shift k g (h ∷ gs) = end_shift k h gs
 
-end_more : (e : ℕ) (gs : List Glyph) → endFrom (e + 1) gs ≡ 0 → ⊥
+end_more : (e : ℕ) (gs : List Glyph) → end_from (e + 1) gs ≡ 0 → ⊥
 end_more e [] h = omega arith
 end_more e (g ∷ gs) h = end_more g.number gs h
 
@@ -65,42 +65,42 @@ module _ (u : Rule) (text : List ℕ) (from to : ℕ) (alignment : Alignment) (r
   records = take (to - from) (drop from text)
 
   -- the converted line has the run's glyphs
-  pub converted-glyphs : line_at u text (lineOfRun from alignment run) ≡ aligned alignment (map (renumber from) (glyphsIn u records run))
-  unfolding line_at glyphsIn lineOfRun
-  converted-glyphs = go (eqb run.end 0) (eqb-true run.end 0)
+  pub converted_glyphs : line_at u text (line_of_run from alignment run) ≡ aligned alignment (map (renumber from) (glyphs_in u records run))
+  unfolding line_at glyphs_in line_of_run
+  converted_glyphs = go (eqb run.end 0) (eqb-true run.end 0)
     where
-      shifted : notOverWide u (numbered u.ambiguous (from + run.first) (slice (from + run.first) (from + run.end) text)) ≡ map (renumber from) (glyphsIn u records run)
+      shifted : not_over_wide u (numbered u.ambiguous (from + run.first) (slice (from + run.first) (from + run.end) text)) ≡ map (renumber from) (glyphs_in u records run)
       shifted =
-          ap (λ (l : List ℕ). notOverWide u (numbered u.ambiguous (from + run.first) l)) (slice-part from to run.first run.end text (omega (arith, s.within, length-take (to - from) (drop from text))))
-          ∙ ap (notOverWide u) (numbered-from u.ambiguous from run.first (slice run.first run.end records))
-          ∙ fits-shift u from (numbered u.ambiguous run.first (slice run.first run.end records))
+          ap (λ (l : List ℕ). not_over_wide u (numbered u.ambiguous (from + run.first) l)) (slice-part from to run.first run.end text (omega (arith, s.within, length-take (to - from) (drop from text))))
+          ∙ ap (not_over_wide u) (numbered-from u.ambiguous from run.first (slice run.first run.end records))
+          ∙ fits_shift u from (numbered u.ambiguous run.first (slice run.first run.end records))
 
-      nothing : run.end ≡ 0 → glyphsIn u records run ≡ []
-      nothing e = rw e (ap (λ (l : List ℕ). notOverWide u (numbered u.ambiguous run.first l)) (drop-nil run.first))
+      nothing : run.end ≡ 0 → glyphs_in u records run ≡ []
+      nothing e = rw e (ap (λ (l : List ℕ). not_over_wide u (numbered u.ambiguous run.first l)) (drop-nil run.first))
 
       go : (b : Bool) → (b ≡ true → run.end ≡ 0)
           → line_at u text
           (cond b
           (record { first = 0; end = 0; width = run.width; alignment = alignment })
           (record { first = from + run.first; end = from + run.end; width = run.width; alignment = alignment }))
-          ≡ aligned alignment (map (renumber from) (glyphsIn u records run))
+          ≡ aligned alignment (map (renumber from) (glyphs_in u records run))
       go true e = ap (λ (l : List Glyph). aligned alignment (map (renumber from) l)) (sym (nothing (e refl)))
       go false e = ap (aligned alignment) shifted
 
   -- the converted line has the fields of the run's glyphs
-  pub converted-fields : (gs : List Glyph) → run ≡ run_of gs → lineOfRun from alignment run ≡ wrappedLineOf (aligned alignment (map (renumber from) gs))
-  unfolding wrappedLineOf lineOfRun
-  converted-fields [] e = rw e
-  converted-fields (g ∷ gs) e =
-      let l : end_of (map (renumber from) (g ∷ gs)) ≡ from + endFrom (g.number + 1) gs = end-shift from g gs in
+  pub converted_fields : (gs : List Glyph) → run ≡ run_of gs → line_of_run from alignment run ≡ wrapped_line_of (aligned alignment (map (renumber from) gs))
+  unfolding wrapped_line_of line_of_run
+  converted_fields [] e = rw e
+  converted_fields (g ∷ gs) e =
+      let l : end_of (map (renumber from) (g ∷ gs)) ≡ from + end_from (g.number + 1) gs = end_shift from g gs in
       rw e (sym (composed-some from alignment (run_of (g ∷ gs)) (end_more g.number gs)) ∙ rw (l, total-map (renumber from) (λ g. refl) (λ g. refl) gs))
 
   Within : WrappedLine → Type 0
   Within c = (c.first ≤ c.end) × (c.end ≤ length text)
 
-  converted-within : Within (lineOfRun from alignment run)
-  unfolding lineOfRun Within
-  converted-within = go (eqb run.end 0) (eqb-false run.end 0)
+  converted_within : Within (line_of_run from alignment run)
+  unfolding line_of_run Within
+  converted_within = go (eqb run.end 0) (eqb-false run.end 0)
     where
       go : (b : Bool) → (b ≡ false → run.end ≡ 0 → ⊥)
           → Within
@@ -111,6 +111,6 @@ module _ (u : Rule) (text : List ℕ) (from to : ℕ) (alignment : Alignment) (r
       go false e =
           (omega (arith, s.ordered), omega (arith, e refl, s.within, length-take (to - from) (drop from text), length-drop from text))
 
-  pub converted-reads-back : ReadsBack u text (lineOfRun from alignment run)
+  pub converted_reads_back : ReadsBack u text (line_of_run from alignment run)
   unfolding Within
-  converted-reads-back = record { is = converted-fields (glyphsIn u records run) s.glyphs ∙ ap wrappedLineOf (sym converted-glyphs); within = converted-within.1; ordered = converted-within.0 }
+  converted_reads_back = record { is = converted_fields (glyphs_in u records run) s.glyphs ∙ ap wrapped_line_of (sym converted_glyphs); within = converted_within.1; ordered = converted_within.0 }

@@ -9,15 +9,15 @@ use Rattle.word_wrapper.specs.declared.NextRun.{NextRun}
 use Rattle.word_wrapper.specs.declared.NextRun.TheVariants.{OneRun, Done}
 use Rattle.wrapping.specs.RunsExtra.{run_of, Spans}
 use Rattle.word_wrapper.specs.PullsExtra.{WrapperInvariant, runs}
-use Rattle.line_truncator.specs.Truncation.{offset_of, shownFrom}
+use Rattle.line_truncator.specs.Truncation.{offset_of, shown_from}
 use Rattle.line_composer.specs.declared.Method.{Method}
 use Rattle.line_composer.specs.declared.Method.TheVariants.{WordWrap, Truncate}
 
 -- remaining lines of a text line with these records; truncation uses only `live` of the wrapper
-unfoldable pub lineRuns : Rule → Method → Alignment → List ℕ → WordWrapper → List Run
-lineRuns u WordWrap alignment records w = runs u records w
-lineRuns u (Truncate column) alignment records w =
-    cond w.live (run_of (shownFrom u (offset_of column alignment) 0 (numbered u.ambiguous 0 records)) ∷ []) []
+unfoldable pub line_runs : Rule → Method → Alignment → List ℕ → WordWrapper → List Run
+line_runs u WordWrap alignment records w = runs u records w
+line_runs u (Truncate column) alignment records w =
+    cond w.live (run_of (shown_from u (offset_of column alignment) 0 (numbered u.ambiguous 0 records)) ∷ []) []
 
 -- invariant of the state within a text line
 abbrev pub MethodInvariant : Rule → Method → List ℕ → WordWrapper → Type 0
@@ -25,9 +25,9 @@ MethodInvariant u WordWrap records w = WrapperInvariant u records w
 MethodInvariant u (Truncate column) records w = Unit {0}
 
 -- the line that `next_line` returns, and the lines remaining after it
-abbrev pub pulledRuns : Rule → Method → Alignment → List ℕ → NextRun → List Run
-pulledRuns u method alignment records (OneRun run w) = run ∷ lineRuns u method alignment records w
-pulledRuns u method alignment records Done = []
+abbrev pub pulled_runs : Rule → Method → Alignment → List ℕ → NextRun → List Run
+pulled_runs u method alignment records (OneRun run w) = run ∷ line_runs u method alignment records w
+pulled_runs u method alignment records Done = []
 
 -- what holds after `next_line`: the invariant, and the returned line lies in the text line
 abbrev pub NextMethodRunInvariant : Rule → Method → List ℕ → NextRun → Type 0
@@ -36,5 +36,5 @@ NextMethodRunInvariant u method records Done = Unit {0}
 
 -- `next_line` returns the first of the remaining lines, and a state with the others
 pub record PulledMethodRun (u : Rule) (method : Method) (alignment : Alignment) (records : List ℕ) (w : WordWrapper) (next : NextRun) : Type 0 where
-  pub lines : lineRuns u method alignment records w ≡ pulledRuns u method alignment records next
+  pub lines : line_runs u method alignment records w ≡ pulled_runs u method alignment records next
   pub sound : NextMethodRunInvariant u method records next

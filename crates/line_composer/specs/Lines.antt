@@ -3,11 +3,11 @@
 use Rattle.std.specs.Prelude.{ℕ, ◌+◌, List, [], ◌∷◌, ◌++◌, map}
 use Rattle.std.proofs.Math.Seq.{slice}
 use Rattle.text.specs.declared.Alignment.{Alignment}
-use Rattle.text.specs.Record.{alignmentOf}
+use Rattle.text.specs.Record.{alignment_of}
 use Rattle.text.specs.Alignment.{resolved}
-use Rattle.text.specs.Line.{Glyph, TextLine, numbered, lines_from, glyphsOf, total}
+use Rattle.text.specs.Line.{Glyph, TextLine, numbered, lines_from, glyphs_of, total}
 use Rattle.wrapping.specs.declared.Rule.{Rule}
-use Rattle.wrapping.specs.Wrapping.{wrap, overWides, notOverWide}
+use Rattle.wrapping.specs.Wrapping.{wrap, over_wides, not_over_wide}
 use Rattle.line_truncator.specs.Truncation.{truncate}
 use Rattle.line_composer.specs.declared.Method.{Method}
 use Rattle.line_composer.specs.declared.Method.TheVariants.{WordWrap, Truncate}
@@ -27,35 +27,35 @@ lines_of u WordWrap alignment gs = (wrap u gs).lines
 lines_of u (Truncate column) alignment gs = truncate u column alignment gs
 
 -- the composed lines of one text line
-unfoldable pub lineLines : Rule → Method → Alignment → TextLine → List Line
-lineLines u method default line =
-    let alignment = resolved (alignmentOf line.head) default in
-    map (aligned alignment) (lines_of u method alignment (glyphsOf u.ambiguous line))
+unfoldable pub line_lines : Rule → Method → Alignment → TextLine → List Line
+line_lines u method default line =
+    let alignment = resolved (alignment_of line.head) default in
+    map (aligned alignment) (lines_of u method alignment (glyphs_of u.ambiguous line))
 
 -- the composed lines of a list of text lines
-abbrev pub allLines : Rule → Method → Alignment → List TextLine → List Line
-allLines u method default [] = []
-allLines u method default (line ∷ rest) = lineLines u method default line ++ allLines u method default rest
+abbrev pub all_lines : Rule → Method → Alignment → List TextLine → List Line
+all_lines u method default [] = []
+all_lines u method default (line ∷ rest) = line_lines u method default line ++ all_lines u method default rest
 
 -- the composed lines of a text
 unfoldable pub lines : Rule → Method → Alignment → List ℕ → List Line
-lines u method default text = allLines u method default (lines_from 0 text)
+lines u method default text = all_lines u method default (lines_from 0 text)
 
 -- the glyphs that step 1 skips, if the text is wrapped
-abbrev pub allSkipped : Rule → List TextLine → List Glyph
-allSkipped u [] = []
-allSkipped u (line ∷ rest) = overWides u (glyphsOf u.ambiguous line) ++ allSkipped u rest
+abbrev pub all_skipped : Rule → List TextLine → List Glyph
+all_skipped u [] = []
+all_skipped u (line ∷ rest) = over_wides u (glyphs_of u.ambiguous line) ++ all_skipped u rest
 
 unfoldable pub skipped : Rule → List ℕ → List Glyph
-skipped u text = allSkipped u (lines_from 0 text)
+skipped u text = all_skipped u (lines_from 0 text)
 
 -- the glyphs that wrapping drops
-abbrev pub allDropped : Rule → List TextLine → List Glyph
-allDropped u [] = []
-allDropped u (line ∷ rest) = (wrap u (glyphsOf u.ambiguous line)).dropped ++ allDropped u rest
+abbrev pub all_dropped : Rule → List TextLine → List Glyph
+all_dropped u [] = []
+all_dropped u (line ∷ rest) = (wrap u (glyphs_of u.ambiguous line)).dropped ++ all_dropped u rest
 
 unfoldable pub dropped : Rule → List ℕ → List Glyph
-dropped u text = allDropped u (lines_from 0 text)
+dropped u text = all_dropped u (lines_from 0 text)
 
 -- "First and end are record numbers, end one past, both 0 where the line holds no glyph."
 abbrev pub first_of : List Glyph → ℕ
@@ -68,8 +68,8 @@ end_of (g ∷ []) = g.number + 1
 end_of (g ∷ h ∷ gs) = end_of (h ∷ gs)
 
 -- first, end, width and alignment of a composed line
-unfoldable pub wrappedLineOf : Line → WrappedLine
-wrappedLineOf line =
+unfoldable pub wrapped_line_of : Line → WrappedLine
+wrapped_line_of line =
     record {
       first = first_of line.glyphs;
       end = end_of line.glyphs;
@@ -83,5 +83,5 @@ unfoldable pub line_at : Rule → List ℕ → WrappedLine → Line
 line_at u text c =
     record {
       alignment = c.alignment;
-      glyphs = notOverWide u (numbered u.ambiguous c.first (slice c.first c.end text));
+      glyphs = not_over_wide u (numbered u.ambiguous c.first (slice c.first c.end text));
     }

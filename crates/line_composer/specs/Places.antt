@@ -1,17 +1,17 @@
 -- Document 01, 'Rows, pages, tally', and document 02, C-14: where the glyphs of a composed line start, and which are placed, clipped
 -- or zero-width.
 use Rattle.std.specs.Prelude.{ℕ, Bool, List, [], ◌∷◌, ◌++◌, eqb}
-use Rattle.text.specs.Line.{Start, startsFrom}
+use Rattle.text.specs.Line.{Start, starts_from}
 use Rattle.place.specs.declared.Place.{Place}
-use Rattle.place.specs.Place.{place_of, countsAsPlaced, countsAsClipped}
+use Rattle.place.specs.Place.{place_of, counts_as_placed, counts_as_clipped}
 use Rattle.line_composer.specs.Lines.{Line}
 
--- "In a composed line a glyph starts at the sum of the widths of its line's glyphs before it": `startsFrom`, in crate `text`.
+-- "In a composed line a glyph starts at the sum of the widths of its line's glyphs before it": `starts_from`, in crate `text`.
 
 -- the glyphs of composed lines, each with its start in its line
 abbrev pub starts : List Line → List Start
 starts [] = []
-starts (line ∷ rest) = startsFrom 0 line.glyphs ++ starts rest
+starts (line ∷ rest) = starts_from 0 line.glyphs ++ starts rest
 
 -- the place of a glyph at an edge, by where it starts
 abbrev pub place_in : ℕ → Start → Place
@@ -19,13 +19,13 @@ place_in edge s = place_of edge s.start s.glyph.width
 
 -- "Placed are emitted glyphs of width above 0 that start below the limit", or left of the right edge; C-14: and don't run past it
 unfoldable pub is_placed : ℕ → Start → Bool
-is_placed edge s = countsAsPlaced (place_in edge s)
+is_placed edge s = counts_as_placed (place_in edge s)
 
 -- "clipped (emitted, of width above 0, start at or past the limit)", or at or past the right edge; C-14: "a glyph that starts inside
 -- and runs past the right edge is clipped"
-unfoldable pub isClipped : ℕ → Start → Bool
-isClipped edge s = countsAsClipped (place_in edge s)
+unfoldable pub is_clipped : ℕ → Start → Bool
+is_clipped edge s = counts_as_clipped (place_in edge s)
 
 -- "zero-width (emitted, wherever they start)"
-unfoldable pub isZeroWidth : Start → Bool
-isZeroWidth s = eqb s.glyph.width 0
+unfoldable pub is_zero_width : Start → Bool
+is_zero_width s = eqb s.glyph.width 0

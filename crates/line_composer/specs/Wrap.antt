@@ -3,17 +3,17 @@
 use Rattle.std.specs.Prelude.{ℕ, false}
 use Rattle.text.specs.declared.AmbiguousWidth.{AmbiguousWidth}
 use Rattle.wrapping.specs.declared.Rule.{Rule}
-use Rattle.wrapping.specs.Rule.{ruleOf}
+use Rattle.wrapping.specs.Rule.{rule_of}
 use Rattle.line_composer.specs.declared.Method.{Method}
 use Rattle.line_composer.specs.declared.Method.TheVariants.{WordWrap, Truncate}
 use Rattle.line_composer.specs.declared.Wrap.{Wrap}
 use Rattle.line_composer.specs.declared.Wrap.TheVariants.{Off, On}
 
-abbrev pub methodOf : Wrap → Method
-methodOf (On trim) = WordWrap
-methodOf (Off column) = Truncate column
+abbrev pub method_of : Wrap → Method
+method_of (On trim) = WordWrap
+method_of (Off column) = Truncate column
 
 -- truncation never trims
-abbrev pub ruleAt : AmbiguousWidth → Wrap → ℕ → Rule
-ruleAt ambiguous (On trim) limit = ruleOf ambiguous limit trim
-ruleAt ambiguous (Off column) limit = ruleOf ambiguous limit false
+abbrev pub rule_at : AmbiguousWidth → Wrap → ℕ → Rule
+rule_at ambiguous (On trim) limit = rule_of ambiguous limit trim
+rule_at ambiguous (Off column) limit = rule_of ambiguous limit false

@@ -3,7 +3,7 @@
 ghost use Rattle.std.specs.Prelude.{◌≡◌, ◌+◌, ◌^◌, ◌<◌, length};
 ghost use Rattle.text.specs.Line.{Opens, FewRecords};
 ghost use Rattle.line_composer.specs.ComposersExtra.{MethodInvariant, PulledMethodRun};
-ghost use Rattle.line_composer.specs.ComposingExtra.{lineOfRun, Ready, Opened, Started, PulledLine};
+ghost use Rattle.line_composer.specs.ComposingExtra.{line_of_run, Ready, Opened, Started, PulledLine};
 
 use text::{Alignment, head, line};
 use word_wrapper::{NextRun, WordWrapper};
@@ -54,7 +54,7 @@ pub enum NextLine {
 // made here.
 fn wrapped_line(from: usize, alignment: Alignment, run: Run) -> WrappedLine
     requires { (from + run.first < 2 ^ 64) × (from + run.end < 2 ^ 64) }
-    ensures { result ≡ lineOfRun from alignment run }
+    ensures { result ≡ line_of_run from alignment run }
 {
     if run.end == 0 {
         return WrappedLine {

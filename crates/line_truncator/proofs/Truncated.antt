@@ -11,10 +11,10 @@ use lib.Seq.{take-length}
 use Rattle.text.specs.declared.Alignment.{Alignment}
 use Rattle.text.specs.Line.{Glyph, numbered, total}
 use Rattle.wrapping.specs.declared.Rule.{Rule}
-use Rattle.wrapping.specs.Wrapping.{overWide, notOverWide}
-use Rattle.line_truncator.specs.Truncation.{offset_of, ends, swallows, shownFrom, truncate}
+use Rattle.wrapping.specs.Wrapping.{is_over_wide, not_over_wide}
+use Rattle.line_truncator.specs.Truncation.{offset_of, ends, swallows, shown_from, truncate}
 use Rattle.text.proofs.Bools.{cond_cases}
-use Rattle.wrapping.proofs.ListRuns.{Read, glyphs-run}
+use Rattle.wrapping.proofs.ListRuns.{Read, glyphs_run}
 use Rattle.word_wrapper.proofs.Simulation.{ReadAll}
 use Rattle.wrapping.proofs.Renumbering.{cond_map, renumber}
 
@@ -55,11 +55,11 @@ cond_both P true x x' y y' p q = p
 cond_both P false x x' y y' p q = q
 
 -- Over-wide glyphs left out, the glyphs shown follow the swallowed ones without a gap.
-pub contiguous : (u : Rule) (offset shown : ℕ) (gs : List Glyph) → Contiguous offset (notOverWide u gs) (shownFrom u offset shown gs)
+pub contiguous : (u : Rule) (offset shown : ℕ) (gs : List Glyph) → Contiguous offset (not_over_wide u gs) (shown_from u offset shown gs)
 contiguous u offset shown [] = record { swallowed = []; rest = []; split = refl; within = omega arith; none = λ _. refl }
 contiguous u offset shown (g ∷ gs) =
-    let all = notOverWide u gs in
-    cond_both (Contiguous offset) (overWide u g) _ _ _ _ (contiguous u offset shown gs)
+    let all = not_over_wide u gs in
+    cond_both (Contiguous offset) (is_over_wide u g) _ _ _ _ (contiguous u offset shown gs)
     (cond_cases (Contiguous offset (g ∷ all)) (ends u shown g) _ _
     (λ _. record { swallowed = []; rest = g ∷ all; split = refl; within = omega arith; none = λ _. refl })
     (λ _.
@@ -69,23 +69,23 @@ contiguous u offset shown (g ∷ gs) =
 
 -- ---- renumbering
 
-shown-renumbered : (u : Rule) (k offset shown : ℕ) (gs : List Glyph) → shownFrom u offset shown (map (renumber k) gs) ≡ map (renumber k) (shownFrom u offset shown gs)
-unfolding overWide ends swallows
-shown-renumbered u k offset shown [] = refl
-shown-renumbered u k offset shown (g ∷ gs) =
+shown_renumbered : (u : Rule) (k offset shown : ℕ) (gs : List Glyph) → shown_from u offset shown (map (renumber k) gs) ≡ map (renumber k) (shown_from u offset shown gs)
+unfolding is_over_wide ends swallows
+shown_renumbered u k offset shown [] = refl
+shown_renumbered u k offset shown (g ∷ gs) =
     let f = map (renumber k) in
-    cond_map f (overWide u g) _ refl (shown-renumbered u k offset shown gs)
+    cond_map f (is_over_wide u g) _ refl (shown_renumbered u k offset shown gs)
     (cond_map f (ends u shown g) _ refl refl
-    (cond_map f (swallows offset g) _ refl (shown-renumbered u k (offset - g.width) shown gs)
-    (ap (λ (l : List Glyph). renumber k g ∷ l) (shown-renumbered u k 0 (shown + g.width) gs))))
+    (cond_map f (swallows offset g) _ refl (shown_renumbered u k (offset - g.width) shown gs)
+    (ap (λ (l : List Glyph). renumber k g ∷ l) (shown_renumbered u k 0 (shown + g.width) gs))))
 
 -- ---- the limit
 
-shown-narrow : (u : Rule) (offset shown : ℕ) (gs : List Glyph) → shown ≤ u.limit → total (shownFrom u offset shown gs) + shown ≤ u.limit
+shown-narrow : (u : Rule) (offset shown : ℕ) (gs : List Glyph) → shown ≤ u.limit → total (shown_from u offset shown gs) + shown ≤ u.limit
 unfolding ends
 shown-narrow u offset shown [] h = omega arith
 shown-narrow u offset shown (g ∷ gs) h =
-    cond_cases Narrow (overWide u g) _ _ (λ _. shown-narrow u offset shown gs h)
+    cond_cases Narrow (is_over_wide u g) _ _ (λ _. shown-narrow u offset shown gs h)
     (λ _.
     cond_cases Narrow (ends u shown g) _ _ (λ _. omega arith)
     (λ e.
@@ -96,23 +96,23 @@ shown-narrow u offset shown (g ∷ gs) h =
     Narrow l = total l + shown ≤ u.limit
 
 -- The glyphs shown are no wider than the limit.
-pub truncated-narrow : (u : Rule) (offset : ℕ) (gs : List Glyph) → total (shownFrom u offset 0 gs) ≤ u.limit
-truncated-narrow u offset gs = omega (arith, shown-narrow u offset 0 gs (omega arith))
+pub truncated_narrow : (u : Rule) (offset : ℕ) (gs : List Glyph) → total (shown_from u offset 0 gs) ≤ u.limit
+truncated_narrow u offset gs = omega (arith, shown-narrow u offset 0 gs (omega arith))
 
 -- ---- the line of a text line
 
 -- The glyphs shown equal those of their run.
-pub shown_read : (u : Rule) (offset : ℕ) (records : List ℕ) → Read u records (shownFrom u offset 0 (numbered u.ambiguous 0 records))
+pub shown_read : (u : Rule) (offset : ℕ) (records : List ℕ) → Read u records (shown_from u offset 0 (numbered u.ambiguous 0 records))
 shown_read u offset records =
     let c = contiguous u offset 0 (numbered u.ambiguous 0 records) in
-    glyphs-run u (length records) records c.swallowed _ c.rest (omega arith) (rw (take-length records) c.split)
+    glyphs_run u (length records) records c.swallowed _ c.rest (omega arith) (rw (take-length records) c.split)
 
 module _ (u : Rule) (column : ℕ) (alignment : Alignment) where
-  pub truncated-read : (records : List ℕ) → ReadAll u records (truncate u column alignment (numbered u.ambiguous 0 records))
+  pub truncated_read : (records : List ℕ) → ReadAll u records (truncate u column alignment (numbered u.ambiguous 0 records))
   unfolding truncate
-  truncated-read records =
+  truncated_read records =
       cond_cases (ReadAll u records) (eqb u.limit 0) _ _ (λ _. tt) (λ _. (shown_read u (offset_of column alignment) records, tt))
 
-  pub truncated-renumbered : (k : ℕ) (gs : List Glyph) → truncate u column alignment (map (renumber k) gs) ≡ map (map (renumber k)) (truncate u column alignment gs)
+  pub truncated_renumbered : (k : ℕ) (gs : List Glyph) → truncate u column alignment (map (renumber k) gs) ≡ map (map (renumber k)) (truncate u column alignment gs)
   unfolding truncate
-  truncated-renumbered k gs = cond_map (map (map (renumber k))) (eqb u.limit 0) _ refl refl (rw (shown-renumbered u k (offset_of column alignment) 0 gs))
+  truncated_renumbered k gs = cond_map (map (map (renumber k))) (eqb u.limit 0) _ refl refl (rw (shown_renumbered u k (offset_of column alignment) 0 gs))

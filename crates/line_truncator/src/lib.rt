@@ -3,7 +3,7 @@
 ghost use Rattle.std.specs.Prelude.{◌≡◌, ◌<◌};
 ghost use Rattle.text.specs.Line.{numbered, FewRecords};
 ghost use Rattle.wrapping.specs.RunsExtra.{run_of};
-ghost use Rattle.line_truncator.specs.Truncation.{offset_of, shownFrom};
+ghost use Rattle.line_truncator.specs.Truncation.{offset_of, shown_from};
 
 use text::Alignment;
 use wrapping::{Rule, Run};
@@ -23,7 +23,7 @@ fn horizontal_offset(column: u32, alignment: Alignment) -> u32
 // Whether a glyph is over-wide is asked only if it passes the limit.
 fn shown_run(rule: Rule, offset: usize, records: &[u32]) -> Run
     requires { FewRecords records.now }
-    ensures { result ≡ run_of (shownFrom rule offset 0 (numbered rule.ambiguous 0 records.now)) }
+    ensures { result ≡ run_of (shown_from rule offset 0 (numbered rule.ambiguous 0 records.now)) }
 {
     let mut offset = offset;
     let mut run = Run::empty();
@@ -53,7 +53,7 @@ fn shown_run(rule: Rule, offset: usize, records: &[u32]) -> Run
 // Returns the line of the text line with these records, scrolled right by `column` (reflow.rs: `LineTruncator::next_line`).
 pub fn truncate_line(rule: Rule, column: u32, alignment: Alignment, records: &[u32]) -> Run
     requires { FewRecords records.now }
-    ensures { result ≡ run_of (shownFrom rule (offset_of column alignment) 0 (numbered rule.ambiguous 0 records.now)) }
+    ensures { result ≡ run_of (shown_from rule (offset_of column alignment) 0 (numbered rule.ambiguous 0 records.now)) }
 {
     let taken = horizontal_offset(column, alignment) as usize;
     shown_run(rule, taken, records)

@@ -3,9 +3,9 @@ ghost use Rattle.std.specs.Prelude.{◌≡◌, ◌++◌, map, ◌+◌, ◌^◌, 
 ghost use Rattle.text.specs.Line.{Opens};
 ghost use Rattle.line_composer.specs.declared.Method.TheVariants.{WordWrap};
 ghost use Rattle.line_composer.specs.Lines.{lines};
-ghost use Rattle.line_composer.specs.Marks.{markedLines};
+ghost use Rattle.line_composer.specs.Marks.{marked_lines};
 ghost use Rattle.entry.specs.Entry.{listed};
-ghost use Rattle.list_lines.specs.Call.{call_of, answer_of, listAfter};
+ghost use Rattle.list_lines.specs.Call.{call_of, answer_of, list_after};
 
 use check_settings::limits;
 use line_composer::{LineComposer, Method, NextLine};
@@ -26,7 +26,7 @@ fn write_lines(rule: Rule, default_alignment: Alignment, text: &[u32], list: &mu
     requires text_len_bound { (length text.now < 2 ^ 15) × Opens text.now × (rule.limit + 11 < 2 ^ 16) }
     requires text_in_bounds { length (lines rule WordWrap default_alignment text.now) ≤ length list.old }
     ensures { let count = length (lines rule WordWrap default_alignment text.now) in
-        let all = markedLines rule WordWrap default_alignment text.now in
+        let all = marked_lines rule WordWrap default_alignment text.now in
         list.new ≡ map listed all ++ drop count list.old }
 {
     let start = LineComposer::new(rule, Method::WordWrap, text);
@@ -59,7 +59,7 @@ pub fn list_lines(
     list: &mut [u64],
 ) -> ListAnswer
     ensures { let call = call_of text.now ambiguous default_alignment limit trim list.old in
-        (result ≡ answer_of call) × (list.new ≡ listAfter call) }
+        (result ≡ answer_of call) × (list.new ≡ list_after call) }
 {
     if let Verdict::Refused(why) = check_records::line_verdict(ACCEPTED, text, limit) {
         return ListAnswer::Refused(why);

@@ -12,7 +12,7 @@ use lib.ListN.{length, get_or, set, take, drop, length-append, length-take, leng
 use lib.Seq.{paste-suc, take-length, get_or-drop}
 use Rattle.text.proofs.Bools.{neither}
 use Rattle.listlines_input.specs.declared.Parsed.TheVariants.{Refused, Text}
-use Rattle.listlines_input.specs.Input.{limitOf, trimOf, number_at, recordsFrom, recordsOf, mostRecords, incomplete, trimWrong, parsedOf}
+use Rattle.listlines_input.specs.Input.{limit_of, trim_of, number_at, records_from, records_of, most_records, incomplete, trim_wrong, parsed_of}
 
 -- whether the input is complete
 module _ (input : List ℕ) where
@@ -27,19 +27,19 @@ module _ (input : List ℕ) where
 pub ruleset tests = (short-incomplete, rest-incomplete)
 
 -- one record for every four bytes
-from-count : (bytes : List ℕ) → length (recordsFrom bytes) ≡ length bytes / 4
+from-count : (bytes : List ℕ) → length (records_from bytes) ≡ length bytes / 4
 from-count [] = refl
 from-count (a ∷ []) = refl
 from-count (a ∷ b ∷ []) = refl
 from-count (a ∷ b ∷ c ∷ []) = refl
 from-count (a ∷ b ∷ c ∷ d ∷ rest) = omega (arith, from-count rest)
 
-pub records-count : (input : List ℕ) → length (recordsOf input) ≡ (length input - 3) / 4
-unfolding recordsOf
+pub records-count : (input : List ℕ) → length (records_of input) ≡ (length input - 3) / 4
+unfolding records_of
 records-count input = from-count (drop 3 input) ∙ simp length-drop
 
 -- the bytes of each record
-from_at : (bytes : List ℕ) (i : ℕ) → i < length (recordsFrom bytes) → get_or (recordsFrom bytes) i 0 ≡ number_at bytes (4 * i)
+from_at : (bytes : List ℕ) (i : ℕ) → i < length (records_from bytes) → get_or (records_from bytes) i 0 ≡ number_at bytes (4 * i)
 from_at [] i h = absurd (omega arith)
 from_at (a ∷ []) i h = absurd (omega arith)
 from_at (a ∷ b ∷ []) i h = absurd (omega arith)
@@ -49,70 +49,70 @@ from_at (a ∷ b ∷ c ∷ d ∷ rest) (suc i) h =
     let e : 4 * suc i ≡ suc (suc (suc (suc (4 * i)))) = omega arith in
     rw e (simp unary_clauses (simp unary_clauses at (from_at rest i (omega arith))))
 
-pub records-at : (input : List ℕ) (i : ℕ) → i < length (recordsOf input) → get_or (recordsOf input) i 0 ≡ number_at input (3 + 4 * i)
-unfolding recordsOf
+pub records-at : (input : List ℕ) (i : ℕ) → i < length (records_of input) → get_or (records_of input) i 0 ≡ number_at input (3 + 4 * i)
+unfolding records_of
 records-at input i h = from_at (drop 3 input) i h ∙ simp (get_or-drop, add_assoc)
 
 -- loop invariant: before each turn the first i records are stored at the start of the text, and the rest of it is unchanged
 pub record Storing (input text₀ text : List ℕ) (i : ℕ) : Type 0 where
-  pub within : i ≤ length (recordsOf input)
-  pub same : text ≡ take i (recordsOf input) ++ drop i text₀
+  pub within : i ≤ length (records_of input)
+  pub same : text ≡ take i (records_of input) ++ drop i text₀
 
-module _ (input text₀ : List ℕ) (count : ℕ) (counted : count ≡ length (recordsOf input)) (fits : count ≤ length text₀) where
-  pub storing-starts : Storing input text₀ text₀ 0
-  storing-starts = record { within = omega arith; same = refl }
+module _ (input text₀ : List ℕ) (count : ℕ) (counted : count ≡ length (records_of input)) (fits : count ≤ length text₀) where
+  pub storing_starts : Storing input text₀ text₀ 0
+  storing_starts = record { within = omega arith; same = refl }
 
   module _ (text : List ℕ) (i : ℕ) (s : Storing input text₀ text i) where
-    pub storing-length : length text ≡ length text₀
-    storing-length = rw s.same (simp (length-append, length-take, length-drop) (omega (arith, s.within)))
+    pub storing_length : length text ≡ length text₀
+    storing_length = rw s.same (simp (length-append, length-take, length-drop) (omega (arith, s.within)))
 
-    pub storing-reads : i < count → 3 + 4 * i + 3 < length input
-    storing-reads h = omega (arith, records-count input)
+    pub storing_reads : i < count → 3 + 4 * i + 3 < length input
+    storing_reads h = omega (arith, records-count input)
 
-    pub storing-writes : i < count → i < length text
-    storing-writes h = omega (arith, storing-length)
+    pub storing_writes : i < count → i < length text
+    storing_writes h = omega (arith, storing_length)
 
-    pub storing-goes : (v : ℕ) → i < count → v ≡ number_at input (3 + 4 * i) → Storing input text₀ (set text i v) (i + 1)
-    storing-goes v h e =
-        let step = simp zero-add at (paste-suc text₀ 0 (recordsOf input) i 0 (omega arith) (omega arith)) in
+    pub storing_goes : (v : ℕ) → i < count → v ≡ number_at input (3 + 4 * i) → Storing input text₀ (set text i v) (i + 1)
+    storing_goes v h e =
+        let step = simp zero-add at (paste-suc text₀ 0 (records_of input) i 0 (omega arith) (omega arith)) in
         record {
           within = omega arith;
           same = rw (s.same, e, ← records-at input i (omega arith)) (simp add-one step);
         }
 
-    pub storing-ends : count ≤ i → text ≡ recordsOf input ++ drop count text₀
-    storing-ends h =
-        let k : i ≡ length (recordsOf input) = omega (arith, s.within) in
-        s.same ∙ rw (k, take-length (recordsOf input), counted)
+    pub storing_ends : count ≤ i → text ≡ records_of input ++ drop count text₀
+    storing_ends h =
+        let k : i ≡ length (records_of input) = omega (arith, s.within) in
+        s.same ∙ rw (k, take-length (records_of input), counted)
 
-pub ruleset storing = (storing-starts, storing-length, storing-reads, storing-writes, storing-goes, storing-ends)
+pub ruleset storing = (storing_starts, storing_length, storing_reads, storing_writes, storing_goes, storing_ends)
 
 -- the result of the tests, in their order
 module _ (input : List ℕ) (b : Bool) (e : b ≡ incomplete input) where
-  pub parse-incomplete : b ≡ true → Refused 0 ≡ parsedOf input
-  unfolding parsedOf
-  parse-incomplete t = rw (← e, t)
+  pub parse_incomplete : b ≡ true → Refused 0 ≡ parsed_of input
+  unfolding parsed_of
+  parse_incomplete t = rw (← e, t)
 
   module _ (f : b ≡ false) where
-    pub three-bytes : 3 ≤ length input
+    pub three_bytes : 3 ≤ length input
     unfolding incomplete
-    three-bytes = ltb-false (length input) 3 (neither (ltb (length input) 3) (not (eqb ((length input - 3) % 4) 0)) (sym e ∙ f)).0
+    three_bytes = ltb-false (length input) 3 (neither (ltb (length input) 3) (not (eqb ((length input - 3) % 4) 0)) (sym e ∙ f)).0
 
-    module _ (t : Bool) (p : t ≡ trimWrong input) where
-      pub parse-trim : t ≡ true → Refused 0 ≡ parsedOf input
-      unfolding parsedOf
-      parse-trim q = rw (← e, f, ← p, q)
+    module _ (t : Bool) (p : t ≡ trim_wrong input) where
+      pub parse_trim : t ≡ true → Refused 0 ≡ parsed_of input
+      unfolding parsed_of
+      parse_trim q = rw (← e, f, ← p, q)
 
       module _ (q : t ≡ false) where
-        pub parse-many : mostRecords < (length input - 3) / 4 → Refused 3 ≡ parsedOf input
-        unfolding parsedOf
-        parse-many h = rw (← e, f, ← p, q, records-count, lt-ltb mostRecords ((length input - 3) / 4) h)
+        pub parse_many : most_records < (length input - 3) / 4 → Refused 3 ≡ parsed_of input
+        unfolding parsed_of
+        parse_many h = rw (← e, f, ← p, q, records-count, lt-ltb most_records ((length input - 3) / 4) h)
 
-        pub parse-text : (limit : ℕ) → limit ≡ limitOf input → (length input - 3) / 4 ≤ mostRecords → Text limit (trimOf input) ((length input - 3) / 4) ≡ parsedOf input
-        unfolding parsedOf
-        parse-text limit l h = rw (← e, f, ← p, q, records-count, le-ltb mostRecords ((length input - 3) / 4) h, l)
+        pub parse_text : (limit : ℕ) → limit ≡ limit_of input → (length input - 3) / 4 ≤ most_records → Text limit (trim_of input) ((length input - 3) / 4) ≡ parsed_of input
+        unfolding parsed_of
+        parse_text limit l h = rw (← e, f, ← p, q, records-count, le-ltb most_records ((length input - 3) / 4) h, l)
 
-pub counted : (input : List ℕ) → (length input - 3) / 4 ≡ length (recordsOf input)
+pub counted : (input : List ℕ) → (length input - 3) / 4 ≡ length (records_of input)
 counted input = sym (records-count input)
 
-pub ruleset parsing = (parse-incomplete, three-bytes, parse-trim, parse-many, parse-text, counted)
+pub ruleset parsing = (parse_incomplete, three_bytes, parse_trim, parse_many, parse_text, counted)

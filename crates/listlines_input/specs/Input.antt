@@ -4,36 +4,36 @@ use Rattle.listlines_input.specs.declared.Parsed.{Parsed}
 use Rattle.listlines_input.specs.declared.Parsed.TheVariants.{Refused, Text}
 
 -- "reads, high byte first, limit (2 bytes)"
-abbrev pub limitOf : List ℕ → ℕ
-limitOf input = get_or input 0 0 * 2 ^ 8 + get_or input 1 0
+abbrev pub limit_of : List ℕ → ℕ
+limit_of input = get_or input 0 0 * 2 ^ 8 + get_or input 1 0
 
 -- "trim (byte 0 or 1)"
-abbrev pub trimByte : List ℕ → ℕ
-trimByte input = get_or input 2 0
+abbrev pub trim_byte : List ℕ → ℕ
+trim_byte input = get_or input 2 0
 
-abbrev pub trimOf : List ℕ → Bool
-trimOf input = eqb (trimByte input) 1
+abbrev pub trim_of : List ℕ → Bool
+trim_of input = eqb (trim_byte input) 1
 
 -- "then records of 4 bytes"
-abbrev pub highFirst : ℕ → ℕ → ℕ → ℕ → ℕ
-highFirst a b c d = a * 2 ^ 24 + b * 2 ^ 16 + c * 2 ^ 8 + d
+abbrev pub high_first : ℕ → ℕ → ℕ → ℕ → ℕ
+high_first a b c d = a * 2 ^ 24 + b * 2 ^ 16 + c * 2 ^ 8 + d
 
 abbrev pub number_at : List ℕ → ℕ → ℕ
-number_at bytes at = highFirst (get_or bytes at 0) (get_or bytes (at + 1) 0) (get_or bytes (at + 2) 0) (get_or bytes (at + 3) 0)
+number_at bytes at = high_first (get_or bytes at 0) (get_or bytes (at + 1) 0) (get_or bytes (at + 2) 0) (get_or bytes (at + 3) 0)
 
-abbrev pub recordsFrom : List ℕ → List ℕ
-recordsFrom (a ∷ b ∷ c ∷ d ∷ rest) = highFirst a b c d ∷ recordsFrom rest
-recordsFrom (a ∷ b ∷ c ∷ []) = []
-recordsFrom (a ∷ b ∷ []) = []
-recordsFrom (a ∷ []) = []
-recordsFrom [] = []
+abbrev pub records_from : List ℕ → List ℕ
+records_from (a ∷ b ∷ c ∷ d ∷ rest) = high_first a b c d ∷ records_from rest
+records_from (a ∷ b ∷ c ∷ []) = []
+records_from (a ∷ b ∷ []) = []
+records_from (a ∷ []) = []
+records_from [] = []
 
-unfoldable pub recordsOf : List ℕ → List ℕ
-recordsOf input = recordsFrom (drop 3 input)
+unfoldable pub records_of : List ℕ → List ℕ
+records_of input = records_from (drop 3 input)
 
 -- "at most 4,096"
-abbrev pub mostRecords : ℕ
-mostRecords = 4096
+abbrev pub most_records : ℕ
+most_records = 4096
 
 -- "`refused`, a blank and the number on one line otherwise: first 0 for an incomplete input": one without its first three
 -- bytes, or with one to three bytes after the last whole record
@@ -41,20 +41,20 @@ unfoldable pub incomplete : List ℕ → Bool
 incomplete input = ltb (length input) 3 || not (eqb ((length input - 3) % 4) 0)
 
 -- "or trim byte above 1"
-abbrev pub trimWrong : List ℕ → Bool
-trimWrong input = ltb 1 (trimByte input)
+abbrev pub trim_wrong : List ℕ → Bool
+trim_wrong input = ltb 1 (trim_byte input)
 
 -- "then 3 above 4,096 records"
-abbrev pub tooMany : List ℕ → Bool
-tooMany input = ltb mostRecords (length (recordsOf input))
+abbrev pub too_many : List ℕ → Bool
+too_many input = ltb most_records (length (records_of input))
 
 -- "then the table's": the list call's, on an input that these tests accept
-unfoldable pub parsedOf : List ℕ → Parsed
-parsedOf input =
+unfoldable pub parsed_of : List ℕ → Parsed
+parsed_of input =
     cond (incomplete input) (Refused 0)
-    (cond (trimWrong input) (Refused 0)
-    (cond (tooMany input) (Refused 3)
-    (Text (limitOf input) (trimOf input) (length (recordsOf input)))))
+    (cond (trim_wrong input) (Refused 0)
+    (cond (too_many input) (Refused 3)
+    (Text (limit_of input) (trim_of input) (length (records_of input)))))
 
 -- what the text slice holds after parsing: the records from its start, or what it held before if the input is refused
 abbrev pub holding : Parsed → List ℕ → List ℕ → List ℕ

@@ -1,6 +1,6 @@
 // Parses the input of the program `listlines`, high byte first: limit (2 bytes), trim (byte 0 or 1), then records of 4 bytes.
 ghost use Rattle.std.specs.Prelude.{◌≡◌, ◌+◌, ◌<◌, ◌≤◌, ◌++◌, length, drop};
-ghost use Rattle.listlines_input.specs.Input.{limitOf, number_at, recordsOf, mostRecords, incomplete, trimWrong, parsedOf, holding};
+ghost use Rattle.listlines_input.specs.Input.{limit_of, number_at, records_of, most_records, incomplete, trim_wrong, parsed_of, holding};
 
 use num::byte_to_u32;
 
@@ -18,7 +18,7 @@ pub enum Parsed {
 // Returns the limit, the first two bytes.
 fn limit(input: &[u8]) -> u16
     requires { 3 ≤ length input.now }
-    ensures { result ≡ limitOf input.now }
+    ensures { result ≡ limit_of input.now }
 {
     (byte_to_u32(input[0]) * 256 + byte_to_u32(input[1])) as u16
 }
@@ -47,16 +47,16 @@ fn is_incomplete(input: &[u8]) -> bool
 // Whether the third byte is neither 0 nor 1.
 fn trim_wrong(input: &[u8]) -> bool
     requires { 3 ≤ length input.now }
-    ensures { result ≡ trimWrong input.now }
+    ensures { result ≡ trim_wrong input.now }
 {
     1 < input[2]
 }
 
 // Stores an input's records at the start of `text`.
 fn store_records(input: &[u8], count: usize, text: &mut [u32])
-    requires count_value { count ≡ length (recordsOf input.now) }
+    requires count_value { count ≡ length (records_of input.now) }
     requires count_in_bounds { count ≤ length text.old }
-    ensures { text.new ≡ recordsOf input.now ++ drop count text.old }
+    ensures { text.new ≡ records_of input.now ++ drop count text.old }
 {
     let mut i = 0;
     while i < count {
@@ -67,9 +67,9 @@ fn store_records(input: &[u8], count: usize, text: &mut [u32])
 
 // Parses an input and stores its records at the start of `text`, which a refusal leaves unchanged.
 pub fn parse(input: &[u8], text: &mut [u32]) -> Parsed
-    requires { mostRecords ≤ length text.old }
-    ensures value { result ≡ parsedOf input.now }
-    ensures text_after { text.new ≡ holding result (recordsOf input.now) text.old }
+    requires { most_records ≤ length text.old }
+    ensures value { result ≡ parsed_of input.now }
+    ensures text_after { text.new ≡ holding result (records_of input.now) text.old }
 {
     if is_incomplete(input) {
         return Parsed::Refused(0);

@@ -1,8 +1,8 @@
 // Writes the output of the program `listlines` to a buffer.
 ghost use Rattle.std.specs.Prelude.{◌+◌, ◌*◌, ◌<◌, ◌≤◌, ◌++◌, length};
 ghost use Rattle.append_bytes.specs.WrittenExtra.{Written};
-ghost use Rattle.listlines_output.specs.Output.{decimal, numberText, countText, refusedText};
-ghost use Rattle.listlines_output.specs.EntriesExtra.{entryText, entriesText};
+ghost use Rattle.listlines_output.specs.Output.{decimal, number_text, count_text, refused_text};
+ghost use Rattle.listlines_output.specs.EntriesExtra.{entry_text, entries_text};
 
 use append_bytes::{put, put_all};
 
@@ -26,7 +26,7 @@ fn put_decimal(buffer: &mut [u8], at: usize, number: u64) -> usize
 fn put_number(buffer: &mut [u8], at: usize, number: u64, after: u8) -> usize
     requires number_bound { number < 100000 }
     requires at_in_bounds { at + 6 ≤ length buffer.old }
-    ensures written { Written buffer.old at buffer.new result (numberText number after) }
+    ensures written { Written buffer.old at buffer.new result (number_text number after) }
     ensures upper_bound { result ≤ at + 6 }
 {
     let next = put_decimal(buffer, at, number);
@@ -36,7 +36,7 @@ fn put_number(buffer: &mut [u8], at: usize, number: u64, after: u8) -> usize
 // Writes the line of an entry, at most 30 bytes.
 fn put_entry(buffer: &mut [u8], at: usize, entry: u64) -> usize
     requires { at + 30 ≤ length buffer.old }
-    ensures written { Written buffer.old at buffer.new result (entryText entry) }
+    ensures written { Written buffer.old at buffer.new result (entry_text entry) }
     ensures upper_bound { result ≤ at + 30 }
 {
     let end = put_number(buffer, at, entry::first(entry), BLANK);
@@ -49,7 +49,7 @@ fn put_entry(buffer: &mut [u8], at: usize, entry: u64) -> usize
 // Writes the lines of entries at the start of a buffer.
 fn put_entries(buffer: &mut [u8], entries: &[u64]) -> usize
     requires { 30 * length entries.now ≤ length buffer.old }
-    ensures written { Written buffer.old 0 buffer.new result (entriesText entries.now) }
+    ensures written { Written buffer.old 0 buffer.new result (entries_text entries.now) }
     ensures upper_bound { result ≤ 30 * length entries.now }
 {
     let mut next = 0;
@@ -65,7 +65,7 @@ fn put_entries(buffer: &mut [u8], entries: &[u64]) -> usize
 fn put_count(buffer: &mut [u8], at: usize, count: u64) -> usize
     requires count_bound { count < 100000 }
     requires at_in_bounds { at + 12 ≤ length buffer.old }
-    ensures { Written buffer.old at buffer.new result (countText count) }
+    ensures { Written buffer.old at buffer.new result (count_text count) }
 {
     let next = put_all(buffer, at, b"lines ");
     put_number(buffer, next, count, LINE_END)
@@ -75,7 +75,7 @@ fn put_count(buffer: &mut [u8], at: usize, count: u64) -> usize
 pub fn put_lines(buffer: &mut [u8], entries: &[u64]) -> usize
     requires entries_len_bound { length entries.now < 100000 }
     requires entries_in_bounds { 30 * length entries.now + 12 ≤ length buffer.old }
-    ensures { let lines = entriesText entries.now ++ countText (length entries.now) in
+    ensures { let lines = entries_text entries.now ++ count_text (length entries.now) in
         Written buffer.old 0 buffer.new result lines }
 {
     let next = put_entries(buffer, entries);
@@ -86,7 +86,7 @@ pub fn put_lines(buffer: &mut [u8], entries: &[u64]) -> usize
 pub fn put_refused(buffer: &mut [u8], number: u32) -> usize
     requires number_bound { number < 100000 }
     requires in_bounds { 14 ≤ length buffer.old }
-    ensures { Written buffer.old 0 buffer.new result (refusedText number) }
+    ensures { Written buffer.old 0 buffer.new result (refused_text number) }
 {
     let next = put_all(buffer, 0, b"refused ");
     put_number(buffer, next, number as u64, LINE_END)

@@ -9,35 +9,35 @@ use lib.Dec.{eqb}
 use lib.ListN.{length, take}
 use lib.Seq.{length-take-le, get_or-take}
 use Rattle.listlines_input.specs.declared.Parsed.TheVariants.{Refused}
-use Rattle.listlines_input.specs.Input.{recordsOf, mostRecords, trimWrong, tooMany, parsedOf}
-use Rattle.listlines_run.specs.Printed.{printed, printedOf}
+use Rattle.listlines_input.specs.Input.{records_of, most_records, trim_wrong, too_many, parsed_of}
+use Rattle.listlines_run.specs.Printed.{printed, printed_of}
 use Rattle.listlines_run.specs.CutExtra.{buffered, Cut}
 use Rattle.listlines_input.proofs.Parsing.{records-count, rest-incomplete}
 
 -- with over 4,096 records, the bytes after the last whole record and the trim byte decide the refusal
-long-refused : (input : List ℕ) → 3 + 4 * 4097 ≤ length input → parsedOf input ≡ cond (not (eqb ((length input - 3) % 4) 0)) (Refused 0) (cond (trimWrong input) (Refused 0) (Refused 3))
-unfolding parsedOf
-long-refused input h =
-    let m : tooMany input ≡ true = lt-ltb mostRecords (length (recordsOf input)) (omega (arith, records-count input)) in
+long_refused : (input : List ℕ) → 3 + 4 * 4097 ≤ length input → parsed_of input ≡ cond (not (eqb ((length input - 3) % 4) 0)) (Refused 0) (cond (trim_wrong input) (Refused 0) (Refused 3))
+unfolding parsed_of
+long_refused input h =
+    let m : too_many input ≡ true = lt-ltb most_records (length (records_of input)) (omega (arith, records-count input)) in
     rw (m, ← rest-incomplete input (omega arith))
 
 pub cut-same :
     (input : List ℕ) (over at : ℕ) →
-    buffered ≤ length input → over ≡ (length input - buffered) % 4 → Cut buffered over at → parsedOf (take at input) ≡ parsedOf input
+    buffered ≤ length input → over ≡ (length input - buffered) % 4 → Cut buffered over at → parsed_of (take at input) ≡ parsed_of input
 cut-same input over at h o c =
     let l : length (take at input) ≡ at = length-take-le at input (omega arith) in
     let m : (at - 3) % 4 ≡ (length input - 3) % 4 = omega arith in
-    rw (long-refused (take at input) (omega arith), long-refused input (omega arith), l, m, get_or-take at input 2 0 (omega arith))
+    rw (long_refused (take at input) (omega arith), long_refused input (omega arith), l, m, get_or-take at input 2 0 (omega arith))
 
-refused-same : (a b : Bool) (s t : List ℕ) → printed (cond a (Refused 0) (cond b (Refused 0) (Refused 3))) s ≡ printed (cond a (Refused 0) (cond b (Refused 0) (Refused 3))) t
-refused-same true b s t = refl
-refused-same false true s t = refl
-refused-same false false s t = refl
+refused_same : (a b : Bool) (s t : List ℕ) → printed (cond a (Refused 0) (cond b (Refused 0) (Refused 3))) s ≡ printed (cond a (Refused 0) (cond b (Refused 0) (Refused 3))) t
+refused_same true b s t = refl
+refused_same false true s t = refl
+refused_same false false s t = refl
 
 pub cut-printed-same :
     (input : List ℕ) (over at : ℕ) →
-    buffered ≤ length input → over ≡ (length input - buffered) % 4 → Cut buffered over at → printedOf (take at input) ≡ printedOf input
-unfolding printedOf
+    buffered ≤ length input → over ≡ (length input - buffered) % 4 → Cut buffered over at → printed_of (take at input) ≡ printed_of input
+unfolding printed_of
 cut-printed-same input over at h o c =
-    rw (cut-same input over at h o c, long-refused input (omega arith))
-    (refused-same (not (eqb ((length input - 3) % 4) 0)) (trimWrong input) (recordsOf (take at input)) (recordsOf input))
+    rw (cut-same input over at h o c, long_refused input (omega arith))
+    (refused_same (not (eqb ((length input - 3) % 4) 0)) (trim_wrong input) (records_of (take at input)) (records_of input))

@@ -12,14 +12,14 @@ use Rattle.refuse.specs.declared.Refusal.{Refusal}
 use Rattle.refuse.specs.declared.Refusal.TheVariants.{Screen, Styles, TextLength, TextHeads, Titles, StyleNumber, Symbol, Limit, ListLength}
 use Rattle.refuse.specs.declared.Verdict.{Verdict}
 use Rattle.refuse.specs.declared.Verdict.TheVariants.{Accepted, Refused as RefusedFor}
-use Rattle.refuse.specs.Refusal.{Cause, ◌if◌, firstCause, refusalNumber, answering}
-use Rattle.refuse.specs.Causes.{mostAccepted, lineCauses, listTooShort}
-use Rattle.wrapping.specs.Rule.{ruleOf}
+use Rattle.refuse.specs.Refusal.{Cause, ◌if◌, first_cause, refusal_number, answering}
+use Rattle.refuse.specs.Causes.{most_accepted, line_causes, list_too_short}
+use Rattle.wrapping.specs.Rule.{rule_of}
 use Rattle.line_composer.specs.Lines.{aligned}
-use Rattle.line_composer.specs.Marks.{MarkedLine, withMark}
+use Rattle.line_composer.specs.Marks.{MarkedLine, with_mark}
 use Rattle.line_composer.proofs.Bounds.{lines-short}
 use Rattle.entry.specs.Entry.{listed}
-use Rattle.list_lines.specs.Call.{Call, lines_of, markedLinesOf, causesOf, verdictOf, answer_of as listAnswer, listAfter}
+use Rattle.list_lines.specs.Call.{Call, lines_of, marked_lines_of, causes_of, verdict_of, answer_of as listAnswer, list_after}
 use Rattle.list_lines.specs.declared.ListAnswer.TheVariants as listed-variant
 use Rattle.list_lines.proofs.Answers.{list-accepted}
 use Rattle.list_lines.proofs.ReadsBack.{marked-length, entries-read-back, marks-read-back}
@@ -27,75 +27,75 @@ use Rattle.io.specs.Counts.{IsPrefixLen}
 use Rattle.append_bytes.specs.WrittenExtra.{Written}
 use Rattle.listlines_input.specs.declared.Parsed.{Parsed}
 use Rattle.listlines_input.specs.declared.Parsed.TheVariants.{Refused, Text}
-use Rattle.listlines_input.specs.Input.{limitOf, trimOf, recordsOf, mostRecords, incomplete, trimWrong, tooMany, parsedOf}
-use Rattle.listlines_output.specs.Output.{fieldsText, countText, refusedText}
-use Rattle.listlines_output.specs.EntriesExtra.{entryText, entriesText}
+use Rattle.listlines_input.specs.Input.{limit_of, trim_of, records_of, most_records, incomplete, trim_wrong, too_many, parsed_of}
+use Rattle.listlines_output.specs.Output.{fields_text, count_text, refused_text}
+use Rattle.listlines_output.specs.EntriesExtra.{entry_text, entries_text}
 use Rattle.listlines_run.specs.declared.Answer.{Answer}
 use Rattle.listlines_run.specs.declared.Answer.TheVariants as answer
-use Rattle.listlines_run.specs.Program.{answerFor, callFor, answered, entered, answer_of, list_of}
-use Rattle.listlines_run.specs.Printed.{lineText, linesText, listPrinted, printed, printedOf}
+use Rattle.listlines_run.specs.Program.{answer_for, call_for, answered, entered, answer_of, list_of}
+use Rattle.listlines_run.specs.Printed.{line_text, lines_text, list_printed, printed, printed_of}
 use Rattle.listlines_run.proofs.Answering.{Counted, counted}
-use Rattle.listlines_run.proofs.Promised.{long-enough}
+use Rattle.listlines_run.proofs.Promised.{long_enough}
 
 -- a cause that doesn't hold decides nothing
-cause-clear : (causes : List Cause) (why : Refusal) (b : Bool) → b ≡ false → firstCause (causes ++ (why if b ∷ [])) ≡ firstCause causes
-cause-clear [] why b e = rw e
-cause-clear (c ∷ causes) why b e = ap (cond c.holds (RefusedFor c.why)) (cause-clear causes why b e)
+cause_clear : (causes : List Cause) (why : Refusal) (b : Bool) → b ≡ false → first_cause (causes ++ (why if b ∷ [])) ≡ first_cause causes
+cause_clear [] why b e = rw e
+cause_clear (c ∷ causes) why b e = ap (cond c.holds (RefusedFor c.why)) (cause_clear causes why b e)
 
 -- lines that are equal one by one
-texts-same : (none : MarkedLine) (ls : List MarkedLine) (es : List ℕ) → length ls ≤ length es
-    → ((i : ℕ) → i < length ls → entryText (get_or es i 0) ≡ lineText (get_or ls i none)) → entriesText (take (length ls) es) ≡ linesText ls
-texts-same none [] es h f = refl
-texts-same none (l ∷ ls) [] h f = absurd (omega arith)
-texts-same none (l ∷ ls) (e ∷ es) h f =
-    let first : entryText e ≡ lineText l = f 0 (omega arith) in
-    let rest : entriesText (take (length ls) es) ≡ linesText ls = texts-same none ls es (omega arith) (λ i (k : i < length ls). f (suc i) (omega arith)) in
+texts_same : (none : MarkedLine) (ls : List MarkedLine) (es : List ℕ) → length ls ≤ length es
+    → ((i : ℕ) → i < length ls → entry_text (get_or es i 0) ≡ line_text (get_or ls i none)) → entries_text (take (length ls) es) ≡ lines_text ls
+texts_same none [] es h f = refl
+texts_same none (l ∷ ls) [] h f = absurd (omega arith)
+texts_same none (l ∷ ls) (e ∷ es) h f =
+    let first : entry_text e ≡ line_text l = f 0 (omega arith) in
+    let rest : entries_text (take (length ls) es) ≡ lines_text ls = texts_same none ls es (omega arith) (λ i (k : i < length ls). f (suc i) (omega arith)) in
     rw (first, rest)
 
-fields-same : (a b c d e a' b' c' d' e' : ℕ) → a ≡ a' → b ≡ b' → c ≡ c' → d ≡ d' → e ≡ e' → fieldsText a b c d e ≡ fieldsText a' b' c' d' e'
-fields-same a b c d e a' b' c' d' e' p q r s t = rw (p, q, r, s, t)
+fields_same : (a b c d e a' b' c' d' e' : ℕ) → a ≡ a' → b ≡ b' → c ≡ c' → d ≡ d' → e ≡ e' → fields_text a b c d e ≡ fields_text a' b' c' d' e'
+fields_same a b c d e a' b' c' d' e' p q r s t = rw (p, q, r, s, t)
 
-module _ (call : Call) (a : verdictOf call ≡ Accepted) where
-  enough : length (markedLinesOf call) ≤ length (listAfter call)
+module _ (call : Call) (a : verdict_of call ≡ Accepted) where
+  enough : length (marked_lines_of call) ≤ length (list_after call)
   enough =
       rw (list-accepted call a)
-      (omega (arith, length-append (map listed (markedLinesOf call)) (drop (length (lines_of call)) call.list), length-map (markedLinesOf call) listed))
+      (omega (arith, length-append (map listed (marked_lines_of call)) (drop (length (lines_of call)) call.list), length-map (marked_lines_of call) listed))
 
   -- the text of an entry is that of its line
-  entry-is-line : (i : ℕ) (none : MarkedLine) → i < length (markedLinesOf call) → entryText (get_or (listAfter call) i 0) ≡ lineText (get_or (markedLinesOf call) i none)
-  unfolding entryText lineText
+  entry-is-line : (i : ℕ) (none : MarkedLine) → i < length (marked_lines_of call) → entry_text (get_or (list_after call) i 0) ≡ line_text (get_or (marked_lines_of call) i none)
+  unfolding entry_text line_text
   entry-is-line i none h =
       let n : i < length (lines_of call) = omega (arith, marked-length call) in
       let marks = marks-read-back call a i none n in
       let fields = rw marks.0 at (entries-read-back call a i none.line n) in
-      fields-same _ _ _ _ _ _ _ _ _ _ fields.0 fields.1 fields.2 fields.3 marks.1
+      fields_same _ _ _ _ _ _ _ _ _ _ fields.0 fields.1 fields.2 fields.3 marks.1
 
-  entries-are-lines : entriesText (take (length (markedLinesOf call)) (listAfter call)) ≡ linesText (markedLinesOf call)
-  entries-are-lines =
-      let none : MarkedLine = withMark (aligned Left []) false in
-      texts-same none (markedLinesOf call) (listAfter call) enough (λ i h. entry-is-line i none h)
+  entries_are_lines : entries_text (take (length (marked_lines_of call)) (list_after call)) ≡ lines_text (marked_lines_of call)
+  entries_are_lines =
+      let none : MarkedLine = with_mark (aligned Left []) false in
+      texts_same none (marked_lines_of call) (list_after call) enough (λ i h. entry-is-line i none h)
 
 -- an answer's number, and its count
 number_in : Answer → ℕ
 number_in (answer.Refused number) = number
 number_in (answer.Lines count) = 0
 
-countIn : Answer → ℕ
-countIn (answer.Refused number) = 0
-countIn (answer.Lines count) = count
+count_in : Answer → ℕ
+count_in (answer.Refused number) = 0
+count_in (answer.Lines count) = count
 
 -- the output of `count` entries of a list is `bytes`
 pub record LinesPrinted (count : ℕ) (list bytes : List ℕ) : Type 0 where
   pub fits : count ≤ length list
-  pub few : count ≤ mostRecords
-  pub same : entriesText (take count list) ++ countText count ≡ bytes
+  pub few : count ≤ most_records
+  pub same : entries_text (take count list) ++ count_text count ≡ bytes
 
 -- the output of a refusal is `bytes`
 pub record RefusalPrinted (number : ℕ) (bytes : List ℕ) : Type 0 where
   pub low : number < 100000
-  pub same : refusedText number ≡ bytes
+  pub same : refused_text number ≡ bytes
 
-number-low : (why : Refusal) → refusalNumber why < 100000
+number-low : (why : Refusal) → refusal_number why < 100000
 number-low Screen = omega arith
 number-low Styles = omega arith
 number-low TextLength = omega arith
@@ -109,38 +109,38 @@ number-low ListLength = omega arith
 -- the call of an accepted input
 module _ (limit : ℕ) (trim : Bool) (text list : List ℕ) where
   abbrev call : Call
-  call = callFor limit trim text list
+  call = call_for limit trim text list
 
-  verdict-same : length list ≡ mostRecords → length text ≤ mostRecords → verdictOf call ≡ firstCause (lineCauses mostAccepted text limit)
-  unfolding verdictOf causesOf lines_of
-  verdict-same h k =
-      let clear : listTooShort (length list) (length (lines_of call)) ≡ false = rw h (long-enough (ruleOf Narrow limit trim) text k) in
-      cause-clear (lineCauses mostAccepted text limit) ListLength (listTooShort (length list) (length (lines_of call))) clear
+  verdict_same : length list ≡ most_records → length text ≤ most_records → verdict_of call ≡ first_cause (line_causes most_accepted text limit)
+  unfolding verdict_of causes_of lines_of
+  verdict_same h k =
+      let clear : list_too_short (length list) (length (lines_of call)) ≡ false = rw h (long_enough (rule_of Narrow limit trim) text k) in
+      cause_clear (line_causes most_accepted text limit) ListLength (list_too_short (length list) (length (lines_of call))) clear
 
-  lines-few : length text ≤ mostRecords → length (markedLinesOf call) ≤ mostRecords
+  lines-few : length text ≤ most_records → length (marked_lines_of call) ≤ most_records
   unfolding lines_of
-  lines-few k = omega (arith, marked-length call, lines-short (ruleOf Narrow limit trim) Left text)
+  lines-few k = omega (arith, marked-length call, lines-short (rule_of Narrow limit trim) Left text)
 
-  lines-by : (v : Verdict) → verdictOf call ≡ v → length text ≤ mostRecords → (count : ℕ)
-      → answerFor (answering listed-variant.Written listed-variant.Refused v (length (lines_of call))) ≡ answer.Lines count
-      → LinesPrinted count (listAfter call) (listPrinted v (markedLinesOf call))
-  unfolding countIn
-  lines-by Accepted a k count e =
-      let n : length (markedLinesOf call) ≡ count = marked-length call ∙ ap countIn e in
+  lines_by : (v : Verdict) → verdict_of call ≡ v → length text ≤ most_records → (count : ℕ)
+      → answer_for (answering listed-variant.Written listed-variant.Refused v (length (lines_of call))) ≡ answer.Lines count
+      → LinesPrinted count (list_after call) (list_printed v (marked_lines_of call))
+  unfolding count_in
+  lines_by Accepted a k count e =
+      let n : length (marked_lines_of call) ≡ count = marked-length call ∙ ap count_in e in
       rw (← n)
       (record {
         fits = enough call a;
         few = lines-few k;
-        same = ap (λ (l : List ℕ). l ++ countText (length (markedLinesOf call))) (entries-are-lines call a);
+        same = ap (λ (l : List ℕ). l ++ count_text (length (marked_lines_of call))) (entries_are_lines call a);
       })
-  lines-by (RefusedFor why) a k count e = absurd (let z : ◌≡◌ {A = ℕ} 0 1 = cc in omega arith)
+  lines_by (RefusedFor why) a k count e = absurd (let z : ◌≡◌ {A = ℕ} 0 1 = cc in omega arith)
 
-  refused-by : (v : Verdict) (number : ℕ) → answerFor (answering listed-variant.Written listed-variant.Refused v (length (lines_of call))) ≡ answer.Refused number
-      → RefusalPrinted number (listPrinted v (markedLinesOf call))
+  refused_by : (v : Verdict) (number : ℕ) → answer_for (answering listed-variant.Written listed-variant.Refused v (length (lines_of call))) ≡ answer.Refused number
+      → RefusalPrinted number (list_printed v (marked_lines_of call))
   unfolding number_in
-  refused-by Accepted number e = absurd (let z : ◌≡◌ {A = ℕ} 0 1 = cc in omega arith)
-  refused-by (RefusedFor why) number e =
-      let n : refusalNumber why ≡ number = ap number_in e in
+  refused_by Accepted number e = absurd (let z : ◌≡◌ {A = ℕ} 0 1 = cc in omega arith)
+  refused_by (RefusedFor why) number e =
+      let n : refusal_number why ≡ number = ap number_in e in
       rw (← n) (record { low = number-low why; same = refl })
 
 -- the number of a refused input
@@ -155,26 +155,26 @@ low_of false true c trim limit n = omega arith
 low_of false false true trim limit n = omega arith
 low_of false false false trim limit n = tt
 
-low-number : (input : List ℕ) → LowNumber (parsedOf input)
-unfolding parsedOf
-low-number input = low_of (incomplete input) (trimWrong input) (tooMany input) (trimOf input) (limitOf input) (length (recordsOf input))
+low-number : (input : List ℕ) → LowNumber (parsed_of input)
+unfolding parsed_of
+low-number input = low_of (incomplete input) (trim_wrong input) (too_many input) (trim_of input) (limit_of input) (length (records_of input))
 
-lines-parsed : (p : Parsed) (text list : List ℕ) → Counted p (length text) → length list ≡ mostRecords → (count : ℕ) → answered p text list ≡ answer.Lines count
+lines_parsed : (p : Parsed) (text list : List ℕ) → Counted p (length text) → length list ≡ most_records → (count : ℕ) → answered p text list ≡ answer.Lines count
     → LinesPrinted count (entered p text list) (printed p text)
-unfolding Counted listAnswer lines_of markedLinesOf
-lines-parsed (Refused number) text list c h count e = absurd (let z : ◌≡◌ {A = ℕ} 0 1 = cc in omega arith)
-lines-parsed (Text limit trim n) text list c h count e =
-    let k : length text ≤ mostRecords = omega (arith, c.0, c.1) in
-    let v = verdict-same limit trim text list h k in
-    lines-by limit trim text list (firstCause (lineCauses mostAccepted text limit)) v k count (rw v at e)
+unfolding Counted listAnswer lines_of marked_lines_of
+lines_parsed (Refused number) text list c h count e = absurd (let z : ◌≡◌ {A = ℕ} 0 1 = cc in omega arith)
+lines_parsed (Text limit trim n) text list c h count e =
+    let k : length text ≤ most_records = omega (arith, c.0, c.1) in
+    let v = verdict_same limit trim text list h k in
+    lines_by limit trim text list (first_cause (line_causes most_accepted text limit)) v k count (rw v at e)
 
-refused-parsed : (p : Parsed) (text list : List ℕ) → Counted p (length text) → LowNumber p → length list ≡ mostRecords → (number : ℕ) → answered p text list ≡ answer.Refused number
+refused_parsed : (p : Parsed) (text list : List ℕ) → Counted p (length text) → LowNumber p → length list ≡ most_records → (number : ℕ) → answered p text list ≡ answer.Refused number
     → RefusalPrinted number (printed p text)
-unfolding Counted LowNumber listAnswer lines_of markedLinesOf number_in
-refused-parsed (Refused number) text list c l h m e = let n : number ≡ m = ap number_in e in rw (← n) (record { low = l; same = refl })
-refused-parsed (Text limit trim n) text list c l h m e =
-    let k : length text ≤ mostRecords = omega (arith, c.0, c.1) in
-    refused-by limit trim text list (firstCause (lineCauses mostAccepted text limit)) m (rw (verdict-same limit trim text list h k) at e)
+unfolding Counted LowNumber listAnswer lines_of marked_lines_of number_in
+refused_parsed (Refused number) text list c l h m e = let n : number ≡ m = ap number_in e in rw (← n) (record { low = l; same = refl })
+refused_parsed (Text limit trim n) text list c l h m e =
+    let k : length text ≤ most_records = omega (arith, c.0, c.1) in
+    refused_by limit trim text list (first_cause (line_causes most_accepted text limit)) m (rw (verdict_same limit trim text list h k) at e)
 
 -- bytes written from the start of a buffer
 written_start : (old new bytes : List ℕ) (to : ℕ) → Written old 0 new to bytes → IsPrefixLen to new × (take to new ≡ bytes)
@@ -184,21 +184,21 @@ written_start old new bytes to w =
     ((omega (arith, l, length-take to new), l), s)
 
 -- r is the answer to an input
-module _ (input list₀ : List ℕ) (h : length list₀ ≡ mostRecords) (r : Answer) (e : r ≡ answer_of input list₀) where
-  pub output-refusal : (number : ℕ) → r ≡ answer.Refused number → RefusalPrinted number (printedOf input)
-  unfolding answer_of printedOf
-  output-refusal number q = refused-parsed (parsedOf input) (recordsOf input) list₀ (counted input) (low-number input) h number (sym e ∙ q)
+module _ (input list₀ : List ℕ) (h : length list₀ ≡ most_records) (r : Answer) (e : r ≡ answer_of input list₀) where
+  pub output_refusal : (number : ℕ) → r ≡ answer.Refused number → RefusalPrinted number (printed_of input)
+  unfolding answer_of printed_of
+  output_refusal number q = refused_parsed (parsed_of input) (records_of input) list₀ (counted input) (low-number input) h number (sym e ∙ q)
 
-  pub output-lines : (list : List ℕ) → list ≡ list_of input list₀ → (count : ℕ) → r ≡ answer.Lines count → LinesPrinted count list (printedOf input)
-  unfolding answer_of list_of printedOf
-  output-lines list f count q = rw f (lines-parsed (parsedOf input) (recordsOf input) list₀ (counted input) h count (sym e ∙ q))
+  pub output-lines : (list : List ℕ) → list ≡ list_of input list₀ → (count : ℕ) → r ≡ answer.Lines count → LinesPrinted count list (printed_of input)
+  unfolding answer_of list_of printed_of
+  output-lines list f count q = rw f (lines_parsed (parsed_of input) (records_of input) list₀ (counted input) h count (sym e ∙ q))
 
 -- the contracts of the functions that write it
 module _ (old new bytes : List ℕ) (to : ℕ) where
-  pub refusal-done : (number : ℕ) → RefusalPrinted number bytes → Written old 0 new to (refusedText number) → IsPrefixLen to new × (take to new ≡ bytes)
-  refusal-done number p w = written_start old new bytes to (rw p.same at w)
+  pub refusal_done : (number : ℕ) → RefusalPrinted number bytes → Written old 0 new to (refused_text number) → IsPrefixLen to new × (take to new ≡ bytes)
+  refusal_done number p w = written_start old new bytes to (rw p.same at w)
 
-  pub lines-done : (count : ℕ) (list : List ℕ) → LinesPrinted count list bytes → Written old 0 new to (entriesText (take count list) ++ countText (length (take count list)))
+  pub lines-done : (count : ℕ) (list : List ℕ) → LinesPrinted count list bytes → Written old 0 new to (entries_text (take count list) ++ count_text (length (take count list)))
       → IsPrefixLen to new × (take to new ≡ bytes)
   lines-done count list p w = written_start old new bytes to (rw (length-take-le count list p.fits, p.same) at w)
 

@@ -1,9 +1,9 @@
 // The program `listlines`: reads a limit, a trim byte and records, and prints the composed lines or the number of the refusal.
 ghost use Rattle.std.specs.Prelude.{◌≡◌, ◌+◌, ◌*◌, ◌≤◌, length, take};
 ghost use Rattle.io.specs.Counts.{IsPrefixLen};
-ghost use Rattle.listlines_input.specs.Input.{mostRecords};
-ghost use Rattle.listlines_run.specs.Program.{answerFor, answer_of, list_of};
-ghost use Rattle.listlines_run.specs.Printed.{printedOf};
+ghost use Rattle.listlines_input.specs.Input.{most_records};
+ghost use Rattle.listlines_run.specs.Program.{answer_for, answer_of, list_of};
+ghost use Rattle.listlines_run.specs.Printed.{printed_of};
 
 use libc::STDOUT_FILENO;
 use list_lines::ListAnswer;
@@ -21,7 +21,7 @@ pub enum Answer {
 
 // Converts the list call's answer to the program's.
 fn answer_for(listed: ListAnswer) -> Answer
-    ensures { result ≡ answerFor listed }
+    ensures { result ≡ answer_for listed }
 {
     match listed {
         ListAnswer::Written(count) => Answer::Lines(count),
@@ -31,7 +31,7 @@ fn answer_for(listed: ListAnswer) -> Answer
 
 // Returns the answer to an input, and its lines in `list`; the notice is aligned left.
 fn answer_to(input: &[u8], text: &mut [u32], list: &mut [u64]) -> Answer
-    requires { (mostRecords ≤ length text.old) × (length list.old ≡ mostRecords) }
+    requires { (most_records ≤ length text.old) × (length list.old ≡ most_records) }
     ensures { let lent = list.old in
         (result ≡ answer_of input.now lent) × (list.new ≡ list_of input.now lent) }
 {
@@ -58,10 +58,10 @@ fn answer_to(input: &[u8], text: &mut [u32], list: &mut [u64]) -> Answer
 // Writes the output for an input at the start of `output` and returns its length in bytes: at most 30 for each line, 12 for their
 // count.
 fn output_for(input: &[u8], text: &mut [u32], list: &mut [u64], output: &mut [u8]) -> usize
-    requires most_records_in_bounds { (mostRecords ≤ length text.old) × (length list.old ≡ mostRecords) }
-    requires most_records_in_bounds_2 { 30 * mostRecords + 12 ≤ length output.old }
+    requires most_records_in_bounds { (most_records ≤ length text.old) × (length list.old ≡ most_records) }
+    requires most_records_in_bounds_2 { 30 * most_records + 12 ≤ length output.old }
     ensures prefix_len { IsPrefixLen result output.new }
-    ensures output_after { take result output.new ≡ printedOf input.now }
+    ensures output_after { take result output.new ≡ printed_of input.now }
 {
     match answer_to(input, text, list) {
         Answer::Refused(number) => listlines_output::put_refused(output, number),

@@ -5,11 +5,11 @@ use Rattle.text.specs.declared.AmbiguousWidth.{AmbiguousWidth}
 use Rattle.refuse.specs.declared.Ceilings.{Ceilings}
 use Rattle.refuse.specs.declared.Refusal.TheVariants.{Limit}
 use Rattle.refuse.specs.declared.Verdict.{Verdict}
-use Rattle.refuse.specs.Refusal.{Cause, ◌if◌, firstCause, answering, unlessRefused}
-use Rattle.refuse.specs.Causes.{mostAccepted, limitWrong}
+use Rattle.refuse.specs.Refusal.{Cause, ◌if◌, first_cause, answering, unless_refused}
+use Rattle.refuse.specs.Causes.{most_accepted, limit_wrong}
 use Rattle.block.specs.declared.Block.{Block}
 use Rattle.line_composer.specs.declared.Wrap.{Wrap}
-use Rattle.measure_text.specs.Measures.{lineCount}
+use Rattle.measure_text.specs.Measures.{line_count}
 use Rattle.measure.specs.LineWidth as width
 use Rattle.measure.specs.declared.MeasureAnswer.{MeasureAnswer}
 use Rattle.measure.specs.declared.MeasureAnswer.TheVariants.{Value, Refused}
@@ -28,20 +28,20 @@ call_of text ambiguous titles block wrap width =
     record { text = text; ambiguous = ambiguous; titles = titles; block = block; wrap = wrap; width = width }
 
 -- causes 3, 4, 5, 7, as for `line_width`, and 8, for "the width given to `line_count`"
-abbrev pub widthCall : Call → width.Call
-widthCall call = width.call_of call.text call.ambiguous call.titles call.block
+abbrev pub width_call : Call → width.Call
+width_call call = width.call_of call.text call.ambiguous call.titles call.block
 
-unfoldable pub causesOf : Ceilings → Call → List Cause
-causesOf most call = width.causesOf most (widthCall call) ++ (Limit if limitWrong most call.width ∷ [])
+unfoldable pub causes_of : Ceilings → Call → List Cause
+causes_of most call = width.causes_of most (width_call call) ++ (Limit if limit_wrong most call.width ∷ [])
 
-unfoldable pub verdictOf : Call → Verdict
-verdictOf call = firstCause (causesOf mostAccepted call)
+unfoldable pub verdict_of : Call → Verdict
+verdict_of call = first_cause (causes_of most_accepted call)
 
 abbrev pub count_of : Call → ℕ
-count_of call = lineCount call.ambiguous call.block call.titles call.wrap call.width call.text
+count_of call = line_count call.ambiguous call.block call.titles call.wrap call.width call.text
 
 unfoldable pub answer_of : Call → MeasureAnswer
-answer_of call = answering Value Refused (verdictOf call) (count_of call)
+answer_of call = answering Value Refused (verdict_of call) (count_of call)
 
 unfoldable pub value_of : Call → ℕ
-value_of call = unlessRefused (verdictOf call) (count_of call) 0
+value_of call = unless_refused (verdict_of call) (count_of call) 0

@@ -4,11 +4,11 @@ use Rattle.std.specs.Prelude.{ℕ, List, ◌++◌}
 use Rattle.text.specs.declared.AmbiguousWidth.{AmbiguousWidth}
 use Rattle.refuse.specs.declared.Ceilings.{Ceilings}
 use Rattle.refuse.specs.declared.Verdict.{Verdict}
-use Rattle.refuse.specs.Refusal.{Cause, firstCause, answering, unlessRefused}
-use Rattle.refuse.specs.Causes.{mostAccepted, textCauses}
+use Rattle.refuse.specs.Refusal.{Cause, first_cause, answering, unless_refused}
+use Rattle.refuse.specs.Causes.{most_accepted, text_causes}
 use Rattle.block.specs.declared.Block.{Block}
-use Rattle.check_block.specs.Causes.{frameCauses}
-use Rattle.measure_text.specs.Measures.{lineWidth}
+use Rattle.check_block.specs.Causes.{frame_causes}
+use Rattle.measure_text.specs.Measures.{line_width}
 use Rattle.measure.specs.declared.MeasureAnswer.{MeasureAnswer}
 use Rattle.measure.specs.declared.MeasureAnswer.TheVariants.{Value, Refused}
 
@@ -23,14 +23,14 @@ abbrev pub call_of : List ℕ → AmbiguousWidth → List ℕ → Block → Call
 call_of text ambiguous titles block = record { text = text; ambiguous = ambiguous; titles = titles; block = block }
 
 -- causes 3, 4, 5, 7
-unfoldable pub causesOf : Ceilings → Call → List Cause
-causesOf most call = textCauses most call.text ++ frameCauses most call.titles call.block
+unfoldable pub causes_of : Ceilings → Call → List Cause
+causes_of most call = text_causes most call.text ++ frame_causes most call.titles call.block
 
-unfoldable pub verdictOf : Call → Verdict
-verdictOf call = firstCause (causesOf mostAccepted call)
+unfoldable pub verdict_of : Call → Verdict
+verdict_of call = first_cause (causes_of most_accepted call)
 
 unfoldable pub answer_of : Call → MeasureAnswer
-answer_of call = answering Value Refused (verdictOf call) (lineWidth call.ambiguous call.block call.text)
+answer_of call = answering Value Refused (verdict_of call) (line_width call.ambiguous call.block call.text)
 
 unfoldable pub value_of : Call → ℕ
-value_of call = unlessRefused (verdictOf call) (lineWidth call.ambiguous call.block call.text) 0
+value_of call = unless_refused (verdict_of call) (line_width call.ambiguous call.block call.text) 0

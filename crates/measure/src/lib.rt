@@ -1,7 +1,7 @@
 // The calls `line_count` and `line_width`: paragraph.rs: `Paragraph::line_count` and `Paragraph::line_width`.
 ghost use Rattle.std.specs.Prelude.{◌≡◌};
-ghost use Rattle.measure.specs.LineWidth.{call_of as widthCall, verdictOf as widthVerdict, answer_of as widthAnswer};
-ghost use Rattle.measure.specs.LineCount.{call_of as countCall, verdictOf as countVerdict, answer_of as countAnswer};
+ghost use Rattle.measure.specs.LineWidth.{call_of as width_call, verdict_of as widthVerdict, answer_of as widthAnswer};
+ghost use Rattle.measure.specs.LineCount.{call_of as count_call, verdict_of as countVerdict, answer_of as countAnswer};
 
 use block::Block;
 use check_settings::limits;
@@ -23,7 +23,7 @@ fn line_width_verdict(
     titles: &[u32],
     block: Block,
 ) -> Verdict
-    ensures { result ≡ widthVerdict (widthCall text.now ambiguous titles.now block) }
+    ensures { result ≡ widthVerdict (width_call text.now ambiguous titles.now block) }
 {
     if let Verdict::Refused(why) = check_records::text_verdict(ACCEPTED, text) {
         return Verdict::Refused(why);
@@ -40,7 +40,7 @@ fn line_count_verdict(
     wrap: Wrap,
     width: u16,
 ) -> Verdict
-    ensures { result ≡ countVerdict (countCall text.now ambiguous titles.now block wrap width) }
+    ensures { result ≡ countVerdict (count_call text.now ambiguous titles.now block wrap width) }
 {
     if let Verdict::Refused(why) = line_width_verdict(text, ambiguous, titles, block) {
         return Verdict::Refused(why);
@@ -61,7 +61,7 @@ pub fn line_count(
     wrap: Wrap,
     width: u16,
 ) -> MeasureAnswer
-    ensures { result ≡ countAnswer (countCall text.now ambiguous titles.now block wrap width) }
+    ensures { result ≡ countAnswer (count_call text.now ambiguous titles.now block wrap width) }
 {
     if let Verdict::Refused(why) = line_count_verdict(text, ambiguous, titles, block, wrap, width) {
         return MeasureAnswer::Refused(why);
@@ -81,7 +81,7 @@ pub fn line_width(
     titles: &[u32],
     block: Block,
 ) -> MeasureAnswer
-    ensures { result ≡ widthAnswer (widthCall text.now ambiguous titles.now block) }
+    ensures { result ≡ widthAnswer (width_call text.now ambiguous titles.now block) }
 {
     if let Verdict::Refused(why) = line_width_verdict(text, ambiguous, titles, block) {
         return MeasureAnswer::Refused(why);

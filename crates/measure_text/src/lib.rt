@@ -2,7 +2,7 @@
 // the sum of a space's two numbers.
 ghost use Rattle.std.specs.Prelude.{◌≡◌};
 ghost use Rattle.text.specs.Line.{lines_from, Opens, FewRecords};
-ghost use Rattle.measure_text.specs.Measures.{linesAt, both, widest};
+ghost use Rattle.measure_text.specs.Measures.{lines_at, both, widest};
 
 use block::Space;
 use line_composer::Wrap;
@@ -19,7 +19,7 @@ pub fn both(space: Space) -> u32
 // Counts the lines of a text at a width: composed lines, or text lines if unwrapped.
 pub fn lines_at(wrap: Wrap, width: u16, text: &[u32], ambiguous: AmbiguousWidth) -> usize
     requires { FewRecords text.now × Opens text.now }
-    ensures { result ≡ linesAt ambiguous wrap width text.now }
+    ensures { result ≡ lines_at ambiguous wrap width text.now }
 {
     let Wrap::On { trim } = wrap else {
         return line::count_text_lines(text);

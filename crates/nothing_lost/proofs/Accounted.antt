@@ -12,10 +12,10 @@ use lib.ListN.{length}
 use Rattle.text.specs.declared.AmbiguousWidth.{AmbiguousWidth}
 use Rattle.text.specs.Line.{Glyph, numbered, total}
 use Rattle.wrapping.specs.declared.Rule.{Rule}
-use Rattle.wrapping.specs.Wrapping.{Pending, Step, emptyPending, overWide, takesSpaces, gathered, joined, unjoined, emptied, appended, step, wrapFrom, wrap, overWides}
+use Rattle.wrapping.specs.Wrapping.{Pending, Step, empty_pending, is_over_wide, takes_spaces, gathered, joined, unjoined, emptied, appended, step, wrap_from, wrap, over_wides}
 use Rattle.text.specs.Lists.{count_of}
 use Rattle.text.proofs.Lists.{count-append}
-use Rattle.nothing_lost.specs.Glyphs.{glyphsOfAll}
+use Rattle.nothing_lost.specs.Glyphs.{glyphs_of_all}
 use Rattle.text.proofs.Bools.{cases}
 use Rattle.nothing_lost.proofs.Lists.{glyphs-append}
 use Rattle.nothing_lost.proofs.Steps.{last-gathers, at-least-one-glyphs, wrap-from-empty}
@@ -29,11 +29,11 @@ module _ (test : Glyph → Bool) where
 
   -- glyphs that pass, of a step's lines, of those it drops, and of those pending after it
   unfoldable after : Step → ℕ
-  after t = count_of test (glyphsOfAll t.lines) + count_of test t.dropped + held t.pending
+  after t = count_of test (glyphs_of_all t.lines) + count_of test t.dropped + held t.pending
 
   gathered-count : (u : Rule) (s : Pending) → count_of test (gathered u s) + count_of test (unjoined u s) ≡ held s
   unfolding gathered unjoined held
-  gathered-count u s = go (takesSpaces u s)
+  gathered-count u s = go (takes_spaces u s)
     where
       go : (b : Bool) → count_of test ((s.row ++ cond b s.spaces []) ++ s.word) + count_of test (cond b [] s.spaces)
           ≡ count_of test s.row + count_of test s.spaces + count_of test s.word
@@ -56,25 +56,25 @@ module _ (test : Glyph → Bool) where
       (λ _. omega (arith, appended-count s g))
 
   step_count : (u : Rule) (s : Pending) (g : Glyph) →
-      after (step u s g) + count_of test (overWides u (g ∷ [])) ≡ held s + count_of test (g ∷ [])
+      after (step u s g) + count_of test (over_wides u (g ∷ [])) ≡ held s + count_of test (g ∷ [])
   unfolding after held joined
   step_count u s g =
-      step-ways u s g (λ (t : Step). after t + count_of test (overWides u (g ∷ [])) ≡ held s + count_of test (g ∷ []))
+      step-ways u s g (λ (t : Step). after t + count_of test (over_wides u (g ∷ [])) ≡ held s + count_of test (g ∷ []))
       (λ o. rw o (omega arith))
       (λ o _. rw o (simp count-append (omega (arith, filled-count u (joined u s) g, gathered-count u s))))
       (λ o _. rw o (omega (arith, filled-count u s g)))
 
   over_first : (u : Rule) (g : Glyph) (gs : List Glyph) →
-      count_of test (overWides u (g ∷ gs)) ≡ count_of test (overWides u (g ∷ [])) + count_of test (overWides u gs)
-  over_first u g gs = go (overWide u g)
+      count_of test (over_wides u (g ∷ gs)) ≡ count_of test (over_wides u (g ∷ [])) + count_of test (over_wides u gs)
+  over_first u g gs = go (is_over_wide u g)
     where
       go : (b : Bool) →
-          count_of test (cond b (g ∷ overWides u gs) (overWides u gs)) ≡ count_of test (cond b (g ∷ []) []) + count_of test (overWides u gs)
+          count_of test (cond b (g ∷ over_wides u gs) (over_wides u gs)) ≡ count_of test (cond b (g ∷ []) []) + count_of test (over_wides u gs)
       go true = omega arith
       go false = omega arith
 
   from-count : (u : Rule) (s : Pending) (gs : List Glyph) →
-      count_of test (glyphsOfAll (wrapFrom u s gs).lines) + count_of test (wrapFrom u s gs).dropped + count_of test (overWides u gs)
+      count_of test (glyphs_of_all (wrap_from u s gs).lines) + count_of test (wrap_from u s gs).dropped + count_of test (over_wides u gs)
       ≡ held s + count_of test gs
   unfolding after
   from-count u s [] = simp last-gathers (omega (arith, gathered-count u s))
@@ -82,20 +82,20 @@ module _ (test : Glyph → Bool) where
       simp (glyphs-append, count-append) (omega (arith, step_count u s g, over_first u g gs, from-count u (step u s g).pending gs))
 
 -- test by record number: one glyph of a text line passes
-abbrev pub numberIs : ℕ → Glyph → Bool
-numberIs n g = eqb g.number n
+abbrev pub number_is : ℕ → Glyph → Bool
+number_is n g = eqb g.number n
 
-numbered-none : (a : AmbiguousWidth) (n k : ℕ) (rs : List ℕ) → n < k → count_of (numberIs n) (numbered a k rs) ≡ 0
+numbered-none : (a : AmbiguousWidth) (n k : ℕ) (rs : List ℕ) → n < k → count_of (number_is n) (numbered a k rs) ≡ 0
 numbered-none a n k [] h = refl
 numbered-none a n k (r ∷ rs) h =
     rw (ne_eqb k n (λ (e : k ≡ n). omega arith)) (omega (arith, numbered-none a n (suc k) rs (omega arith)))
 
-numbered-once : (a : AmbiguousWidth) (n k : ℕ) (rs : List ℕ) → k ≤ n → n < k + length rs → count_of (numberIs n) (numbered a k rs) ≡ 1
-numbered-once a n k [] h l = omega arith
-numbered-once a n k (r ∷ rs) h l =
-    cases (λ (b : Bool). cond b 1 0 + count_of (numberIs n) (numbered a (suc k) rs) ≡ 1) (eqb k n)
+numbered_once : (a : AmbiguousWidth) (n k : ℕ) (rs : List ℕ) → k ≤ n → n < k + length rs → count_of (number_is n) (numbered a k rs) ≡ 1
+numbered_once a n k [] h l = omega arith
+numbered_once a n k (r ∷ rs) h l =
+    cases (λ (b : Bool). cond b 1 0 + count_of (number_is n) (numbered a (suc k) rs) ≡ 1) (eqb k n)
     (λ e. let same = eqb-true k n e in omega (arith, numbered-none a n (suc k) rs (omega arith)))
-    (λ e. let other = eqb-false k n e in omega (arith, numbered-once a n (suc k) rs (omega arith) (omega arith)))
+    (λ e. let other = eqb-false k n e in omega (arith, numbered_once a n (suc k) rs (omega arith) (omega arith)))
 
 all-counted : (gs : List Glyph) → count_of (λ _. true) gs ≡ length gs
 all-counted [] = refl
@@ -103,23 +103,23 @@ all-counted (g ∷ gs) = omega (arith, all-counted gs)
 
 module _ (u : Rule) (gs : List Glyph) (h : 0 < u.limit) where
   pub accounted : (test : Glyph → Bool) →
-      count_of test (glyphsOfAll (wrap u gs).lines) + count_of test (wrap u gs).dropped + count_of test (overWides u gs) ≡ count_of test gs
+      count_of test (glyphs_of_all (wrap u gs).lines) + count_of test (wrap u gs).dropped + count_of test (over_wides u gs) ≡ count_of test gs
   unfolding held
-  accounted test = rw (wrap-from-empty u gs h, at-least-one-glyphs) (omega (arith, from-count test u emptyPending gs))
+  accounted test = rw (wrap-from-empty u gs h, at-least-one-glyphs) (omega (arith, from-count test u empty_pending gs))
 
-  pub accounted-lengths : length (glyphsOfAll (wrap u gs).lines) + length (wrap u gs).dropped + length (overWides u gs) ≡ length gs
-  accounted-lengths = simp all-counted at (accounted (λ _. true))
+  pub accounted_lengths : length (glyphs_of_all (wrap u gs).lines) + length (wrap u gs).dropped + length (over_wides u gs) ≡ length gs
+  accounted_lengths = simp all-counted at (accounted (λ _. true))
 
 -- wrapping emits no more glyphs than a text line has
-pub wrapped-few : (u : Rule) (gs : List Glyph) → length (glyphsOfAll (wrap u gs).lines) ≤ length gs
+pub wrapped-few : (u : Rule) (gs : List Glyph) → length (glyphs_of_all (wrap u gs).lines) ≤ length gs
 unfolding wrap
 wrapped-few u gs =
-    cases (λ _. length (glyphsOfAll (wrap u gs).lines) ≤ length gs) (eqb u.limit 0)
+    cases (λ _. length (glyphs_of_all (wrap u gs).lines) ≤ length gs) (eqb u.limit 0)
     (λ e. rw e (omega arith))
-    (λ e. let n = eqb-false u.limit 0 e in omega (arith, accounted-lengths u gs (omega arith)))
+    (λ e. let n = eqb-false u.limit 0 e in omega (arith, accounted_lengths u gs (omega arith)))
 
-pub exactly-once : (u : Rule) (k : ℕ) (rs : List ℕ) → 0 < u.limit → (n : ℕ) → k ≤ n → n < k + length rs →
-    count_of (numberIs n) (glyphsOfAll (wrap u (numbered u.ambiguous k rs)).lines) + count_of (numberIs n) (wrap u (numbered u.ambiguous k rs)).dropped
-    + count_of (numberIs n) (overWides u (numbered u.ambiguous k rs))
+pub exactly_once : (u : Rule) (k : ℕ) (rs : List ℕ) → 0 < u.limit → (n : ℕ) → k ≤ n → n < k + length rs →
+    count_of (number_is n) (glyphs_of_all (wrap u (numbered u.ambiguous k rs)).lines) + count_of (number_is n) (wrap u (numbered u.ambiguous k rs)).dropped
+    + count_of (number_is n) (over_wides u (numbered u.ambiguous k rs))
     ≡ 1
-exactly-once u k rs h n from below = accounted u (numbered u.ambiguous k rs) h (numberIs n) ∙ numbered-once u.ambiguous n k rs from below
+exactly_once u k rs h n from below = accounted u (numbered u.ambiguous k rs) h (number_is n) ∙ numbered_once u.ambiguous n k rs from below

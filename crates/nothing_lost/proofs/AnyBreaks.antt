@@ -11,22 +11,22 @@ use lib.Dec.{eqb}
 use Rattle.text.specs.Line.{Glyph, total}
 use Rattle.text.proofs.Bools.{cond_cases}
 use Rattle.wrapping.specs.declared.Rule.{Rule}
-use Rattle.wrapping.specs.Wrapping.{Pending, Step, Wrapped, emptyPending, silent, ◌then◌, overWide, takesSpaces, gathered, joined, unjoined, joinStep, fitting, afterFitting, emptied, drops, emitStep, appendStep, step, wrapFrom, wrap, notOverWide}
+use Rattle.wrapping.specs.Wrapping.{Pending, Step, Wrapped, empty_pending, silent, ◌then◌, is_over_wide, takes_spaces, gathered, joined, unjoined, join_step, fitting, after_fitting, emptied, drops, emit_step, append_step, step, wrap_from, wrap, not_over_wide}
 use Rattle.wrapping.proofs.Ways.{appended-ways, drops-whitespace}
 use Rattle.wrapping.proofs.Splits.{fitting-split}
-use Rattle.nothing_lost.specs.Glyphs.{solids, glyphsOfAll}
-use Rattle.nothing_lost.specs.Breaks.{Tests, documentTests, joinStepBy, emitStepBy, stepBy, wrapFromBy, wrapBy}
+use Rattle.nothing_lost.specs.Glyphs.{solids, glyphs_of_all}
+use Rattle.nothing_lost.specs.Breaks.{Tests, document_tests, join_step_by, emit_step_by, step_by, wrap_from_by, wrap_by}
 use Rattle.nothing_lost.proofs.Lists.{glyphs-append, solids-append}
 use Rattle.nothing_lost.proofs.Steps.{last-gathers, at-least-one-glyphs}
 
-both-nil : (a b : List Glyph) → a ++ b ≡ [] → (a ≡ []) × (b ≡ [])
-both-nil [] b e = (refl, e)
-both-nil (g ∷ a) b e = let z : ◌≡◌ {A = ℕ} 0 1 = cc in absurd (omega arith)
+both_nil : (a b : List Glyph) → a ++ b ≡ [] → (a ≡ []) × (b ≡ [])
+both_nil [] b e = (refl, e)
+both_nil (g ∷ a) b e = let z : ◌≡◌ {A = ℕ} 0 1 = cc in absurd (omega arith)
 
-fitting-solids : (room : ℕ) (gs : List Glyph) → solids gs ≡ [] → (solids (fitting room gs) ≡ []) × (solids (afterFitting room gs) ≡ [])
+fitting-solids : (room : ℕ) (gs : List Glyph) → solids gs ≡ [] → (solids (fitting room gs) ≡ []) × (solids (after_fitting room gs) ≡ [])
 fitting-solids room gs e =
-    both-nil (solids (fitting room gs)) (solids (afterFitting room gs))
-    (sym (solids-append (fitting room gs) (afterFitting room gs)) ∙ ap solids (sym (fitting-split room gs)) ∙ e)
+    both_nil (solids (fitting room gs)) (solids (after_fitting room gs))
+    (sym (solids-append (fitting room gs) (after_fitting room gs)) ∙ ap solids (sym (fitting-split room gs)) ∙ e)
 
 -- pending solid glyphs, if spaces has none
 unfoldable held : Pending → List Glyph
@@ -34,12 +34,12 @@ held s = solids s.row ++ solids s.word
 
 -- A step keeps the solid glyphs: those of its lines and those pending after it are those pending before it and the new ones.
 record Keeps (before new : List Glyph) (r : Step) : Type 0 where
-  pub same : solids (glyphsOfAll r.lines) ++ held r.pending ≡ before ++ new
+  pub same : solids (glyphs_of_all r.lines) ++ held r.pending ≡ before ++ new
   pub blank : solids r.pending.spaces ≡ []
   pub gone : solids r.dropped ≡ []
 
-silent-keeps : (s : Pending) → solids s.spaces ≡ [] → Keeps (held s) [] (silent s)
-silent-keeps s blank = record { same = sym (append-nil (held s)); blank = blank; gone = refl }
+silent_keeps : (s : Pending) → solids s.spaces ≡ [] → Keeps (held s) [] (silent s)
+silent_keeps s blank = record { same = sym (append-nil (held s)); blank = blank; gone = refl }
 
 -- One step and another keep the glyphs if both do. The new ones are the other step's: if it isn't taken there must be none.
 then_keeps : (new : List Glyph) (one other : Pending → Step) (s : Pending) → Keeps (held s) [] (one s) → ((one s).done ≡ true → new ≡ []) →
@@ -59,7 +59,7 @@ then_keeps new one other s k nothing more =
 module _ (u : Rule) (s : Pending) (blank : solids s.spaces ≡ []) where
   gathered-solids : solids (gathered u s) ≡ held s
   unfolding held gathered
-  gathered-solids = go (takesSpaces u s)
+  gathered-solids = go (takes_spaces u s)
     where
       go : (b : Bool) → solids ((s.row ++ cond b s.spaces []) ++ s.word) ≡ held s
       go true = simp (solids-append, blank, append-nil)
@@ -67,31 +67,31 @@ module _ (u : Rule) (s : Pending) (blank : solids s.spaces ≡ []) where
 
   unjoined-solids : solids (unjoined u s) ≡ []
   unfolding unjoined
-  unjoined-solids = cond_cases (λ (gs : List Glyph). solids gs ≡ []) (takesSpaces u s) _ _ (λ _. refl) (λ _. blank)
+  unjoined-solids = cond_cases (λ (gs : List Glyph). solids gs ≡ []) (takes_spaces u s) _ _ (λ _. refl) (λ _. blank)
 
 module _ (t : Tests) (u : Rule) (g : Glyph) where
-  join-keeps : (s : Pending) → solids s.spaces ≡ [] → Keeps (held s) [] (joinStepBy t u g s)
-  unfolding joinStepBy joined held
-  join-keeps s blank =
+  join_keeps : (s : Pending) → solids s.spaces ≡ [] → Keeps (held s) [] (join_step_by t u g s)
+  unfolding join_step_by joined held
+  join_keeps s blank =
       cond_cases (λ (r : Step). Keeps (held s) [] r) (t.join u s g) _ _
       (λ _. record { same = simp (append-nil, gathered-solids u s blank); blank = refl; gone = unjoined-solids u s blank })
-      (λ _. silent-keeps s blank)
+      (λ _. silent_keeps s blank)
 
   -- step 2 doesn't end the glyph's steps; step 3 does if the glyph is whitespace
-  join-goes-on : (s : Pending) → (joinStepBy t u g s).done ≡ false
-  unfolding joinStepBy
-  join-goes-on s = cond_cases (λ (r : Step). r.done ≡ false) (t.join u s g) _ _ (λ _. refl) (λ _. refl)
+  join_goes_on : (s : Pending) → (join_step_by t u g s).done ≡ false
+  unfolding join_step_by
+  join_goes_on s = cond_cases (λ (r : Step). r.done ≡ false) (t.join u s g) _ _ (λ _. refl) (λ _. refl)
 
-  emit-ends-blank : (s : Pending) → (emitStepBy t u g s).done ≡ true → solids (g ∷ []) ≡ []
-  unfolding emitStepBy
-  emit-ends-blank s =
+  emit_ends-blank : (s : Pending) → (emit_step_by t u g s).done ≡ true → solids (g ∷ []) ≡ []
+  unfolding emit_step_by
+  emit_ends-blank s =
       cond_cases (λ (r : Step). r.done ≡ true → solids (g ∷ []) ≡ []) (t.full u s g) _ _
       (λ _ d. rw (drops-whitespace (emptied u s) g d))
       (λ _ d. absurd (false≢true d))
 
-  emit-keeps : (s : Pending) → solids s.spaces ≡ [] → Keeps (held s) [] (emitStepBy t u g s)
-  unfolding emitStepBy emptied held
-  emit-keeps s blank =
+  emit_keeps : (s : Pending) → solids s.spaces ≡ [] → Keeps (held s) [] (emit_step_by t u g s)
+  unfolding emit_step_by emptied held
+  emit_keeps s blank =
       let parts = fitting-solids (u.limit - total s.row) s.spaces blank in
       cond_cases (λ (r : Step). Keeps (held s) [] r) (t.full u s g) _ _
       (λ _.
@@ -102,74 +102,74 @@ module _ (t : Tests) (u : Rule) (g : Glyph) where
             (cond_cases (λ (gs : List Glyph). solids gs ≡ []) (drops (emptied u s) g) _ _
             (λ d. rw (drops-whitespace (emptied u s) g d)) (λ _. refl));
       })
-      (λ _. silent-keeps s blank)
+      (λ _. silent_keeps s blank)
 
-  append-keeps : (s : Pending) → solids s.spaces ≡ [] → Keeps (held s) (solids (g ∷ [])) (appendStep g s)
-  unfolding appendStep held
-  append-keeps s blank =
+  append_keeps : (s : Pending) → solids s.spaces ≡ [] → Keeps (held s) (solids (g ∷ [])) (append_step g s)
+  unfolding append_step held
+  append_keeps s blank =
       appended-ways s g (λ (p : Pending). Keeps (held s) (solids (g ∷ [])) (silent p))
       (λ e. record { same = simp (e, append-nil); blank = simp (solids-append, blank, e); gone = refl })
       (λ e. record { same = simp (solids-append, append_assoc); blank = blank; gone = refl })
 
-  step_keeps : (s : Pending) → solids s.spaces ≡ [] → Keeps (held s) (solids (notOverWide u (g ∷ []))) (stepBy t u s g)
-  unfolding stepBy
+  step_keeps : (s : Pending) → solids s.spaces ≡ [] → Keeps (held s) (solids (not_over_wide u (g ∷ []))) (step_by t u s g)
+  unfolding step_by
   step_keeps s blank =
-      cond_cases (λ (r : Step). Keeps (held s) (solids (notOverWide u (g ∷ []))) r) (overWide u g) _ _
-      (λ o. rw o (silent-keeps s blank))
+      cond_cases (λ (r : Step). Keeps (held s) (solids (not_over_wide u (g ∷ []))) r) (is_over_wide u g) _ _
+      (λ o. rw o (silent_keeps s blank))
       (λ o.
       rw o
-      (then_keeps (solids (g ∷ [])) (joinStepBy t u g) (emitStepBy t u g then appendStep g) s (join-keeps s blank)
-      (λ d. absurd (false≢true (sym (join-goes-on s) ∙ d)))
-      (λ p b. then_keeps (solids (g ∷ [])) (emitStepBy t u g) (appendStep g) p (emit-keeps p b) (emit-ends-blank p) append-keeps)))
+      (then_keeps (solids (g ∷ [])) (join_step_by t u g) (emit_step_by t u g then append_step g) s (join_keeps s blank)
+      (λ d. absurd (false≢true (sym (join_goes_on s) ∙ d)))
+      (λ p b. then_keeps (solids (g ∷ [])) (emit_step_by t u g) (append_step g) p (emit_keeps p b) (emit_ends-blank p) append_keeps)))
 
 skip_first : (u : Rule) (g : Glyph) (gs : List Glyph) →
-    solids (notOverWide u (g ∷ gs)) ≡ solids (notOverWide u (g ∷ [])) ++ solids (notOverWide u gs)
-skip_first u g gs = go (overWide u g)
+    solids (not_over_wide u (g ∷ gs)) ≡ solids (not_over_wide u (g ∷ [])) ++ solids (not_over_wide u gs)
+skip_first u g gs = go (is_over_wide u g)
   where
-    go : (b : Bool) → solids (cond b (notOverWide u gs) (g ∷ notOverWide u gs)) ≡ solids (cond b [] (g ∷ [])) ++ solids (notOverWide u gs)
+    go : (b : Bool) → solids (cond b (not_over_wide u gs) (g ∷ not_over_wide u gs)) ≡ solids (cond b [] (g ∷ [])) ++ solids (not_over_wide u gs)
     go true = refl
-    go false = solids-append (g ∷ []) (notOverWide u gs)
+    go false = solids-append (g ∷ []) (not_over_wide u gs)
 
 -- wrapping the remaining glyphs keeps the solid ones
 record Kept (before new : List Glyph) (w : Wrapped) : Type 0 where
-  pub same : solids (glyphsOfAll w.lines) ≡ before ++ new
+  pub same : solids (glyphs_of_all w.lines) ≡ before ++ new
   pub gone : solids w.dropped ≡ []
 
-from-keeps : (t : Tests) (u : Rule) (s : Pending) (gs : List Glyph) → solids s.spaces ≡ [] →
-    Kept (held s) (solids (notOverWide u gs)) (wrapFromBy t u s gs)
-from-keeps t u s [] blank =
+from_keeps : (t : Tests) (u : Rule) (s : Pending) (gs : List Glyph) → solids s.spaces ≡ [] →
+    Kept (held s) (solids (not_over_wide u gs)) (wrap_from_by t u s gs)
+from_keeps t u s [] blank =
     record { same = simp (last-gathers, gathered-solids u s blank, append-nil); gone = unjoined-solids u s blank }
-from-keeps t u s (g ∷ gs) blank =
+from_keeps t u s (g ∷ gs) blank =
     let k = step_keeps t u g s blank in
-    let l = from-keeps t u (stepBy t u s g).pending gs k.blank in
+    let l = from_keeps t u (step_by t u s g).pending gs k.blank in
     record {
       same = simp (glyphs-append, solids-append, l.same, ← append_assoc, k.same, skip_first u g gs);
       gone = simp (solids-append, k.gone) l.gone;
     }
 
 -- also at limit 0, where nothing is dropped
-pub any-breaks-dropped : (t : Tests) (u : Rule) (gs : List Glyph) → solids (wrapBy t u gs).dropped ≡ []
-unfolding wrapBy
-any-breaks-dropped t u gs =
+pub any_breaks_dropped : (t : Tests) (u : Rule) (gs : List Glyph) → solids (wrap_by t u gs).dropped ≡ []
+unfolding wrap_by
+any_breaks_dropped t u gs =
     cond_cases (λ (w : Wrapped). solids w.dropped ≡ []) (eqb u.limit 0) _ _
-    (λ _. refl) (λ _. (from-keeps t u emptyPending gs refl).gone)
+    (λ _. refl) (λ _. (from_keeps t u empty_pending gs refl).gone)
 
-pub any-breaks : (t : Tests) (u : Rule) (gs : List Glyph) → 0 < u.limit →
-    (solids (glyphsOfAll (wrapBy t u gs).lines) ≡ solids (notOverWide u gs)) × (solids (wrapBy t u gs).dropped ≡ [])
-unfolding wrapBy held
-any-breaks t u gs h = (
-  rw (ne_eqb u.limit 0 (λ (e : u.limit ≡ 0). omega arith), at-least-one-glyphs) (from-keeps t u emptyPending gs refl).same,
-  any-breaks-dropped t u gs,
+pub any_breaks : (t : Tests) (u : Rule) (gs : List Glyph) → 0 < u.limit →
+    (solids (glyphs_of_all (wrap_by t u gs).lines) ≡ solids (not_over_wide u gs)) × (solids (wrap_by t u gs).dropped ≡ [])
+unfolding wrap_by held
+any_breaks t u gs h = (
+  rw (ne_eqb u.limit 0 (λ (e : u.limit ≡ 0). omega arith), at-least-one-glyphs) (from_keeps t u empty_pending gs refl).same,
+  any_breaks_dropped t u gs,
 )
 
-pub step-by-document : (u : Rule) (s : Pending) (g : Glyph) → stepBy documentTests u s g ≡ step u s g
-unfolding stepBy step joinStepBy joinStep emitStepBy emitStep documentTests
-step-by-document u s g = refl
+pub step_by_document : (u : Rule) (s : Pending) (g : Glyph) → step_by document_tests u s g ≡ step u s g
+unfolding step_by step join_step_by join_step emit_step_by emit_step document_tests
+step_by_document u s g = refl
 
-from-by-document : (u : Rule) (s : Pending) (gs : List Glyph) → wrapFromBy documentTests u s gs ≡ wrapFrom u s gs
-from-by-document u s [] = refl
-from-by-document u s (g ∷ gs) = rw (step-by-document u s g, from-by-document u (step u s g).pending gs)
+from_by_document : (u : Rule) (s : Pending) (gs : List Glyph) → wrap_from_by document_tests u s gs ≡ wrap_from u s gs
+from_by_document u s [] = refl
+from_by_document u s (g ∷ gs) = rw (step_by_document u s g, from_by_document u (step u s g).pending gs)
 
-pub wrap-by-document : (u : Rule) (gs : List Glyph) → wrapBy documentTests u gs ≡ wrap u gs
-unfolding wrapBy wrap
-wrap-by-document u gs = rw (from-by-document u emptyPending gs)
+pub wrap_by_document : (u : Rule) (gs : List Glyph) → wrap_by document_tests u gs ≡ wrap u gs
+unfolding wrap_by wrap
+wrap_by_document u gs = rw (from_by_document u empty_pending gs)

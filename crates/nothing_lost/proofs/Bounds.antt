@@ -9,19 +9,19 @@ use native.Mathlib.Omega.{arith}
 use borrow.Author.Tests.{ltb-true, ltb-false, leb-false, lt-ltb}
 use lib.Dec.{eqb, leb, ltb}
 use Rattle.text.specs.declared.AmbiguousWidth.{AmbiguousWidth}
-use Rattle.text.specs.Line.{Glyph, glyphFrom, numbered, total}
+use Rattle.text.specs.Line.{Glyph, glyph_from, numbered, total}
 use Rattle.text.proofs.Reading.{width-most}
 use Rattle.text.proofs.Bools.{neither, cond_cases, cases}
 use Rattle.wrapping.specs.declared.Rule.{Rule}
-use Rattle.wrapping.specs.Wrapping.{Pending, Step, Wrapped, empty, emptyPending, overWide, mustJoin, takesSpaces, gathered, joined, full, fitting, afterFitting, emptied, appended, step, lastLines, atLeastOne, wrapFrom, wrap}
+use Rattle.wrapping.specs.Wrapping.{Pending, Step, Wrapped, empty, empty_pending, is_over_wide, must_join, takes_spaces, gathered, joined, full, fitting, after_fitting, emptied, appended, step, last_lines, at_least_one, wrap_from, wrap}
 use Rattle.nothing_lost.specs.Glyphs.{Widths, NoWider, none, one}
 use Rattle.wrapping.proofs.Ways.{filled, appended-ways, filled-ways, step-ways}
 use Rattle.wrapping.proofs.Splits.{fitting-split}
 use Rattle.wrapping.proofs.ListRuns.{total-append}
 
-pub no-wider-append : {most : ℕ} {a b : List (List Glyph)} → NoWider most a → NoWider most b → NoWider most (a ++ b)
-no-wider-append none q = q
-no-wider-append (one w p) q = one w (no-wider-append p q)
+pub no_wider-append : {most : ℕ} {a b : List (List Glyph)} → NoWider most a → NoWider most b → NoWider most (a ++ b)
+no_wider-append none q = q
+no_wider-append (one w p) q = one w (no_wider-append p q)
 
 widths-append : {least most : ℕ} {a b : List Glyph} → Widths least most a → Widths least most b → Widths least most (a ++ b)
 widths-append none q = q
@@ -31,10 +31,10 @@ widths-right : {least most : ℕ} (a : List Glyph) {b : List Glyph} → Widths l
 widths-right [] p = p
 widths-right (g ∷ a) (one l m p) = widths-right a p
 
-widths-after : {least most : ℕ} (room : ℕ) (gs : List Glyph) → Widths least most gs → Widths least most (afterFitting room gs)
+widths-after : {least most : ℕ} (room : ℕ) (gs : List Glyph) → Widths least most gs → Widths least most (after_fitting room gs)
 widths-after room gs z = widths-right (fitting room gs) (rw (fitting-split room gs) at z)
 
-total-after : (room : ℕ) (gs : List Glyph) → total (afterFitting room gs) ≤ total gs
+total-after : (room : ℕ) (gs : List Glyph) → total (after_fitting room gs) ≤ total gs
 total-after room gs = omega (arith, simp total-append at (ap total (fitting-split room gs)))
 
 empty-total : (gs : List Glyph) → empty gs ≡ true → total gs ≡ 0
@@ -56,9 +56,9 @@ module _ (u : Rule) (s : Pending) (g : Glyph) where
         (rw (lt-ltb 0 g.width h) at (neither (leb u.limit (total s.row)) _ e).1),
   )
 
-  not-joined : mustJoin u s g ≡ false → empty s.row ≡ true →
+  not-joined : must_join u s g ≡ false → empty s.row ≡ true →
       (total s.word + g.width ≤ u.limit) × (u.trim ≡ false → total s.spaces + total s.word + g.width ≤ u.limit)
-  unfolding mustJoin
+  unfolding must_join
   not-joined j e = go u.trim (rw e at (neither (g.whitespace && s.solid) _ j).1)
     where
       go : (trim : Bool) →
@@ -103,7 +103,7 @@ module _ (u : Rule) (bounds : WidthBounds) (t : bounds.tight + 1 ≡ u.limit + b
     pub bounded : PendingBounded r.pending
 
   gathered-fits : (s : Pending) → PendingBounded s → total (gathered u s) ≤ bounds.wide
-  unfolding gathered takesSpaces
+  unfolding gathered takes_spaces
   gathered-fits s f = go s.row u.trim f.below f.ahead.spaces
     where
       go : (row : List Glyph) (trim : Bool) → (empty row ≡ false → total row + total s.spaces + total s.word + 0 ≤ bounds.tight)
@@ -116,7 +116,7 @@ module _ (u : Rule) (bounds : WidthBounds) (t : bounds.tight + 1 ≡ u.limit + b
   gathered-sized : (s : Pending) → WidthsBounded s → Widths bounds.least bounds.most (gathered u s)
   unfolding gathered
   gathered-sized s z =
-      let spaces = cond_cases (λ (gs : List Glyph). Widths bounds.least bounds.most gs) (takesSpaces u s) _ _ (λ _. z.spaces) (λ _. none) in
+      let spaces = cond_cases (λ (gs : List Glyph). Widths bounds.least bounds.most gs) (takes_spaces u s) _ _ (λ _. z.spaces) (λ _. none) in
       widths-append (widths-append z.row spaces) z.word
 
   module _ (g : Glyph) (l : bounds.least ≤ g.width) (m : g.width ≤ bounds.most) where
@@ -151,7 +151,7 @@ module _ (u : Rule) (bounds : WidthBounds) (t : bounds.tight + 1 ≡ u.limit + b
         (λ e. record { lines = none; bounded = appended-bounded s z a (k e) })
 
     step-narrow : (s : Pending) → PendingBounded s → Narrow (step u s g)
-    unfolding overWide joined
+    unfolding is_over_wide joined
     step-narrow s f =
         step-ways u s g (λ (t : Step). Narrow t)
         (λ _. record { lines = none; bounded = f })
@@ -174,21 +174,21 @@ module _ (u : Rule) (bounds : WidthBounds) (t : bounds.tight + 1 ≡ u.limit + b
         (λ b _. cases (λ _. total s.row + total s.spaces + total s.word + g.width ≤ bounds.tight) (ltb 0 g.width)
         (λ h. omega (arith, (not_full u s g b).1 (ltb-true 0 g.width h))) (λ h. omega (arith, ltb-false 0 g.width h)))))
 
-  last-narrow : (s : Pending) → PendingBounded s → NoWider bounds.wide (lastLines u s)
-  unfolding lastLines
+  last-narrow : (s : Pending) → PendingBounded s → NoWider bounds.wide (last_lines u s)
+  unfolding last_lines
   last-narrow s f =
-      no-wider-append
+      no_wider-append
       (cond_cases (λ (lines : List (List Glyph)). NoWider bounds.wide lines) (empty s.row && empty s.word && not (empty s.spaces) && u.trim) _ _
       (λ _. one (omega arith) none) (λ _. none))
       (cond_cases (λ (lines : List (List Glyph)). NoWider bounds.wide lines) (empty (gathered u s)) _ _ (λ _. none) (λ _. one (gathered-fits s f) none))
 
-  from-narrow : (s : Pending) (gs : List Glyph) → Widths bounds.least bounds.most gs → PendingBounded s → NoWider bounds.wide (wrapFrom u s gs).lines
+  from-narrow : (s : Pending) (gs : List Glyph) → Widths bounds.least bounds.most gs → PendingBounded s → NoWider bounds.wide (wrap_from u s gs).lines
   from-narrow s [] z f = last-narrow s f
   from-narrow s (g ∷ gs) (one l m z) f =
       let n = step-narrow g l m s f in
-      no-wider-append n.lines (from-narrow (step u s g).pending gs z n.bounded)
+      no_wider-append n.lines (from-narrow (step u s g).pending gs z n.bounded)
 
-  one-narrow : (lines : List (List Glyph)) → NoWider bounds.wide lines → NoWider bounds.wide (atLeastOne lines)
+  one-narrow : (lines : List (List Glyph)) → NoWider bounds.wide lines → NoWider bounds.wide (at_least_one lines)
   one-narrow [] z = one {line = []} (omega arith) none
   one-narrow (line ∷ lines) z = z
 
@@ -197,8 +197,8 @@ module _ (u : Rule) (bounds : WidthBounds) (t : bounds.tight + 1 ≡ u.limit + b
   lines-narrow gs z =
       cond_cases (λ (w : Wrapped). NoWider bounds.wide w.lines) (eqb u.limit 0) _ _ (λ _. none)
       (λ _.
-      one-narrow (wrapFrom u emptyPending gs).lines
-      (from-narrow emptyPending gs z
+      one-narrow (wrap_from u empty_pending gs).lines
+      (from-narrow empty_pending gs z
       (record {
         sized = record { row = none; spaces = none; word = none };
         ahead = record { word = omega arith; spaces = λ _. omega arith };
@@ -216,4 +216,4 @@ any_cells u =
 
 pub numbered-widths : (a : AmbiguousWidth) (k : ℕ) (rs : List ℕ) → Widths 0 6 (numbered a k rs)
 numbered-widths a k [] = none
-numbered-widths a k (r ∷ rs) = one {g = glyphFrom a k r} (omega arith) (width-most a r) (numbered-widths a (suc k) rs)
+numbered-widths a k (r ∷ rs) = one {g = glyph_from a k r} (omega arith) (width-most a r) (numbered-widths a (suc k) rs)

@@ -9,7 +9,7 @@ use lib.Dec.{eqb}
 use lib.ListN.{length, length-append}
 use Rattle.text.specs.Line.{Glyph, total}
 use Rattle.wrapping.specs.declared.Rule.{Rule}
-use Rattle.wrapping.specs.Wrapping.{Pending, Step, Wrapped, empty, emptyPending, takesSpaces, gathered, joined, full, step, lastLines, atLeastOne, wrapFrom, wrap}
+use Rattle.wrapping.specs.Wrapping.{Pending, Step, Wrapped, empty, empty_pending, takes_spaces, gathered, joined, full, step, last_lines, at_least_one, wrap_from, wrap}
 use Rattle.text.proofs.Bools.{cond_cases}
 use Rattle.wrapping.proofs.Ways.{filled, filled-ways, step-ways}
 
@@ -25,8 +25,8 @@ step-few u s g =
     (λ _. omega arith) (λ _ _. filled-few u (joined u s) g) (λ _ _. filled-few u s g)
 
 -- the text line's end emits at most one line: if it emits the empty line for dropped spaces, nothing is gathered
-last-few : (u : Rule) (s : Pending) → length (lastLines u s) ≤ 1
-unfolding lastLines gathered takesSpaces
+last-few : (u : Rule) (s : Pending) → length (last_lines u s) ≤ 1
+unfolding last_lines gathered takes_spaces
 last-few u s = go s.row s.spaces s.word u.trim
   where
     gathers : (line : List Glyph) → length (cond (empty line) [] (line ∷ [])) ≤ 1
@@ -43,17 +43,17 @@ last-few u s = go s.row s.spaces s.word u.trim
     go [] (g ∷ spaces) [] true = omega arith
     go [] (g ∷ spaces) [] false = omega arith
 
-from-few : (u : Rule) (s : Pending) (gs : List Glyph) → length (wrapFrom u s gs).lines ≤ suc (length gs)
+from-few : (u : Rule) (s : Pending) (gs : List Glyph) → length (wrap_from u s gs).lines ≤ suc (length gs)
 from-few u s [] = last-few u s
 from-few u s (g ∷ gs) =
     omega (
       arith,
-      length-append (step u s g).lines (wrapFrom u (step u s g).pending gs).lines,
+      length-append (step u s g).lines (wrap_from u (step u s g).pending gs).lines,
       step-few u s g,
       from-few u (step u s g).pending gs,
     )
 
-one-few : (n : ℕ) (lines : List (List Glyph)) → length lines ≤ max 1 n → length (atLeastOne lines) ≤ max 1 n
+one-few : (n : ℕ) (lines : List (List Glyph)) → length lines ≤ max 1 n → length (at_least_one lines) ≤ max 1 n
 one-few n [] h = omega arith
 one-few n (line ∷ lines) h = h
 
@@ -66,13 +66,13 @@ unfilled u s g h e =
     filled-ways u s g (λ (t : Step). t.lines ≡ [])
     (λ b _. absurd (false≢true (sym f ∙ b))) (λ b _. absurd (false≢true (sym f ∙ b))) (λ _. refl)
 
-first-none : (u : Rule) (g : Glyph) → 0 < u.limit → (step u emptyPending g).lines ≡ []
-unfolding joined gathered takesSpaces
+first-none : (u : Rule) (g : Glyph) → 0 < u.limit → (step u empty_pending g).lines ≡ []
+unfolding joined gathered takes_spaces
 first-none u g h =
-    step-ways u emptyPending g (λ (t : Step). t.lines ≡ [])
+    step-ways u empty_pending g (λ (t : Step). t.lines ≡ [])
     (λ _. refl)
-    (λ _ _. unfilled u (joined u emptyPending) g h (go u.trim))
-    (λ _ _. unfilled u emptyPending g h refl)
+    (λ _ _. unfilled u (joined u empty_pending) g h (go u.trim))
+    (λ _ _. unfilled u empty_pending g h refl)
   where
     go : (trim : Bool) → total (cond (not trim) [] [] ++ []) + 0 + 0 ≡ 0
     go true = refl
@@ -82,8 +82,8 @@ pub lines-few : (u : Rule) (gs : List Glyph) → length (wrap u gs).lines ≤ ma
 unfolding wrap
 lines-few u gs =
     cond_cases (λ (w : Wrapped). length w.lines ≤ max 1 (length gs)) (eqb u.limit 0) _ _
-    (λ _. omega arith) (λ e. one-few (length gs) (wrapFrom u emptyPending gs).lines (go gs (eqb-false u.limit 0 e)))
+    (λ _. omega arith) (λ e. one-few (length gs) (wrap_from u empty_pending gs).lines (go gs (eqb-false u.limit 0 e)))
   where
-    go : (gs : List Glyph) → (u.limit ≡ 0 → ⊥) → length (wrapFrom u emptyPending gs).lines ≤ max 1 (length gs)
-    go [] h = omega (arith, last-few u emptyPending)
-    go (g ∷ gs) h = rw (first-none u g (omega arith)) (omega (arith, from-few u (step u emptyPending g).pending gs))
+    go : (gs : List Glyph) → (u.limit ≡ 0 → ⊥) → length (wrap_from u empty_pending gs).lines ≤ max 1 (length gs)
+    go [] h = omega (arith, last-few u empty_pending)
+    go (g ∷ gs) h = rw (first-none u g (omega arith)) (omega (arith, from-few u (step u empty_pending g).pending gs))

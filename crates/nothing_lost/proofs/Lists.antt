@@ -3,9 +3,9 @@ use mathlib.Core.Path.{◌≡◌, refl}
 use mathlib.Core.Bool.{Bool, true, false, cond}
 use mathlib.Core.List.{List, [], ◌∷◌, ◌++◌, append_assoc}
 use Rattle.text.specs.Line.{Glyph}
-use Rattle.nothing_lost.specs.Glyphs.{solids, glyphsOfAll}
+use Rattle.nothing_lost.specs.Glyphs.{solids, glyphs_of_all}
 
-pub glyphs-append : (a b : List (List Glyph)) → glyphsOfAll (a ++ b) ≡ glyphsOfAll a ++ glyphsOfAll b
+pub glyphs-append : (a b : List (List Glyph)) → glyphs_of_all (a ++ b) ≡ glyphs_of_all a ++ glyphs_of_all b
 glyphs-append [] b = refl
 glyphs-append (line ∷ a) b = rw (glyphs-append a b, append_assoc)
 

@@ -7,28 +7,28 @@ use native.Mathlib.Omega.{arith}
 use borrow.Author.Tests.{ne_eqb}
 use Rattle.text.specs.Line.{Glyph}
 use Rattle.wrapping.specs.declared.Rule.{Rule}
-use Rattle.wrapping.specs.Wrapping.{Pending, empty, emptyPending, gathered, lastLines, atLeastOne, wrapFrom, wrap}
-use Rattle.nothing_lost.specs.Glyphs.{glyphsOfAll}
+use Rattle.wrapping.specs.Wrapping.{Pending, empty, empty_pending, gathered, last_lines, at_least_one, wrap_from, wrap}
+use Rattle.nothing_lost.specs.Glyphs.{glyphs_of_all}
 
 -- the text line's end emits the glyphs that a join gathers
-pub last-gathers : (u : Rule) (s : Pending) → glyphsOfAll (lastLines u s) ≡ gathered u s
-unfolding lastLines
+pub last-gathers : (u : Rule) (s : Pending) → glyphs_of_all (last_lines u s) ≡ gathered u s
+unfolding last_lines
 last-gathers u s = last (empty s.row && empty s.word && not (empty s.spaces) && u.trim) (gathered u s)
   where
-    last : (b : Bool) (line : List Glyph) → glyphsOfAll (cond b ([] ∷ []) [] ++ cond (empty line) [] (line ∷ [])) ≡ line
+    last : (b : Bool) (line : List Glyph) → glyphs_of_all (cond b ([] ∷ []) [] ++ cond (empty line) [] (line ∷ [])) ≡ line
     last true [] = refl
     last false [] = refl
     last true (g ∷ line) = append-nil (g ∷ line)
     last false (g ∷ line) = append-nil (g ∷ line)
 
 -- the added empty line has no glyph
-pub at-least-one-glyphs : (lines : List (List Glyph)) → glyphsOfAll (atLeastOne lines) ≡ glyphsOfAll lines
+pub at-least-one-glyphs : (lines : List (List Glyph)) → glyphs_of_all (at_least_one lines) ≡ glyphs_of_all lines
 at-least-one-glyphs [] = refl
 at-least-one-glyphs (line ∷ lines) = refl
 
 -- at a limit above 0 a text line is wrapped from the empty state
 pub wrap-from-empty : (u : Rule) (gs : List Glyph) → 0 < u.limit →
-    let all = wrapFrom u emptyPending gs in
-    wrap u gs ≡ record { lines = atLeastOne all.lines; dropped = all.dropped }
+    let all = wrap_from u empty_pending gs in
+    wrap u gs ≡ record { lines = at_least_one all.lines; dropped = all.dropped }
 unfolding wrap
 wrap-from-empty u gs h = rw (ne_eqb u.limit 0 (λ (e : u.limit ≡ 0). omega arith))

@@ -8,9 +8,9 @@ solids [] = []
 solids (g ∷ gs) = cond g.whitespace (solids gs) (g ∷ solids gs)
 
 -- the glyphs of all lines, in order
-abbrev pub glyphsOfAll : List (List Glyph) → List Glyph
-glyphsOfAll [] = []
-glyphsOfAll (line ∷ lines) = line ++ glyphsOfAll lines
+abbrev pub glyphs_of_all : List (List Glyph) → List Glyph
+glyphs_of_all [] = []
+glyphs_of_all (line ∷ lines) = line ++ glyphs_of_all lines
 
 -- every glyph's width is from `least` to `most`
 pub data Widths (least most : ℕ) : List Glyph → Type 0 where

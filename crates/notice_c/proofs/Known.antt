@@ -5,8 +5,8 @@ use borrow.Author.Tests.{not-true, not-false}
 
 -- the answer in both cases; the code branches on the negation of `test`
 module _ {A : Type 0} (known test : Bool) (e : test ≡ known) (x unknown : A) where
-  pub answered-unknown : not test ≡ true → unknown ≡ cond known x unknown
-  answered-unknown t = rw (← e, not-true test t)
+  pub answered_unknown : not test ≡ true → unknown ≡ cond known x unknown
+  answered_unknown t = rw (← e, not-true test t)
 
   pub answered-known : not test ≡ false → (r : A) → r ≡ x → r ≡ cond known x unknown
   answered-known t r p = rw (← e, not-false test t) p

@@ -1,21 +1,21 @@
 // The calls that C and Rust programs link to, declared in include/notice.h. Each is the call of the same name in `notice`, with
 // settings and answers as flat structs. If a setting's number names no case, the call returns 255 and changes nothing.
 ghost use Rattle.std.specs.Prelude.{◌≡◌, cond, ◌&&◌};
-ghost use Rattle.list_lines.specs.Call.{call_of as listCall, answer_of as listAnswer, listAfter};
+ghost use Rattle.list_lines.specs.Call.{call_of as listCall, answer_of as listAnswer, list_after};
 ghost use Rattle.tally.specs.Call.{call_of as tallyCall, answer_of as tallyAnswer};
 ghost use Rattle.inner.specs.Call.{call_of as innerCall, answer_of as innerAnswer};
-ghost use Rattle.measure.specs.LineCount.{call_of as countCall, answer_of as countAnswer};
-ghost use Rattle.measure.specs.LineWidth.{call_of as widthCall, answer_of as widthAnswer};
-ghost use Rattle.draw_block.specs.Call.{call_of as blockCall, answer_of as blockAnswer, cellsAfter as blockCells, blockAnswerNumber};
-ghost use Rattle.draw_frame.specs.Call.{call_of as frameCall, answer_of as frameAnswer, cellsAfter as frameCells};
-ghost use Rattle.draw_text.specs.Call.{call_of as textCall, answer_of as textAnswer, cellsAfter as textCells};
-ghost use Rattle.draw_notice.specs.Call.{call_of as noticeCall};
+ghost use Rattle.measure.specs.LineCount.{call_of as count_call, answer_of as countAnswer};
+ghost use Rattle.measure.specs.LineWidth.{call_of as width_call, answer_of as widthAnswer};
+ghost use Rattle.draw_block.specs.Call.{call_of as blockCall, answer_of as blockAnswer, cells_after as blockCells, block_answer_number};
+ghost use Rattle.draw_frame.specs.Call.{call_of as frame_call, answer_of as frameAnswer, cells_after as frameCells};
+ghost use Rattle.draw_text.specs.Call.{call_of as text_call, answer_of as textAnswer, cells_after as textCells};
+ghost use Rattle.draw_notice.specs.Call.{call_of as notice_call};
 ghost use Rattle.count_pages.specs.Call.{answer_of as pagesAnswer};
-ghost use Rattle.flat.specs.FlatExtra.{flagNamed, alignmentNamed, ambiguousKnown, ambiguousNamed, tallyKnown, listKnown, wrapNamed};
-ghost use Rattle.flat.specs.FlatExtra.{areaFrom, blockKnown, blockFrom, textKnown, settingsFrom, noticeFrom};
-ghost use Rattle.flat_answers.specs.AnswerExtra.{unknownNumber};
-ghost use Rattle.flat_answers.specs.AnswerExtra.{listFlat, tallyFlat, areaFlat, drawFlat, measureFlat, pagesFlat};
-ghost use Rattle.flat_answers.specs.AnswerExtra.{listUnknown, tallyUnknown, areaUnknown, drawUnknown, measureUnknown, pagesUnknown};
+ghost use Rattle.flat.specs.FlatExtra.{flag_named, alignment_named, ambiguous_known, ambiguous_named, tally_known, list_known, wrap_named};
+ghost use Rattle.flat.specs.FlatExtra.{area_from, block_known, block_from, text_known, settings_from, notice_from};
+ghost use Rattle.flat_answers.specs.AnswerExtra.{unknown_number};
+ghost use Rattle.flat_answers.specs.AnswerExtra.{list_flat, tally_flat, area_flat, draw_flat, measure_flat, pages_flat};
+ghost use Rattle.flat_answers.specs.AnswerExtra.{list_unknown, tally_unknown, area_unknown, draw_unknown, measure_unknown, pages_unknown};
 
 use flat::{FlatArea, FlatBlock, FlatText};
 use flat_answers::{
@@ -33,10 +33,10 @@ pub extern "C" fn notice_list_lines(
     trim: u8,
     list: &mut [u64],
 ) -> FlatListAnswer
-    ensures { let known = listKnown ambiguous alignment trim in
-        let call = listCall text.now (ambiguousNamed ambiguous) (alignmentNamed alignment) limit (flagNamed trim) list.old in
-        (result ≡ cond known (listFlat (listAnswer call)) listUnknown)
-        × (list.new ≡ cond known (listAfter call) list.old) }
+    ensures { let known = list_known ambiguous alignment trim in
+        let call = listCall text.now (ambiguous_named ambiguous) (alignment_named alignment) limit (flag_named trim) list.old in
+        (result ≡ cond known (list_flat (listAnswer call)) list_unknown)
+        × (list.new ≡ cond known (list_after call) list.old) }
 {
     if !flat::list_known(ambiguous, alignment, trim) {
         return FlatListAnswer {
@@ -53,8 +53,8 @@ pub extern "C" fn notice_list_lines(
 // Tallies a text at a limit.
 #[unsafe(no_mangle)]
 pub extern "C" fn notice_tally(text: &[u32], ambiguous: u8, limit: u16, trim: u8) -> FlatTallyAnswer
-    ensures { let call = tallyCall text.now (ambiguousNamed ambiguous) limit (flagNamed trim) in
-        result ≡ cond (tallyKnown ambiguous trim) (tallyFlat (tallyAnswer call)) tallyUnknown }
+    ensures { let call = tallyCall text.now (ambiguous_named ambiguous) limit (flag_named trim) in
+        result ≡ cond (tally_known ambiguous trim) (tally_flat (tallyAnswer call)) tally_unknown }
 {
     if !flat::tally_known(ambiguous, trim) {
         return FlatTallyAnswer {
@@ -74,8 +74,8 @@ pub extern "C" fn notice_tally(text: &[u32], ambiguous: u8, limit: u16, trim: u8
 // Returns the inner area of a block.
 #[unsafe(no_mangle)]
 pub extern "C" fn notice_inner(block: FlatBlock, titles: &[u32], area: FlatArea) -> FlatAreaAnswer
-    ensures { let call = innerCall (blockFrom block) titles.now (areaFrom area) in
-        result ≡ cond (blockKnown block) (areaFlat (innerAnswer call)) areaUnknown }
+    ensures { let call = innerCall (block_from block) titles.now (area_from area) in
+        result ≡ cond (block_known block) (area_flat (innerAnswer call)) area_unknown }
 {
     if !block.is_known() {
         return FlatAreaAnswer {
@@ -101,11 +101,11 @@ pub extern "C" fn notice_draw_block(
     area: FlatArea,
     block: FlatBlock,
 ) -> u32
-    ensures { let known = blockKnown block && ambiguousKnown ambiguous in
+    ensures { let known = block_known block && ambiguous_known ambiguous in
         let lent = cells.old in
-        let reading = ambiguousNamed ambiguous in
-        let call = blockCall columns rows lent styles.now titles.now reading (areaFrom area) (blockFrom block) in
-        (result ≡ cond known (blockAnswerNumber (blockAnswer call)) unknownNumber)
+        let reading = ambiguous_named ambiguous in
+        let call = blockCall columns rows lent styles.now titles.now reading (area_from area) (block_from block) in
+        (result ≡ cond known (block_answer_number (blockAnswer call)) unknown_number)
         × (cells.new ≡ cond known (blockCells call) lent) }
 {
     if !flat::block_and_reading_known(block, ambiguous) {
@@ -139,11 +139,11 @@ pub extern "C" fn notice_draw_frame(
     style: u8,
     block: FlatBlock,
 ) -> FlatAreaAnswer
-    ensures { let known = blockKnown block && ambiguousKnown ambiguous in
+    ensures { let known = block_known block && ambiguous_known ambiguous in
         let lent = cells.old in
-        let reading = ambiguousNamed ambiguous in
-        let call = frameCall columns rows lent styles.now titles.now reading (areaFrom area) style (blockFrom block) in
-        (result ≡ cond known (areaFlat (frameAnswer call)) areaUnknown)
+        let reading = ambiguous_named ambiguous in
+        let call = frame_call columns rows lent styles.now titles.now reading (area_from area) style (block_from block) in
+        (result ≡ cond known (area_flat (frameAnswer call)) area_unknown)
         × (cells.new ≡ cond known (frameCells call) lent) }
 {
     if !flat::block_and_reading_known(block, ambiguous) {
@@ -182,10 +182,10 @@ pub extern "C" fn notice_draw_text(
     area: FlatArea,
     settings: FlatText,
 ) -> FlatDrawAnswer
-    ensures { let known = textKnown settings in
+    ensures { let known = text_known settings in
         let lent = cells.old in
-        let call = textCall columns rows lent styles.now text.now (areaFrom area) (settingsFrom settings) in
-        (result ≡ cond known (drawFlat (textAnswer call)) drawUnknown)
+        let call = text_call columns rows lent styles.now text.now (area_from area) (settings_from settings) in
+        (result ≡ cond known (draw_flat (textAnswer call)) draw_unknown)
         × (cells.new ≡ cond known (textCells call) lent) }
 {
     if !settings.is_known() {
@@ -214,11 +214,11 @@ pub extern "C" fn notice_pages(
     block: FlatBlock,
     settings: FlatText,
 ) -> FlatPagesAnswer
-    ensures { let known = blockKnown block && textKnown settings in
+    ensures { let known = block_known block && text_known settings in
         let lent = cells.now in
-        let named = noticeFrom block settings in
-        let call = noticeCall columns rows lent styles.now text.now titles.now (areaFrom area) named in
-        result ≡ cond known (pagesFlat (pagesAnswer call)) pagesUnknown }
+        let named = notice_from block settings in
+        let call = notice_call columns rows lent styles.now text.now titles.now (area_from area) named in
+        result ≡ cond known (pages_flat (pagesAnswer call)) pages_unknown }
 {
     if !flat::all_known(block, settings) {
         return FlatPagesAnswer {
@@ -255,8 +255,8 @@ pub extern "C" fn notice_line_count(
     settings: FlatText,
     width: u16,
 ) -> FlatMeasureAnswer
-    ensures { let call = countCall text.now (ambiguousNamed settings.ambiguous) titles.now (blockFrom block) (wrapNamed settings) width in
-        result ≡ cond (blockKnown block && textKnown settings) (measureFlat (countAnswer call)) measureUnknown }
+    ensures { let call = count_call text.now (ambiguous_named settings.ambiguous) titles.now (block_from block) (wrap_named settings) width in
+        result ≡ cond (block_known block && text_known settings) (measure_flat (countAnswer call)) measure_unknown }
 {
     if !flat::all_known(block, settings) {
         return FlatMeasureAnswer {
@@ -278,8 +278,8 @@ pub extern "C" fn notice_line_width(
     titles: &[u32],
     block: FlatBlock,
 ) -> FlatMeasureAnswer
-    ensures { let call = widthCall text.now (ambiguousNamed ambiguous) titles.now (blockFrom block) in
-        result ≡ cond (blockKnown block && ambiguousKnown ambiguous) (measureFlat (widthAnswer call)) measureUnknown }
+    ensures { let call = width_call text.now (ambiguous_named ambiguous) titles.now (block_from block) in
+        result ≡ cond (block_known block && ambiguous_known ambiguous) (measure_flat (widthAnswer call)) measure_unknown }
 {
     if !flat::block_and_reading_known(block, ambiguous) {
         return FlatMeasureAnswer {

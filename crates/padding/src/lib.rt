@@ -1,7 +1,7 @@
 // Padding of a block, and its constructors (block/padding.rs).
 ghost use Rattle.std.specs.Prelude.{◌≡◌, ◌*◌};
 ghost use Rattle.num.specs.Held.{held};
-ghost use Rattle.padding.specs.Padding.{paddingOf};
+ghost use Rattle.padding.specs.Padding.{padding_of};
 
 // Cells left free between the borders and the inner area.
 #[derive(Drop)]
@@ -14,7 +14,7 @@ pub struct Padding {
 
 impl Padding {
     pub fn new(left: u16, right: u16, top: u16, bottom: u16) -> Padding
-        ensures { result ≡ paddingOf left right top bottom }
+        ensures { result ≡ padding_of left right top bottom }
     {
         Padding {
             left,
@@ -25,63 +25,63 @@ impl Padding {
     }
 
     pub fn zero() -> Padding
-        ensures { result ≡ paddingOf 0 0 0 0 }
+        ensures { result ≡ padding_of 0 0 0 0 }
     {
         Padding::new(0, 0, 0, 0)
     }
 
     pub fn horizontal(value: u16) -> Padding
-        ensures { result ≡ paddingOf value value 0 0 }
+        ensures { result ≡ padding_of value value 0 0 }
     {
         Padding::new(value, value, 0, 0)
     }
 
     pub fn vertical(value: u16) -> Padding
-        ensures { result ≡ paddingOf 0 0 value value }
+        ensures { result ≡ padding_of 0 0 value value }
     {
         Padding::new(0, 0, value, value)
     }
 
     pub fn uniform(value: u16) -> Padding
-        ensures { result ≡ paddingOf value value value value }
+        ensures { result ≡ padding_of value value value value }
     {
         Padding::new(value, value, value, value)
     }
 
     // Returns a padding that looks even, as a cell is about twice as high as wide. Doubling saturates at 65,535.
     pub fn proportional(value: u16) -> Padding
-        ensures { result ≡ paddingOf (held (2 * value)) (held (2 * value)) value value }
+        ensures { result ≡ padding_of (held (2 * value)) (held (2 * value)) value value }
     {
         let twice = num::saturating_add(value, value);
         Padding::new(twice, twice, value, value)
     }
 
     pub fn symmetric(x: u16, y: u16) -> Padding
-        ensures { result ≡ paddingOf x x y y }
+        ensures { result ≡ padding_of x x y y }
     {
         Padding::new(x, x, y, y)
     }
 
     pub fn left(value: u16) -> Padding
-        ensures { result ≡ paddingOf value 0 0 0 }
+        ensures { result ≡ padding_of value 0 0 0 }
     {
         Padding::new(value, 0, 0, 0)
     }
 
     pub fn right(value: u16) -> Padding
-        ensures { result ≡ paddingOf 0 value 0 0 }
+        ensures { result ≡ padding_of 0 value 0 0 }
     {
         Padding::new(0, value, 0, 0)
     }
 
     pub fn top(value: u16) -> Padding
-        ensures { result ≡ paddingOf 0 0 value 0 }
+        ensures { result ≡ padding_of 0 0 value 0 }
     {
         Padding::new(0, 0, value, 0)
     }
 
     pub fn bottom(value: u16) -> Padding
-        ensures { result ≡ paddingOf 0 0 0 value }
+        ensures { result ≡ padding_of 0 0 0 value }
     {
         Padding::new(0, 0, 0, value)
     }

@@ -12,31 +12,31 @@ use lib.ListN.{length, take, drop, take-append-drop, drop_of_length-le}
 use lib.Seq.{drop-drop}
 use Rattle.text.specs.declared.Alignment.{Alignment}
 use Rattle.text.specs.declared.Alignment.TheVariants.{Left}
-use Rattle.text.specs.Line.{Glyph, Start, total, startsFrom}
+use Rattle.text.specs.Line.{Glyph, Start, total, starts_from}
 use Rattle.text.specs.Lists.{count_of}
 use Rattle.text.proofs.Lists.{count-append}
 use Rattle.refuse.specs.declared.Verdict.TheVariants.{Accepted}
 use Rattle.wrapping.specs.declared.Rule.{Rule}
-use Rattle.wrapping.specs.Rule.{ruleOf}
+use Rattle.wrapping.specs.Rule.{rule_of}
 use Rattle.text.proofs.Bools.{cases}
 use Rattle.line_composer.specs.declared.Method.TheVariants.{WordWrap}
 use Rattle.line_composer.specs.Lines.{Line, lines}
-use Rattle.line_composer.specs.Places.{starts, is_placed, isClipped}
-use Rattle.render_line.specs.RenderLine.{lineOffset, drawnStarts, placedIn, clippedIn}
+use Rattle.line_composer.specs.Places.{starts, is_placed, is_clipped}
+use Rattle.render_line.specs.RenderLine.{line_offset, drawn_starts, placed_in, clipped_in}
 use Rattle.render_lines.specs.declared.DrawCounts.{DrawCounts}
-use Rattle.render_lines.specs.Rows.{linesDrawn, rowsDrawn, sum_of, placedOn, clippedOn}
+use Rattle.render_lines.specs.Rows.{lines_drawn, rows_drawn, sum_of, placed_on, clipped_on}
 use Rattle.render_lines.proofs.Bounds.{sum-append}
 use Rattle.tally_lines.specs.declared.LineCounts.{LineCounts}
-use Rattle.tally_lines.specs.TallyingExtra.{lineCounts}
+use Rattle.tally_lines.specs.TallyingExtra.{line_counts}
 use Rattle.tally.specs.Call as tally
 use Rattle.tally.specs.Tally.{tally_of}
-use Rattle.tally.proofs.EveryGlyph.{default-alignment-irrelevant}
-use Rattle.paragraph.specs.Notice.{noticeLines, innerAreaOf, insideCounts, noticeCounts}
-use Rattle.draw_notice.specs.Call.{Call, rows_of, countsOf}
-use Rattle.draw_notice.specs.Pair.{pairCounts, BothAccepted}
-use Rattle.draw_notice.proofs.Pair.{accepted-whole, same-as-combined}
-use Rattle.pages.specs.Pages.{call_at, pageCall, innerArea, composedLines, pageCount, pagesOf, scrollOf}
-use Rattle.pages.specs.Reading.{summed, WrappedNotice, Reached, pagesTally, SameCounts}
+use Rattle.tally.proofs.EveryGlyph.{default-alignment_irrelevant}
+use Rattle.paragraph.specs.Notice.{notice_lines, inner_area_of, inside_counts, notice_counts}
+use Rattle.draw_notice.specs.Call.{Call, rows_of, counts_of}
+use Rattle.draw_notice.specs.Pair.{pair_counts, BothAccepted}
+use Rattle.draw_notice.proofs.Pair.{accepted-whole, same_as_combined}
+use Rattle.pages.specs.Pages.{call_at, page_call, inner_area, composed_lines, page_count, pages_of, scroll_of}
+use Rattle.pages.specs.Reading.{summed, WrappedNotice, Reached, pages_tally, SameCounts}
 use Rattle.pages.proofs.Offset.{offset-fits, offset-none}
 use Rattle.pages.proofs.Placed.{within-area}
 use Rattle.pages.proofs.Reached.{wrapped-lines}
@@ -46,11 +46,11 @@ use Rattle.pages.proofs.Screen.{inner-some}
 
 -- glyphs have the same counts from column a as from column b; true if they fit the area from both
 record SameFrom (area a b : ℕ) (gs : List Glyph) : Type 0 where
-  pub same-placed : count_of (is_placed area) (startsFrom a gs) ≡ count_of (is_placed area) (startsFrom b gs)
-  pub same-clipped : count_of (isClipped area) (startsFrom a gs) ≡ count_of (isClipped area) (startsFrom b gs)
+  pub same-placed : count_of (is_placed area) (starts_from a gs) ≡ count_of (is_placed area) (starts_from b gs)
+  pub same-clipped : count_of (is_clipped area) (starts_from a gs) ≡ count_of (is_clipped area) (starts_from b gs)
 
 same_from : (area a b : ℕ) (gs : List Glyph) → a + total gs ≤ area → b + total gs ≤ area → SameFrom area a b gs
-unfolding is_placed isClipped
+unfolding is_placed is_clipped
 same_from area a b [] p q = record { same-placed = refl; same-clipped = refl }
 same_from area a b (g ∷ gs) p q =
     let first = within-area area a g.width (omega arith) in
@@ -63,13 +63,13 @@ same_from area a b (g ∷ gs) p q =
 
 -- a line has the same counts as drawn and from column 0; one that doesn't fit starts at 0 anyway
 pub drawn-counts : (area : ℕ) (line : Line)
-    → (placedIn area line ≡ count_of (is_placed area) (startsFrom 0 line.glyphs)) × (clippedIn area line ≡ count_of (isClipped area) (startsFrom 0 line.glyphs))
-unfolding placedIn clippedIn drawnStarts
+    → (placed_in area line ≡ count_of (is_placed area) (starts_from 0 line.glyphs)) × (clipped_in area line ≡ count_of (is_clipped area) (starts_from 0 line.glyphs))
+unfolding placed_in clipped_in drawn_starts
 drawn-counts area line =
     let width : ℕ = total line.glyphs in
-    let start : ℕ = lineOffset line.alignment area width in
-    cases (λ _. (count_of (is_placed area) (startsFrom start line.glyphs) ≡ count_of (is_placed area) (startsFrom 0 line.glyphs))
-    × (count_of (isClipped area) (startsFrom start line.glyphs) ≡ count_of (isClipped area) (startsFrom 0 line.glyphs)))
+    let start : ℕ = line_offset line.alignment area width in
+    cases (λ _. (count_of (is_placed area) (starts_from start line.glyphs) ≡ count_of (is_placed area) (starts_from 0 line.glyphs))
+    × (count_of (is_clipped area) (starts_from start line.glyphs) ≡ count_of (is_clipped area) (starts_from 0 line.glyphs)))
     (ltb area width)
     (λ e. rw (offset-none line.alignment area width (omega (arith, ltb-true area width e))) (refl, refl))
     (λ e.
@@ -78,7 +78,7 @@ drawn-counts area line =
     (same.same-placed, same.same-clipped))
 
 -- summing a count over lines counts their glyphs, each line starting at 0
-sum-starts : (test : Start → Bool) (count : Line → ℕ) → ((line : Line) → count line ≡ count_of test (startsFrom 0 line.glyphs))
+sum-starts : (test : Start → Bool) (count : Line → ℕ) → ((line : Line) → count line ≡ count_of test (starts_from 0 line.glyphs))
     → (ls : List Line) → sum_of count ls ≡ count_of test (starts ls)
 sum-starts test count same [] = refl
 sum-starts test count same (line ∷ rest) = rw (count-append, same line, sum-starts test count same rest)
@@ -107,73 +107,73 @@ module _ (f : Line → ℕ) (h : ℕ) (ls : List Line) where
       let split : sum_of f (take h here ++ drop h here) ≡ sum_of f here = ap (sum_of f) (take-append-drop h here) in
       omega (arith, pages-from (suc a) n (omega arith), ap (sum_of f) next, split, sum-append f (take h here) (drop h here))
 
-  pub pages-sum : 0 < h → summed 0 (pageCount (length ls) h) page-sum ≡ sum_of f ls
+  pub pages-sum : 0 < h → summed 0 (page_count (length ls) h) page-sum ≡ sum_of f ls
   pages-sum some =
       let none : 0 * h ≡ 0 = omega arith in
-      let all : length ls ≤ (0 + pageCount (length ls) h) * h = omega (arith, div-add-mod' (length ls + (h - 1)) h, mod-lt (length ls + (h - 1)) some) in
-      rw none at (pages-from 0 (pageCount (length ls) h) all)
+      let all : length ls ≤ (0 + page_count (length ls) h) * h = omega (arith, div-add-mod' (length ls + (h - 1)) h, mod-lt (length ls + (h - 1)) some) in
+      rw none at (pages-from 0 (page_count (length ls) h) all)
 
-pub pages-length : (h : ℕ) (ls : List Line) → 0 < h → summed 0 (pageCount (length ls) h) (λ page. length (take h (drop (page * h) ls))) ≡ length ls
+pub pages-length : (h : ℕ) (ls : List Line) → 0 < h → summed 0 (page_count (length ls) h) (λ page. length (take h (drop (page * h) ls))) ≡ length ls
 pages-length h ls some =
-    summed_same 0 (pageCount (length ls) h) _ _ (λ page. length-sum (take h (drop (page * h) ls)))
+    summed_same 0 (page_count (length ls) h) _ _ (λ page. length-sum (take h (drop (page * h) ls)))
     ∙ pages-sum (λ _. 1) h ls some
     ∙ sym (length-sum ls)
 
 -- ---- the pages of a notice
 
 -- the tally's counts of lines hold for every default alignment
-tally-own : (u : Rule) (default : Alignment) (text : List ℕ) → 0 < u.limit
+tally_own : (u : Rule) (default : Alignment) (text : List ℕ) → 0 < u.limit
     → record { lines = (tally_of u text).lines; placed = (tally_of u text).placed; clipped = (tally_of u text).clipped; zero_width = (tally_of u text).zero_width }
-    ≡ lineCounts u.limit (lines u WordWrap default text)
-unfolding tally_of lineCounts
-tally-own u default text some =
-    rw (ne_eqb u.limit 0 (λ (e : u.limit ≡ 0). omega arith)) (default-alignment-irrelevant u text Left default)
+    ≡ line_counts u.limit (lines u WordWrap default text)
+unfolding tally_of line_counts
+tally_own u default text some =
+    rw (ne_eqb u.limit 0 (λ (e : u.limit ≡ 0). omega arith)) (default-alignment_irrelevant u text Left default)
 
 module _ (i : Call) (w : WrappedNotice i) (accepted : (scroll : ℕ) → BothAccepted (call_at i scroll)) where
   -- the counts of a page
   page-counts : (page : ℕ)
-      → let here = take (innerArea i).height (drop (scrollOf i page) (composedLines i)) in
-      pairCounts (pageCall i page) ≡ record { rows = length here; placed = sum_of (placedIn (innerArea i).width) here; clipped = sum_of (clippedIn (innerArea i).width) here }
-  unfolding countsOf rows_of noticeCounts insideCounts innerArea composedLines innerAreaOf noticeLines rowsDrawn placedOn clippedOn linesDrawn
+      → let here = take (inner_area i).height (drop (scroll_of i page) (composed_lines i)) in
+      pair_counts (page_call i page) ≡ record { rows = length here; placed = sum_of (placed_in (inner_area i).width) here; clipped = sum_of (clipped_in (inner_area i).width) here }
+  unfolding counts_of rows_of notice_counts inside_counts inner_area composed_lines inner_area_of notice_lines rows_drawn placed_on clipped_on lines_drawn
   page-counts page =
-      let both = accepted (scrollOf i page) in
-      rw ((same-as-combined (pageCall i page) both).counts, accepted-whole (pageCall i page) both, w.some-cell)
+      let both = accepted (scroll_of i page) in
+      rw ((same_as_combined (page_call i page) both).counts, accepted-whole (page_call i page) both, w.some_cell)
 
   -- a count of glyphs, summed over the pages, is that of all lines
   pages-count : (part : DrawCounts → ℕ) (count : Line → ℕ) (test : Start → Bool)
-      → ((page : ℕ) → part (pairCounts (pageCall i page)) ≡ sum_of count (take (innerArea i).height (drop (scrollOf i page) (composedLines i))))
-      → ((line : Line) → count line ≡ count_of test (startsFrom 0 line.glyphs))
-      → summed 0 (pagesOf i) (λ page. part (pairCounts (pageCall i page)))
-      ≡ count_of test (starts (lines (ruleOf i.notice.ambiguous (innerArea i).width w.trim) WordWrap i.notice.alignment i.text))
-  unfolding pagesOf
+      → ((page : ℕ) → part (pair_counts (page_call i page)) ≡ sum_of count (take (inner_area i).height (drop (scroll_of i page) (composed_lines i))))
+      → ((line : Line) → count line ≡ count_of test (starts_from 0 line.glyphs))
+      → summed 0 (pages_of i) (λ page. part (pair_counts (page_call i page)))
+      ≡ count_of test (starts (lines (rule_of i.notice.ambiguous (inner_area i).width w.trim) WordWrap i.notice.alignment i.text))
+  unfolding pages_of
   pages-count part count test on-page of-line =
-      summed_same 0 (pagesOf i) _ _ on-page
-      ∙ pages-sum count (innerArea i).height (composedLines i) (inner-some i w).1
-      ∙ sum-starts test count of-line (composedLines i)
+      summed_same 0 (pages_of i) _ _ on-page
+      ∙ pages-sum count (inner_area i).height (composed_lines i) (inner-some i w).1
+      ∙ sum-starts test count of-line (composed_lines i)
       ∙ ap (λ (ls : List Line). count_of test (starts ls)) (wrapped-lines i w)
 
-  pub same-counts : Reached i → tally.verdictOf (pagesTally i w.trim) ≡ Accepted → SameCounts i w.trim
-  unfolding pagesOf lineCounts tally.countsOf
+  pub same-counts : Reached i → tally.verdict_of (pages_tally i w.trim) ≡ Accepted → SameCounts i w.trim
+  unfolding pages_of line_counts tally.counts_of
   same-counts reached answered =
-      let width : ℕ = (innerArea i).width in
-      let tally = tally-own (ruleOf i.notice.ambiguous width w.trim) i.notice.alignment i.text (inner-some i w).0 in
+      let width : ℕ = (inner_area i).width in
+      let tally = tally_own (rule_of i.notice.ambiguous width w.trim) i.notice.alignment i.text (inner-some i w).0 in
       record {
         reached = reached;
         answered = answered;
         rows =
             rw answered
-            (summed_same 0 (pagesOf i) _ _ (λ page. ap (λ (c : DrawCounts). c.rows) (page-counts page))
-            ∙ pages-length (innerArea i).height (composedLines i) (inner-some i w).1
+            (summed_same 0 (pages_of i) _ _ (λ page. ap (λ (c : DrawCounts). c.rows) (page-counts page))
+            ∙ pages-length (inner_area i).height (composed_lines i) (inner-some i w).1
             ∙ ap length (wrapped-lines i w)
             ∙ sym (ap (λ (c : LineCounts). c.lines) tally));
         placed =
             rw answered
-            (pages-count (λ c. c.placed) (placedIn width) (is_placed width)
+            (pages-count (λ c. c.placed) (placed_in width) (is_placed width)
             (λ page. ap (λ (c : DrawCounts). c.placed) (page-counts page)) (λ line. (drawn-counts width line).0)
             ∙ sym (ap (λ (c : LineCounts). c.placed) tally));
         clipped =
             rw answered
-            (pages-count (λ c. c.clipped) (clippedIn width) (isClipped width)
+            (pages-count (λ c. c.clipped) (clipped_in width) (is_clipped width)
             (λ page. ap (λ (c : DrawCounts). c.clipped) (page-counts page)) (λ line. (drawn-counts width line).1)
             ∙ sym (ap (λ (c : LineCounts). c.clipped) tally));
       }

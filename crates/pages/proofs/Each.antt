@@ -35,8 +35,8 @@ module _ {A : Type 0} where
       let next : suc (x + a) ≡ x + suc a = omega arith in
       rw next (ap (λ (l : List A). f (x + a) ++ l) (shifted x (suc a) n f))
 
-  pub each-shift : (x n : ℕ) (f : ℕ → List A) → each x n f ≡ each 0 n (λ k. f (x + k))
-  each-shift x n f = ap (λ (a : ℕ). each a n f) (sym (add-zero x)) ∙ shifted x 0 n f
+  pub each_shift : (x n : ℕ) (f : ℕ → List A) → each x n f ≡ each 0 n (λ k. f (x + k))
+  each_shift x n f = ap (λ (a : ℕ). each a n f) (sym (add-zero x)) ∙ shifted x 0 n f
 
   -- n blocks of h indices are n * h indices
   times : (h a n : ℕ) (f : ℕ → List A) → each a n (λ p. each 0 h (λ k. f (p * h + k))) ≡ each (a * h) (n * h) f
@@ -45,7 +45,7 @@ module _ {A : Type 0} where
       let count : suc n * h ≡ h + n * h = omega arith in
       let next : a * h + h ≡ suc a * h = omega arith in
       rw (count, each-add (a * h) h (n * h) f, next, times h (suc a) n f)
-      (ap (λ (l : List A). l ++ each (suc a * h) (n * h) f) (sym (each-shift (a * h) h f)))
+      (ap (λ (l : List A). l ++ each (suc a * h) (n * h) f) (sym (each_shift (a * h) h f)))
 
   pub each-pages : (h n : ℕ) (f : ℕ → List A) → each 0 n (λ p. each 0 h (λ k. f (p * h + k))) ≡ each 0 (n * h) f
   each-pages h n f = let first : 0 * h ≡ 0 = omega arith in rw first at (times h 0 n f)

@@ -1,38 +1,38 @@
 -- Demand 3. Theorem `pages`: the symbols read over all the pages of a wrapped notice of one-cell glyphs. Theorem `page-counts`:
--- the counts of the pages' answers, for glyphs of any width. Theorem `demand-three`: both, and the tally of every accepted text.
+-- the counts of the pages' answers, for glyphs of any width. Theorem `demand_three`: both, and the tally of every accepted text.
 use mathlib.Core.Path.{◌≡◌, refl, sym, ap, ◌∙◌}
 use mathlib.Core.List.{map, map-map}
-use Rattle.text.specs.Line.{Glyph, glyphsFrom}
-use Rattle.wrapping.specs.Rule.{ruleOf}
+use Rattle.text.specs.Line.{Glyph, glyphs_from}
+use Rattle.wrapping.specs.Rule.{rule_of}
 use Rattle.nothing_lost.specs.Glyphs.{solids}
-use Rattle.tally.proofs.EveryGlyph.{tally-counts}
+use Rattle.tally.proofs.EveryGlyph.{tally_counts}
 use Rattle.draw_notice.specs.Call.{Call}
 use Rattle.draw_notice.proofs.Answers.{text-sound}
 use Rattle.draw_notice.proofs.Pair.{accepted-whole}
-use Rattle.pages.specs.Pages.{innerArea, composedLines, scrollOf, Placement, placements}
+use Rattle.pages.specs.Pages.{inner_area, composed_lines, scroll_of, Placement, placements}
 use Rattle.pages.specs.Reading.{Seen, seen, OneCell, WrappedNotice, Reached, NothingLost, SameCounts, DemandThree}
 use Rattle.pages.proofs.Fit.{Fit}
 use Rattle.pages.proofs.Screen.{accepted-at, inner-some}
 use Rattle.pages.proofs.Read.{pages-read}
 use Rattle.pages.proofs.Blank.{blank-elsewhere}
-use Rattle.pages.proofs.Reached.{wrapped-lines, reached-16, text-accepted}
-use Rattle.pages.proofs.Text.{fit-text, placed-glyphs}
+use Rattle.pages.proofs.Reached.{wrapped-lines, reached_16, text-accepted}
+use Rattle.pages.proofs.Text.{fit_text, placed-glyphs}
 use Rattle.pages.proofs.Counts.{same-counts}
 
 -- every page's scroll row fits in 16 bits and its calls are accepted
 pages-reached : (i : Call) → WrappedNotice i → Reached i
-pages-reached i w page there = (reached-16 i w page there, accepted-at i w (scrollOf i page))
+pages-reached i w page there = (reached_16 i w page there, accepted-at i w (scroll_of i page))
 
-pub pages : (i : Call) → WrappedNotice i → OneCell (glyphsFrom i.notice.ambiguous 0 i.text) → NothingLost i
+pub pages : (i : Call) → WrappedNotice i → OneCell (glyphs_from i.notice.ambiguous 0 i.text) → NothingLost i
 unfolding placements
 pages i w cells =
-    let inner = innerArea i in
+    let inner = inner_area i in
     let default = i.notice.alignment in
-    let rule = ruleOf i.notice.ambiguous inner.width w.trim in
+    let rule = rule_of i.notice.ambiguous inner.width w.trim in
     let opens = (text-sound i (accepted-whole i w.accepted)).opens in
-    let fit : Fit inner.width (composedLines i) = rw (wrapped-lines i w) (fit-text rule default i.text (inner-some i w).0 opens cells) in
+    let fit : Fit inner.width (composed_lines i) = rw (wrapped-lines i w) (fit_text rule default i.text (inner-some i w).0 opens cells) in
     let places = pages-read i w fit in
-    let glyphs : map (λ (p : Placement). p.glyph) (placements i) ≡ solids (glyphsFrom i.notice.ambiguous 0 i.text) = rw (wrapped-lines i w) (placed-glyphs inner rule default i.text refl (inner-some i w).0 opens cells) in
+    let glyphs : map (λ (p : Placement). p.glyph) (placements i) ≡ solids (glyphs_from i.notice.ambiguous 0 i.text) = rw (wrapped-lines i w) (placed-glyphs inner rule default i.text refl (inner-some i w).0 opens cells) in
     record {
       reached = pages-reached i w;
       symbols =
@@ -48,10 +48,10 @@ pages i w cells =
 pub page-counts : (i : Call) (w : WrappedNotice i) → SameCounts i w.trim
 page-counts i w = same-counts i w (accepted-at i w) (pages-reached i w) (text-accepted i w)
 
-pub demand-three : DemandThree
-demand-three =
+pub demand_three : DemandThree
+demand_three =
     record {
-      nothing-lost = pages;
-      all-counted = λ call a h. let both = tally-counts call a h in record { all-glyphs = both.0; all-whitespace = both.1 };
+      nothing_lost = pages;
+      all-counted = λ call a h. let both = tally_counts call a h in record { all-glyphs = both.0; all-whitespace = both.1 };
       same-counts = page-counts;
     }

@@ -10,110 +10,110 @@ use lib.ListN.{length, get_or, get_or-eq_default}
 use Rattle.text.specs.Line.{Start, total}
 use Rattle.layout.specs.declared.Rect.{Rect}
 use Rattle.line_composer.specs.Lines.{Line}
-use Rattle.render_line.specs.RenderLine.{drawnStarts, lineOn}
-use Rattle.render_lines.specs.Rows.{noLine}
+use Rattle.render_line.specs.RenderLine.{drawn_starts, line_on}
+use Rattle.render_lines.specs.Rows.{no_composed_line}
 use Rattle.draw_notice.specs.Call.{Call}
-use Rattle.draw_notice.specs.Pair.{pairCells}
-use Rattle.pages.specs.Pages.{pageCall, innerArea, composedLines, pageCount, pagesOf, scrollOf, Placement, placementOf, solidPlaced, placementsFrom, placements}
-use Rattle.pages.specs.Reading.{Seen, seen, each, look, pagesRead, OneCell, WrappedNotice}
+use Rattle.draw_notice.specs.Pair.{pair_cells}
+use Rattle.pages.specs.Pages.{page_call, inner_area, composed_lines, page_count, pages_of, scroll_of, Placement, placement_of, solid_placed, placements_from, placements}
+use Rattle.pages.specs.Reading.{Seen, seen, each, look, pages_read, OneCell, WrappedNotice}
 use Rattle.pages.proofs.Fit.{Fit}
-use Rattle.pages.proofs.Each.{each_same, each_none, each-add, each-shift, each-pages}
+use Rattle.pages.proofs.Each.{each_same, each_none, each-add, each_shift, each-pages}
 use Rattle.pages.proofs.Row.{seen_at, row_reads}
 use Rattle.pages.proofs.Screen.{inner-some}
-use Rattle.pages.proofs.Cells.{cellBefore, lineNumbered, before-blank, cell-there}
+use Rattle.pages.proofs.Cells.{cell_before, line_numbered, before-blank, cell_there}
 
 -- the symbols to be read for the line with an index
-unfoldable lineSeen : Rect → ℕ → Line → List Seen
-lineSeen inner number line = map seen (map (placementOf inner number) (solidPlaced inner.width (drawnStarts inner.width line)))
+unfoldable line_seen : Rect → ℕ → Line → List Seen
+line_seen inner number line = map seen (map (placement_of inner number) (solid_placed inner.width (drawn_starts inner.width line)))
 
 -- the line in row j of a page is read on that page and in that row
 line-seen : (inner : Rect) (page j : ℕ) (line : Line) → j < inner.height
-    → map (seen_at page (inner.y + j) inner.x) (solidPlaced inner.width (drawnStarts inner.width line)) ≡ lineSeen inner (page * inner.height + j) line
-unfolding lineSeen placementOf
+    → map (seen_at page (inner.y + j) inner.x) (solid_placed inner.width (drawn_starts inner.width line)) ≡ line_seen inner (page * inner.height + j) line
+unfolding line_seen placement_of
 line-seen inner page j line h =
     let number : ℕ = page * inner.height + j in
-    let glyphs : List Start = solidPlaced inner.width (drawnStarts inner.width line) in
+    let glyphs : List Start = solid_placed inner.width (drawn_starts inner.width line) in
     let own_row : number - page * inner.height ≡ j = omega arith in
     sym
-    (map-map seen (placementOf inner number) glyphs
+    (map-map seen (placement_of inner number) glyphs
     ∙ ap (λ (p : ℕ). map (seen_at p (inner.y + (number - p * inner.height)) inner.x) glyphs) (digits_div page h)
     ∙ ap (λ (k : ℕ). map (seen_at page (inner.y + k) inner.x) glyphs) own_row)
 
--- nothing is read for `noLine`
-no_line : (inner : Rect) (number : ℕ) → lineSeen inner number noLine ≡ []
-unfolding lineSeen drawnStarts
+-- nothing is read for `no_composed_line`
+no_line : (inner : Rect) (number : ℕ) → line_seen inner number no_composed_line ≡ []
+unfolding line_seen drawn_starts
 no_line inner number = refl
 
 -- the symbols of the lines, line by line
 lines-seen : (inner : Rect) (number : ℕ) (lines : List Line)
-    → each 0 (length lines) (λ k. lineSeen inner (number + k) (get_or lines k noLine)) ≡ map seen (placementsFrom inner number lines)
-unfolding lineSeen
+    → each 0 (length lines) (λ k. line_seen inner (number + k) (get_or lines k no_composed_line)) ≡ map seen (placements_from inner number lines)
+unfolding line_seen
 lines-seen inner number [] = refl
 lines-seen inner number (line ∷ rest) =
-    let f : ℕ → List Seen = λ k. lineSeen inner (number + k) (get_or (line ∷ rest) k noLine) in
-    let others : each 1 (length rest) f ≡ map seen (placementsFrom inner (suc number) rest)
-    = each-shift 1 (length rest) f
-    ∙ each_same 0 (length rest) (λ k. f (1 + k)) (λ k. lineSeen inner (suc number + k) (get_or rest k noLine))
+    let f : ℕ → List Seen = λ k. line_seen inner (number + k) (get_or (line ∷ rest) k no_composed_line) in
+    let others : each 1 (length rest) f ≡ map seen (placements_from inner (suc number) rest)
+    = each_shift 1 (length rest) f
+    ∙ each_same 0 (length rest) (λ k. f (1 + k)) (λ k. line_seen inner (suc number + k) (get_or rest k no_composed_line))
     (λ k _ _. let one : 1 + k ≡ suc k = omega arith in let next : number + suc k ≡ suc number + k = omega arith in rw (one, next))
     ∙ lines-seen inner (suc number) rest in
-    let default : List Placement = map (placementOf inner number) (solidPlaced inner.width (drawnStarts inner.width line)) in
-    rw (add-zero, others) (sym (map-append seen default (placementsFrom inner (suc number) rest)))
+    let default : List Placement = map (placement_of inner number) (solid_placed inner.width (drawn_starts inner.width line)) in
+    rw (add-zero, others) (sym (map-append seen default (placements_from inner (suc number) rest)))
 
--- if the lines fit, each of them does, and so does `noLine` past the last
+-- if the lines fit, each of them does, and so does `no_composed_line` past the last
 fit_at : (width : ℕ) (lines : List Line) (number : ℕ) → Fit width lines
-    → OneCell (get_or lines number noLine).glyphs × (total (get_or lines number noLine).glyphs ≤ width)
+    → OneCell (get_or lines number no_composed_line).glyphs × (total (get_or lines number no_composed_line).glyphs ≤ width)
 fit_at width [] number fit = (tt, omega arith)
 fit_at width (line ∷ rest) zero fit = fit.0
 fit_at width (line ∷ rest) (suc number) fit = fit_at width rest number fit.1
 
 -- the pages have at least as many rows as there are lines
-pages-enough : (n h : ℕ) → 0 < h → n ≤ pageCount n h * h
+pages-enough : (n h : ℕ) → 0 < h → n ≤ page_count n h * h
 pages-enough n h some = omega (arith, div-add-mod' (n + (h - 1)) h, mod-lt (n + (h - 1)) some)
 
-module _ (i : Call) (w : WrappedNotice i) (fit : Fit (innerArea i).width (composedLines i)) where
+module _ (i : Call) (w : WrappedNotice i) (fit : Fit (inner_area i).width (composed_lines i)) where
   abbrev inner : Rect
-  inner = innerArea i
+  inner = inner_area i
 
   -- the symbol read in a cell of a page
-  abbrev lookAt : ℕ → ℕ → ℕ → List Seen
-  lookAt page row column = look page row column (get_or (pairCells (pageCall i page)) (row * i.columns + column) 0)
+  abbrev look_at : ℕ → ℕ → ℕ → List Seen
+  look_at page row column = look page row column (get_or (pair_cells (page_call i page)) (row * i.columns + column) 0)
 
   -- reading a row of a page gives its line
   row-there : (page j : ℕ) → j < inner.height
-      → each inner.x inner.width (lookAt page (inner.y + j)) ≡ lineSeen inner (scrollOf i page + j) (lineNumbered i (scrollOf i page + j))
-  unfolding lineNumbered
+      → each inner.x inner.width (look_at page (inner.y + j)) ≡ line_seen inner (scroll_of i page + j) (line_numbered i (scroll_of i page + j))
+  unfolding line_numbered
   row-there page j h =
-      let number : ℕ = scrollOf i page + j in
-      let fits = fit_at inner.width (composedLines i) number fit in
-      each-shift inner.x inner.width (lookAt page (inner.y + j))
+      let number : ℕ = scroll_of i page + j in
+      let fits = fit_at inner.width (composed_lines i) number fit in
+      each_shift inner.x inner.width (look_at page (inner.y + j))
       ∙ each_same 0 inner.width _
-      (λ column. look page (inner.y + j) (inner.x + column) (lineOn i.styles i.notice.text_style inner.width (lineNumbered i number) column (cellBefore i j column)))
-      (λ column _ q. ap (look page (inner.y + j) (inner.x + column)) (cell-there i w j column h (omega arith) (scrollOf i page)))
-      ∙ row_reads i.styles i.notice.text_style inner.width page (inner.y + j) inner.x (lineNumbered i number) (cellBefore i j)
+      (λ column. look page (inner.y + j) (inner.x + column) (line_on i.styles i.notice.text_style inner.width (line_numbered i number) column (cell_before i j column)))
+      (λ column _ q. ap (look page (inner.y + j) (inner.x + column)) (cell_there i w j column h (omega arith) (scroll_of i page)))
+      ∙ row_reads i.styles i.notice.text_style inner.width page (inner.y + j) inner.x (line_numbered i number) (cell_before i j)
       fits.0 fits.1 (λ column q. before-blank i w j column h q)
-      ∙ line-seen inner page j (lineNumbered i number) h
+      ∙ line-seen inner page j (line_numbered i number) h
 
   -- reading a page gives its lines
-  page-there : (page : ℕ) → each inner.y inner.height (λ row. each inner.x inner.width (lookAt page row))
-      ≡ each 0 inner.height (λ j. lineSeen inner (scrollOf i page + j) (lineNumbered i (scrollOf i page + j)))
+  page-there : (page : ℕ) → each inner.y inner.height (λ row. each inner.x inner.width (look_at page row))
+      ≡ each 0 inner.height (λ j. line_seen inner (scroll_of i page + j) (line_numbered i (scroll_of i page + j)))
   page-there page =
-      each-shift inner.y inner.height (λ row. each inner.x inner.width (lookAt page row))
+      each_shift inner.y inner.height (λ row. each inner.x inner.width (look_at page row))
       ∙ each_same 0 inner.height _ _ (λ j _ q. row-there page j (omega arith))
 
   -- past the last line nothing is read
-  past-lines : (number : ℕ) → length (composedLines i) ≤ number → lineSeen inner number (lineNumbered i number) ≡ []
-  unfolding lineNumbered
-  past-lines number h = ap (lineSeen inner number) (get_or-eq_default (composedLines i) noLine h) ∙ no_line inner number
+  past-lines : (number : ℕ) → length (composed_lines i) ≤ number → line_seen inner number (line_numbered i number) ≡ []
+  unfolding line_numbered
+  past-lines number h = ap (line_seen inner number) (get_or-eq_default (composed_lines i) no_composed_line h) ∙ no_line inner number
 
 -- all pages together show the lines' non-whitespace glyphs in their places, and nothing else
-pub pages-read : (i : Call) → WrappedNotice i → Fit (innerArea i).width (composedLines i) → pagesRead i ≡ map seen (placements i)
-unfolding pagesRead pagesOf placements lineNumbered
+pub pages-read : (i : Call) → WrappedNotice i → Fit (inner_area i).width (composed_lines i) → pages_read i ≡ map seen (placements i)
+unfolding pages_read pages_of placements line_numbered
 pages-read i w fit =
-    let n : ℕ = length (composedLines i) in
-    let h : ℕ = (innerArea i).height in
-    let pages : ℕ = pageCount n h in
+    let n : ℕ = length (composed_lines i) in
+    let h : ℕ = (inner_area i).height in
+    let pages : ℕ = page_count n h in
     let unused : ℕ = pages * h - n in
-    let f : ℕ → List Seen = λ number. lineSeen (innerArea i) number (lineNumbered i number) in
+    let f : ℕ → List Seen = λ number. line_seen (inner_area i) number (line_numbered i number) in
     let rows : pages * h ≡ n + unused = omega (arith, pages-enough n h (inner-some i w).1) in
     each_same 0 pages _ (λ page. each 0 h (λ j. f (page * h + j))) (λ page _ _. page-there i w fit page)
     ∙ each-pages h pages f
@@ -121,5 +121,5 @@ pages-read i w fit =
     ∙ each-add 0 n unused f
     ∙ ap (λ (l : List Seen). each 0 n f ++ l) (each_none (0 + n) unused f (λ number p _. past-lines i w fit number (omega arith)))
     ∙ append-nil (each 0 n f)
-    ∙ each_same 0 n f (λ k. lineSeen (innerArea i) (0 + k) (get_or (composedLines i) k noLine)) (λ k _ _. rw zero-add)
-    ∙ lines-seen (innerArea i) 0 (composedLines i)
+    ∙ each_same 0 n f (λ k. line_seen (inner_area i) (0 + k) (get_or (composed_lines i) k no_composed_line)) (λ k _ _. rw zero-add)
+    ∙ lines-seen (inner_area i) 0 (composed_lines i)

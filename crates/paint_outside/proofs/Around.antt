@@ -8,10 +8,10 @@ use native.Mathlib.Decide.{dec_lt}
 use native.Mathlib.Omega.{arith}
 use Rattle.num.specs.Held.{held}
 use Rattle.layout.specs.declared.Rect.{Rect}
-use Rattle.layout.specs.Rect.{rightOf, bottomOf, within}
-use Rattle.buffer.specs.Drawing.{Drawing, over, sparing, only_if, inOrder}
+use Rattle.layout.specs.Rect.{right_of, bottom_of, within}
+use Rattle.buffer.specs.Drawing.{Drawing, over, sparing, only_if, in_order}
 use Rattle.buffer.proofs.Within.{within-inside, within-before, within-past}
-use Rattle.paint_outside.specs.AroundExtra.{above, below, left_of, rightFrom}
+use Rattle.paint_outside.specs.AroundExtra.{above, below, left_of, right_from}
 
 -- whether n lies from `first` to before `end`, the range being stored as its start and its size
 abbrev spans : ℕ → ℕ → ℕ → Bool
@@ -28,8 +28,8 @@ spans-past first end n p =
     dite (dec_lt n first) (spans-before first end n) (λ q. within-past first _ n (omega (arith, q)))
 
 -- so storing a range as start and size keeps its numbers
-spans-as-within : (first end n : ℕ) → end ≤ 65535 → spans first end n ≡ within first end n
-spans-as-within first end n small =
+spans_as_within : (first end n : ℕ) → end ≤ 65535 → spans first end n ≡ within first end n
+spans_as_within first end n small =
     dite (dec_lt n first)
     (λ p. rw (spans-before first end n p, within-before first end n p))
     (λ p. dite (dec_lt n end)
@@ -50,8 +50,8 @@ module _ (first end from to n : ℕ) where
   Placed = Place (within first end n) (spans first (min end from) n) (spans (max first from) (min end to) n) (spans (max first to) end n) (within from to n)
 
   -- before the drawn range
-  placed-early : n < first → Placed
-  placed-early a =
+  placed_early : n < first → Placed
+  placed_early a =
       rw (
         within-before first end n a,
         spans-before first (min end from) n a,
@@ -112,7 +112,7 @@ module _ (first end from to n : ℕ) where
   placed : end ≤ 65535 → min from end ≤ to → Placed
   placed small sound =
       dite (dec_lt n first)
-      placed-early
+      placed_early
       (λ a. dite (dec_lt n end)
       (λ b. dite (dec_lt n from)
       (λ c. placed-before small (omega (arith, a)) b c (omega (arith, b, c)))
@@ -127,31 +127,31 @@ cond_same true x = refl
 cond_same false x = refl
 
 -- by the places of its column and row, a cell that is drawn and not spared lies in one of the four parts, any other in none
-parts-draw-once : {columns left middle-column right spared-column rows upper middle-row lower spared-row : Bool}
+parts_draw_once : {columns left middle-column right spared-column rows upper middle-row lower spared-row : Bool}
     → Place columns left middle-column right spared-column → Place rows upper middle-row lower spared-row
     → (d : Drawing) (column row cell : ℕ)
-    → inOrder (only_if (columns && upper) d ∷ only_if (columns && lower) d ∷ only_if (left && middle-row) d ∷ only_if (right && middle-row) d ∷ []) column row cell
+    → in_order (only_if (columns && upper) d ∷ only_if (columns && lower) d ∷ only_if (left && middle-row) d ∷ only_if (right && middle-row) d ∷ []) column row cell
     ≡ cond (spared-column && spared-row) cell (only_if (columns && rows) d column row cell)
-parts-draw-once (outside spared) p d column row cell = rw cond_same
-parts-draw-once before (outside spared) d column row cell = refl
-parts-draw-once before before d column row cell = refl
-parts-draw-once before middle d column row cell = refl
-parts-draw-once before past d column row cell = refl
-parts-draw-once middle (outside spared) d column row cell = rw cond_same
-parts-draw-once middle before d column row cell = refl
-parts-draw-once middle middle d column row cell = refl
-parts-draw-once middle past d column row cell = refl
-parts-draw-once past (outside spared) d column row cell = refl
-parts-draw-once past before d column row cell = refl
-parts-draw-once past middle d column row cell = refl
-parts-draw-once past past d column row cell = refl
+parts_draw_once (outside spared) p d column row cell = rw cond_same
+parts_draw_once before (outside spared) d column row cell = refl
+parts_draw_once before before d column row cell = refl
+parts_draw_once before middle d column row cell = refl
+parts_draw_once before past d column row cell = refl
+parts_draw_once middle (outside spared) d column row cell = rw cond_same
+parts_draw_once middle before d column row cell = refl
+parts_draw_once middle middle d column row cell = refl
+parts_draw_once middle past d column row cell = refl
+parts_draw_once past (outside spared) d column row cell = refl
+parts_draw_once past before d column row cell = refl
+parts_draw_once past middle d column row cell = refl
+parts_draw_once past past d column row cell = refl
 
 -- drawing over the four parts in order is drawing over the area, sparing the other rectangle
 pub around : (area spared : Rect) (f : ℕ → ℕ) (column row cell : ℕ)
-    → inOrder (over (above area spared) f ∷ over (below area spared) f ∷ over (left_of area spared) f ∷ over (rightFrom area spared) f ∷ []) column row cell
+    → in_order (over (above area spared) f ∷ over (below area spared) f ∷ over (left_of area spared) f ∷ over (right_from area spared) f ∷ []) column row cell
     ≡ sparing spared (over area f) column row cell
-unfolding over sparing above below left_of rightFrom
+unfolding over sparing above below left_of right_from
 around area spared f column row cell =
-    rw (spans-as-within area.x (rightOf area) column (omega arith)) (
-    parts-draw-once (placed area.x (rightOf area) spared.x (rightOf spared) column (omega arith) (omega arith))
-    (placed area.y (bottomOf area) spared.y (bottomOf spared) row (omega arith) (omega arith)) (λ column row cell. f cell) column row cell)
+    rw (spans_as_within area.x (right_of area) column (omega arith)) (
+    parts_draw_once (placed area.x (right_of area) spared.x (right_of spared) column (omega arith) (omega arith))
+    (placed area.y (bottom_of area) spared.y (bottom_of spared) row (omega arith) (omega arith)) (λ column row cell. f cell) column row cell)

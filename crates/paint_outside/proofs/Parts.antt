@@ -8,43 +8,43 @@ use Rattle.num.specs.Held.{held}
 use Rattle.layout.specs.declared.Rect.{Rect}
 use Rattle.buffer.specs.declared.Screen.{Screen}
 use Rattle.buffer.specs.PartsExtra.{OnScreen}
-use Rattle.paint_outside.specs.AroundExtra.{rectBetween, above, below, left_of, rightFrom}
+use Rattle.paint_outside.specs.AroundExtra.{rect_between, above, below, left_of, right_from}
 
 -- a range stored as start and size, whose bounds are at most `most`, ends by `most`
-span-ends-by : (first end most : ℕ) → first ≤ most → end ≤ most → held (first + (end - first)) ≤ most
-span-ends-by first end most p q = omega arith
+span_ends_by : (first end most : ℕ) → first ≤ most → end ≤ most → held (first + (end - first)) ≤ most
+span_ends_by first end most p q = omega arith
 
 -- a rectangle between columns and rows of the screen lies on the screen
-between-on-screen : (s : Screen) (n m left top right bottom : ℕ) (area : Rect) → OnScreen s n area → m ≡ n
-    → left ≤ s.columns → top ≤ s.rows → right ≤ s.columns → bottom ≤ s.rows → OnScreen s m (rectBetween left top right bottom)
-between-on-screen s n m left top right bottom area on same p q t u =
+between_on_screen : (s : Screen) (n m left top right bottom : ℕ) (area : Rect) → OnScreen s n area → m ≡ n
+    → left ≤ s.columns → top ≤ s.rows → right ≤ s.columns → bottom ≤ s.rows → OnScreen s m (rect_between left top right bottom)
+between_on_screen s n m left top right bottom area on same p q t u =
     record {
       columns = on.columns;
       size = omega (arith, on.size);
-      right = span-ends-by left right s.columns p t;
-      bottom = span-ends-by top bottom s.rows q u;
+      right = span_ends_by left right s.columns p t;
+      bottom = span_ends_by top bottom s.rows q u;
     }
 
 -- n is the count of cells at the start of the function, m the count now, which is equal
 module _ (s : Screen) (n m : ℕ) (area spared r : Rect) where
-  pub above-on-screen : r ≡ above area spared → OnScreen s n area → OnScreen s n spared → m ≡ n → Fits w16 area.x → Fits w16 area.y → OnScreen s m r
+  pub above-on_screen : r ≡ above area spared → OnScreen s n area → OnScreen s n spared → m ≡ n → Fits w16 area.x → Fits w16 area.y → OnScreen s m r
   unfolding above
-  above-on-screen e on also same left top = rw e (between-on-screen s n m _ _ _ _ area on same (omega arith) (omega arith) (omega arith) (omega arith))
+  above-on_screen e on also same left top = rw e (between_on_screen s n m _ _ _ _ area on same (omega arith) (omega arith) (omega arith) (omega arith))
 
-  pub below-on-screen : r ≡ below area spared → OnScreen s n area → OnScreen s n spared → m ≡ n → Fits w16 area.x → Fits w16 area.y → OnScreen s m r
+  pub below-on_screen : r ≡ below area spared → OnScreen s n area → OnScreen s n spared → m ≡ n → Fits w16 area.x → Fits w16 area.y → OnScreen s m r
   unfolding below
-  below-on-screen e on also same left top = rw e (between-on-screen s n m _ _ _ _ area on same (omega arith) (omega arith) (omega arith) (omega arith))
+  below-on_screen e on also same left top = rw e (between_on_screen s n m _ _ _ _ area on same (omega arith) (omega arith) (omega arith) (omega arith))
 
-  pub left-on-screen : r ≡ left_of area spared → OnScreen s n area → OnScreen s n spared → m ≡ n → Fits w16 area.x → Fits w16 area.y → Fits w16 spared.y
+  pub left-on_screen : r ≡ left_of area spared → OnScreen s n area → OnScreen s n spared → m ≡ n → Fits w16 area.x → Fits w16 area.y → Fits w16 spared.y
       → OnScreen s m r
   unfolding left_of
-  left-on-screen e on also same left top upper =
-      rw e (between-on-screen s n m _ _ _ _ area on same (omega arith) (omega arith) (omega arith) (omega arith))
+  left-on_screen e on also same left top upper =
+      rw e (between_on_screen s n m _ _ _ _ area on same (omega arith) (omega arith) (omega arith) (omega arith))
 
-  pub right-on-screen : r ≡ rightFrom area spared → OnScreen s n area → OnScreen s n spared → m ≡ n → Fits w16 area.x → Fits w16 area.y → Fits w16 spared.y
+  pub right-on_screen : r ≡ right_from area spared → OnScreen s n area → OnScreen s n spared → m ≡ n → Fits w16 area.x → Fits w16 area.y → Fits w16 spared.y
       → OnScreen s m r
-  unfolding rightFrom
-  right-on-screen e on also same left top upper =
-      rw e (between-on-screen s n m _ _ _ _ area on same (omega arith) (omega arith) (omega arith) (omega arith))
+  unfolding right_from
+  right-on_screen e on also same left top upper =
+      rw e (between_on_screen s n m _ _ _ _ area on same (omega arith) (omega arith) (omega arith) (omega arith))
 
-pub ruleset parts-on-screen = (above-on-screen, below-on-screen, left-on-screen, right-on-screen)
+pub ruleset parts-on-screen = (above-on_screen, below-on_screen, left-on_screen, right-on_screen)

@@ -1,16 +1,16 @@
 // Painting the cells of one rectangle outside another.
 ghost use Rattle.std.specs.Prelude.{◌≡◌, [], ◌∷◌, length};
-ghost use Rattle.buffer.specs.Drawing.{drawn, over, sparing, inOrder};
+ghost use Rattle.buffer.specs.Drawing.{drawn, over, sparing, in_order};
 ghost use Rattle.buffer.specs.InkExtra.{inked, SymbolFits};
 ghost use Rattle.buffer.specs.PartsExtra.{OnScreen};
-ghost use Rattle.paint_outside.specs.AroundExtra.{rectBetween, above, below, left_of, rightFrom};
+ghost use Rattle.paint_outside.specs.AroundExtra.{rect_between, above, below, left_of, right_from};
 
 use buffer::{Ink, Screen};
 use layout::Rect;
 
 // Returns the rectangle from column `left` to before `right`, and from row `top` to before `bottom`.
 fn rect_between(left: u16, top: u16, right: u16, bottom: u16) -> Rect
-    ensures { result ≡ rectBetween left top right bottom }
+    ensures { result ≡ rect_between left top right bottom }
 {
     Rect {
         x: left,
@@ -55,7 +55,7 @@ fn left_of(area: Rect, spared: Rect) -> Rect
 
 // Returns the part of a rectangle right of another, in the other's rows.
 fn right_from(area: Rect, spared: Rect) -> Rect
-    ensures { result ≡ rightFrom area spared }
+    ensures { result ≡ right_from area spared }
 {
     let top = num::max(area.y, spared.y);
     let bottom = num::min(area.bottom(), spared.bottom());
@@ -66,7 +66,7 @@ fn right_from(area: Rect, spared: Rect) -> Rect
 fn paint_other_rows(screen: Screen, cells: &mut [u64], spared: Rect, area: Rect, ink: Ink)
     requires symbol_fits { SymbolFits ink }
     requires on_screen { OnScreen screen (length cells.old) spared × OnScreen screen (length cells.old) area }
-    ensures { let drawing = inOrder (over (above area spared) (inked ink) ∷ over (below area spared) (inked ink) ∷ []) in
+    ensures { let drawing = in_order (over (above area spared) (inked ink) ∷ over (below area spared) (inked ink) ∷ []) in
         cells.new ≡ drawn screen.columns drawing cells.old }
 {
     buffer::paint_area(screen, cells, above(area, spared), ink);
@@ -77,7 +77,7 @@ fn paint_other_rows(screen: Screen, cells: &mut [u64], spared: Rect, area: Rect,
 fn paint_same_rows(screen: Screen, cells: &mut [u64], spared: Rect, area: Rect, ink: Ink)
     requires symbol_fits { SymbolFits ink }
     requires on_screen { OnScreen screen (length cells.old) spared × OnScreen screen (length cells.old) area }
-    ensures { let drawing = inOrder (over (left_of area spared) (inked ink) ∷ over (rightFrom area spared) (inked ink) ∷ []) in
+    ensures { let drawing = in_order (over (left_of area spared) (inked ink) ∷ over (right_from area spared) (inked ink) ∷ []) in
         cells.new ≡ drawn screen.columns drawing cells.old }
 {
     buffer::paint_area(screen, cells, left_of(area, spared), ink);

@@ -7,19 +7,19 @@ use Rattle.layout.specs.Rect.{meet, is_empty}
 use Rattle.block.specs.declared.Block.{Block}
 use Rattle.block.specs.Inner.{inner_of}
 use Rattle.buffer.specs.declared.Screen.{Screen}
-use Rattle.buffer.specs.Drawing.{Drawing, over, only_if, inOrder, areaOf, styleAt}
-use Rattle.titles.specs.Titles.{titlesFrom}
+use Rattle.buffer.specs.Drawing.{Drawing, over, only_if, in_order, area_of, style_at}
+use Rattle.titles.specs.Titles.{titles_from}
 use Rattle.render_block.specs.Frame.{frame}
 use Rattle.line_composer.specs.Lines.{Line, lines}
-use Rattle.line_composer.specs.Wrap.{methodOf, ruleAt}
+use Rattle.line_composer.specs.Wrap.{method_of, rule_at}
 use Rattle.render_lines.specs.declared.DrawCounts.{DrawCounts}
-use Rattle.render_lines.specs.Rows.{textOn, rowsDrawn, placedOn, clippedOn}
+use Rattle.render_lines.specs.Rows.{text_on, rows_drawn, placed_on, clipped_on}
 use Rattle.render_text.specs.declared.TextSettings.{TextSettings}
 use Rattle.paragraph.specs.declared.Notice.{Notice}
 
 -- the settings of a notice without its block
-abbrev pub settingsOf : Notice → TextSettings
-settingsOf n =
+abbrev pub settings_of : Notice → TextSettings
+settings_of n =
     record {
       style = n.style;
       text_style = n.text_style;
@@ -30,49 +30,49 @@ settingsOf n =
     }
 
 -- the lines of a notice, "composed with the inner width as the limit"
-unfoldable pub noticeLines : TextSettings → List ℕ → ℕ → List Line
-noticeLines s text width = lines (ruleAt s.ambiguous s.wrap width) (methodOf s.wrap) s.alignment text
+unfoldable pub notice_lines : TextSettings → List ℕ → ℕ → List Line
+notice_lines s text width = lines (rule_at s.ambiguous s.wrap width) (method_of s.wrap) s.alignment text
 
 -- "inner area of the met area"
-unfoldable pub innerAreaOf : Screen → List ℕ → Block → Rect → Rect
-innerAreaOf screen titles b area = inner_of b titles (meet area (areaOf screen))
+unfoldable pub inner_area_of : Screen → List ℕ → Block → Rect → Rect
+inner_area_of screen titles b area = inner_of b titles (meet area (area_of screen))
 
 -- "paragraph style over that inner area, lines from the scroll row (16 bits). An empty inner area gets no line"
-unfoldable pub insideOf : List ℕ → List ℕ → TextSettings → Rect → Drawing
-insideOf styles text s inner =
-    inOrder
-    (over inner (styled (styleAt styles s.style))
-    ∷ only_if (not (is_empty inner)) (textOn styles s.text_style (noticeLines s text inner.width) inner s.scroll)
+unfoldable pub inside_of : List ℕ → List ℕ → TextSettings → Rect → Drawing
+inside_of styles text s inner =
+    in_order
+    (over inner (styled (style_at styles s.style))
+    ∷ only_if (not (is_empty inner)) (text_on styles s.text_style (notice_lines s text inner.width) inner s.scroll)
     ∷ [])
 
 -- "A notice is drawn as a `Paragraph` is: frame, inner area of the met area, …". 'Inner area and frame': "an empty meeting draws
 -- no cell. Then, over the met area: the paragraph style where a notice is drawn, block style, …"
-unfoldable pub noticeOf : List ℕ → Screen → List ℕ → List ℕ → Notice → Rect → Drawing
-noticeOf styles screen text titles n area =
-    let met = meet area (areaOf screen) in
+unfoldable pub notice_of : List ℕ → Screen → List ℕ → List ℕ → Notice → Rect → Drawing
+notice_of styles screen text titles n area =
+    let met = meet area (area_of screen) in
     only_if (not (is_empty met))
-    (inOrder
-    (over met (styled (styleAt styles n.style))
-    ∷ frame styles screen (titlesFrom n.ambiguous titles) n.block met
-    ∷ insideOf styles text (settingsOf n) (innerAreaOf screen titles n.block area)
+    (in_order
+    (over met (styled (style_at styles n.style))
+    ∷ frame styles screen (titles_from n.ambiguous titles) n.block met
+    ∷ inside_of styles text (settings_of n) (inner_area_of screen titles n.block area)
     ∷ []))
 
 -- "the counts are 0"
-abbrev pub noDrawCounts : DrawCounts
-noDrawCounts = record { rows = 0; placed = 0; clipped = 0 }
+abbrev pub no_draw_counts : DrawCounts
+no_draw_counts = record { rows = 0; placed = 0; clipped = 0 }
 
 -- "The answer carries the rows drawn, glyphs placed and clipped." "An empty inner area gets no line, and the counts are 0". If
 -- the meeting is empty, so is its inner area.
-unfoldable pub insideCounts : List ℕ → TextSettings → Rect → DrawCounts
-insideCounts text s inner =
-    let composed = noticeLines s text inner.width in
+unfoldable pub inside_counts : List ℕ → TextSettings → Rect → DrawCounts
+inside_counts text s inner =
+    let composed = notice_lines s text inner.width in
     cond (is_empty inner)
-    noDrawCounts
+    no_draw_counts
     (record {
-      rows = rowsDrawn composed inner s.scroll;
-      placed = placedOn composed inner s.scroll;
-      clipped = clippedOn composed inner s.scroll;
+      rows = rows_drawn composed inner s.scroll;
+      placed = placed_on composed inner s.scroll;
+      clipped = clipped_on composed inner s.scroll;
     })
 
-unfoldable pub noticeCounts : Screen → List ℕ → List ℕ → Notice → Rect → DrawCounts
-noticeCounts screen text titles n area = insideCounts text (settingsOf n) (innerAreaOf screen titles n.block area)
+unfoldable pub notice_counts : Screen → List ℕ → List ℕ → Notice → Rect → DrawCounts
+notice_counts screen text titles n area = inside_counts text (settings_of n) (inner_area_of screen titles n.block area)

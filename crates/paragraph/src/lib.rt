@@ -3,15 +3,15 @@ ghost use Rattle.std.specs.Prelude.{◌≡◌, false, [], ◌∷◌, ◌<◌, �
 ghost use Rattle.text.specs.Line.{Opens};
 ghost use Rattle.cell.specs.Cell.{styled};
 ghost use Rattle.layout.specs.Rect.{is_empty};
-ghost use Rattle.buffer.specs.Drawing.{drawn, over, inOrder, styleAt};
+ghost use Rattle.buffer.specs.Drawing.{drawn, over, in_order, style_at};
 ghost use Rattle.buffer.specs.PartsExtra.{OnScreen};
 ghost use Rattle.buffer.specs.PartsExtra.{HasCells};
 ghost use Rattle.block.specs.Causes.{SymbolsFit};
-ghost use Rattle.titles.specs.Titles.{titlesFrom};
+ghost use Rattle.titles.specs.Titles.{titles_from};
 ghost use Rattle.render_block.specs.Frame.{frame};
 ghost use Rattle.render_lines.specs.DrawingExtra.{Composable};
-ghost use Rattle.paragraph.specs.Notice.{settingsOf, innerAreaOf};
-ghost use Rattle.paragraph.specs.Apart.{frame_of, paragraphOf, paragraphCounts};
+ghost use Rattle.paragraph.specs.Notice.{settings_of, inner_area_of};
+ghost use Rattle.paragraph.specs.Apart.{frame_of, paragraph_of, paragraph_counts};
 
 use block::Block;
 use buffer::{Ink, Screen};
@@ -37,7 +37,7 @@ pub struct Notice {
 impl Notice {
     // Returns the settings of the notice without its block.
     pub fn text_settings(self) -> TextSettings
-        ensures { result ≡ settingsOf self }
+        ensures { result ≡ settings_of self }
     {
         let alignment = self.alignment;
         let wrap = self.wrap;
@@ -66,9 +66,9 @@ fn render_style_and_frame(
 )
     requires symbols_fit { SymbolsFit block × (is_empty met ≡ false) × (screen.columns < 2 ^ 15) × (screen.rows < 2 ^ 15) × Opens titles.now }
     requires on_screen { OnScreen screen (length cells.old) met }
-    ensures { let under = over met (styled (styleAt styles.now style)) in
-        let around = frame styles.now screen (titlesFrom ambiguous titles.now) block met in
-        cells.new ≡ drawn screen.columns (inOrder (under ∷ around ∷ [])) cells.old }
+    ensures { let under = over met (styled (style_at styles.now style)) in
+        let around = frame styles.now screen (titles_from ambiguous titles.now) block met in
+        cells.new ≡ drawn screen.columns (in_order (under ∷ around ∷ [])) cells.old }
 {
     let ink = Ink::Style(buffer::style_at(styles, style));
     buffer::paint_area(screen, cells, met, ink);
@@ -88,7 +88,7 @@ pub fn render_frame(
     block: Block,
 )
     requires { SymbolsFit block × HasCells screen (length cells.old) × Opens titles.now }
-    ensures { let drawing = frame_of styles.now screen (titlesFrom ambiguous titles.now) style block area in
+    ensures { let drawing = frame_of styles.now screen (titles_from ambiguous titles.now) style block area in
         cells.new ≡ drawn screen.columns drawing cells.old }
 {
     let met = area.intersection(screen.area());
@@ -100,7 +100,7 @@ pub fn render_frame(
 
 // Returns the inner area of the intersection of a notice's area and the screen.
 pub fn inner_area(screen: Screen, titles: &[u32], block: Block, area: Rect) -> Rect
-    ensures { result ≡ innerAreaOf screen titles.now block area }
+    ensures { result ≡ inner_area_of screen titles.now block area }
 {
     let met = area.intersection(screen.area());
     block.inner(titles, met)
@@ -117,9 +117,9 @@ pub fn render_paragraph(
     settings: TextSettings,
 ) -> DrawCounts
     requires { Composable text.now × HasCells screen (length cells.old) }
-    ensures cells { let drawing = paragraphOf styles.now screen text.now settings area in
+    ensures cells { let drawing = paragraph_of styles.now screen text.now settings area in
         cells.new ≡ drawn screen.columns drawing cells.old }
-    ensures counts { result ≡ paragraphCounts screen text.now settings area }
+    ensures counts { result ≡ paragraph_counts screen text.now settings area }
 {
     let inside = area.intersection(screen.area());
     if inside.is_empty() {

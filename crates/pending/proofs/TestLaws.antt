@@ -8,23 +8,23 @@ use Rattle.wrapping.specs.declared.Run.{Run}
 use Rattle.wrapping.specs.declared.Rule.{Rule}
 use Rattle.pending.specs.declared.Pending.{Pending}
 use Rattle.pending.specs.declared.LastRun.TheVariants.{Emit, Nothing}
-use Rattle.wrapping.specs.RunsExtra.{emptyRun, appendRun}
-use Rattle.pending.specs.TestsExtra.{gatherRun, overflowing, joins, fullRun, lastRun}
+use Rattle.wrapping.specs.RunsExtra.{empty_run, append_run}
+use Rattle.pending.specs.TestsExtra.{gather_run, overflowing, joins, full_run, last_run}
 
 -- ---- step 2
 
 module _ (trim : Bool) (p : Pending) where
-  pub gather-word : p.row.end ≡ 0 → trim ≡ true → p.word ≡ gatherRun trim p
-  unfolding gatherRun
-  gather-word h t = simp (eq-eqb p.row.end 0 h, t)
+  pub gather_word : p.row.end ≡ 0 → trim ≡ true → p.word ≡ gather_run trim p
+  unfolding gather_run
+  gather_word h t = simp (eq-eqb p.row.end 0 h, t)
 
-  pub gather-spaces : (r : Run) → p.row.end ≡ 0 → trim ≡ false → r ≡ appendRun p.spaces p.word → r ≡ gatherRun trim p
-  unfolding gatherRun
-  gather-spaces r h t e = simp (eq-eqb p.row.end 0 h, t) e
+  pub gather_spaces : (r : Run) → p.row.end ≡ 0 → trim ≡ false → r ≡ append_run p.spaces p.word → r ≡ gather_run trim p
+  unfolding gather_run
+  gather_spaces r h t e = simp (eq-eqb p.row.end 0 h, t) e
 
-  pub gather-row : (r q : Run) → (p.row.end ≡ 0 → ⊥) → q ≡ appendRun p.row p.spaces → r ≡ appendRun q p.word → r ≡ gatherRun trim p
-  unfolding gatherRun
-  gather-row r q h e f = simp (ne_eqb p.row.end 0 h) (cc)
+  pub gather_row : (r q : Run) → (p.row.end ≡ 0 → ⊥) → q ≡ append_run p.row p.spaces → r ≡ append_run q p.word → r ≡ gather_run trim p
+  unfolding gather_run
+  gather_row r q h e f = simp (ne_eqb p.row.end 0 h) (cc)
 
 module _ (u : Rule) (p : Pending) (w : ℕ) where
   pub over_word : u.trim ≡ true → u.limit < p.word.width + w → ltb u.limit (p.word.width + w) ≡ overflowing u p w
@@ -55,33 +55,33 @@ module _ (u : Rule) (p : Pending) (w : ℕ) where
 -- ---- step 3
 
 module _ (u : Rule) (p : Pending) (w : ℕ) where
-  pub full-row : u.limit ≤ p.row.width → leb u.limit p.row.width ≡ fullRun u p w
-  unfolding fullRun
+  pub full-row : u.limit ≤ p.row.width → leb u.limit p.row.width ≡ full_run u p w
+  unfolding full_run
   full-row h = simp (le-leb _ _ h)
 
-  pub full-all : p.row.width < u.limit → 0 < w → leb u.limit (p.row.width + p.spaces.width + p.word.width) ≡ fullRun u p w
-  unfolding fullRun
+  pub full-all : p.row.width < u.limit → 0 < w → leb u.limit (p.row.width + p.spaces.width + p.word.width) ≡ full_run u p w
+  unfolding full_run
   full-all h k = simp (lt-leb _ _ h, lt-ltb _ _ k)
 
-  pub full-not : p.row.width < u.limit → w ≤ 0 → ltb 0 w ≡ fullRun u p w
-  unfolding fullRun
+  pub full-not : p.row.width < u.limit → w ≤ 0 → ltb 0 w ≡ full_run u p w
+  unfolding full_run
   full-not h k = simp (lt-leb _ _ h, le-ltb _ _ k)
 
 -- ---- the text line's end
 
-module _ (trim emitted : Bool) (p : Pending) (last none : Run) (is : last ≡ gatherRun trim p) (q : none ≡ emptyRun) where
-  pub last-nothing : last.end ≡ 0 → p.spaces.end ≡ 0 → emitted ≡ true → Nothing ≡ lastRun trim emitted p
-  unfolding lastRun
+module _ (trim emitted : Bool) (p : Pending) (last none : Run) (is : last ≡ gather_run trim p) (q : none ≡ empty_run) where
+  pub last-nothing : last.end ≡ 0 → p.spaces.end ≡ 0 → emitted ≡ true → Nothing ≡ last_run trim emitted p
+  unfolding last_run
   last-nothing a b c = simp (← is, eq-eqb last.end 0 a, eq-eqb p.spaces.end 0 b, c)
 
-  pub last-first : last.end ≡ 0 → p.spaces.end ≡ 0 → emitted ≡ false → Emit none ≡ lastRun trim emitted p
-  unfolding lastRun
+  pub last-first : last.end ≡ 0 → p.spaces.end ≡ 0 → emitted ≡ false → Emit none ≡ last_run trim emitted p
+  unfolding last_run
   last-first a b c = simp (← is, eq-eqb last.end 0 a, eq-eqb p.spaces.end 0 b, c, q)
 
-  pub last-spaces : last.end ≡ 0 → (p.spaces.end ≡ 0 → ⊥) → Emit none ≡ lastRun trim emitted p
-  unfolding lastRun
+  pub last-spaces : last.end ≡ 0 → (p.spaces.end ≡ 0 → ⊥) → Emit none ≡ last_run trim emitted p
+  unfolding last_run
   last-spaces a b = simp (← is, eq-eqb last.end 0 a, ne_eqb p.spaces.end 0 b, q)
 
-  pub last_row : (last.end ≡ 0 → ⊥) → Emit last ≡ lastRun trim emitted p
-  unfolding lastRun
+  pub last_row : (last.end ≡ 0 → ⊥) → Emit last ≡ last_run trim emitted p
+  unfolding last_run
   last_row a = simp (← is, ne_eqb last.end 0 a)

@@ -6,14 +6,14 @@ use Rattle.wrapping.specs.declared.Rule.{Rule}
 use Rattle.pending.specs.declared.Pending.{Pending}
 use Rattle.pending.specs.declared.LastRun.{LastRun}
 use Rattle.pending.specs.declared.LastRun.TheVariants.{Emit, Nothing}
-use Rattle.wrapping.specs.RunsExtra.{emptyRun, appendRun}
+use Rattle.wrapping.specs.RunsExtra.{empty_run, append_run}
 
 -- row, then spaces if row isn't empty or trim is off, then word
-unfoldable pub gatherRun : Bool → Pending → Run
-gatherRun trim p =
+unfoldable pub gather_run : Bool → Pending → Run
+gather_run trim p =
     cond (eqb p.row.end 0)
-    (cond trim p.word (appendRun p.spaces p.word))
-    (appendRun (appendRun p.row p.spaces) p.word)
+    (cond trim p.word (append_run p.spaces p.word))
+    (append_run (append_run p.row p.spaces) p.word)
 
 -- whether spaces and word, with a glyph of width w, would overflow an empty row
 unfoldable pub overflowing : Rule → Pending → ℕ → Bool
@@ -27,13 +27,13 @@ unfoldable pub joins : Rule → Pending → ℕ → Bool → Bool
 joins u p w space = (space && p.solid) || (eqb p.row.end 0 && overflowing u p w)
 
 -- step 3's test
-unfoldable pub fullRun : Rule → Pending → ℕ → Bool
-fullRun u p w =
+unfoldable pub full_run : Rule → Pending → ℕ → Bool
+full_run u p w =
     leb u.limit p.row.width || (ltb 0 w && leb u.limit (p.row.width + p.spaces.width + p.word.width))
 
 -- the text line's end; `emitted` is whether the text line has emitted a line before
-unfoldable pub lastRun : Bool → Bool → Pending → LastRun
-lastRun trim emitted p =
-    cond (eqb (gatherRun trim p).end 0)
-    (cond (eqb p.spaces.end 0) (cond emitted Nothing (Emit emptyRun)) (Emit emptyRun))
-    (Emit (gatherRun trim p))
+unfoldable pub last_run : Bool → Bool → Pending → LastRun
+last_run trim emitted p =
+    cond (eqb (gather_run trim p).end 0)
+    (cond (eqb p.spaces.end 0) (cond emitted Nothing (Emit empty_run)) (Emit empty_run))
+    (Emit (gather_run trim p))

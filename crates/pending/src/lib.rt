@@ -1,7 +1,7 @@
 // Pending part of the word wrapper's state, and the tests of `WordWrapper::process_input` in reflow.rs on it.
 
 ghost use Rattle.std.specs.Prelude.{◌≡◌, ◌&&◌, ◌+◌, ◌^◌, ◌<◌};
-ghost use Rattle.pending.specs.TestsExtra.{gatherRun, overflowing, joins, fullRun, lastRun};
+ghost use Rattle.pending.specs.TestsExtra.{gather_run, overflowing, joins, full_run, last_run};
 
 use wrapping::{Rule, Run};
 
@@ -25,7 +25,7 @@ impl Pending {
     // Returns row, then spaces if row isn't empty or trim is off, then word.
     pub fn gather(self, trim: bool) -> Run
         requires { self.row.width + self.spaces.width + self.word.width < 2 ^ 32 }
-        ensures { result ≡ gatherRun trim self }
+        ensures { result ≡ gather_run trim self }
     {
         let row = self.row;
         let spaces = self.spaces;
@@ -78,7 +78,7 @@ impl Pending {
     // Step 3: whether row must be emitted.
     pub fn is_full(self, rule: Rule, w: usize) -> bool
         requires { self.row.width + self.spaces.width + self.word.width + w < 2 ^ 32 }
-        ensures { result ≡ fullRun rule self w }
+        ensures { result ≡ full_run rule self w }
     {
         rule.limit <= self.row.width
             || (0 < w && rule.limit <= self.row.width + self.spaces.width + self.word.width)
@@ -87,7 +87,7 @@ impl Pending {
     // Returns the line emitted at the text line's end; `emitted` is whether the text line has emitted one before.
     pub fn last_line(self, trim: bool, emitted: bool) -> LastRun
         requires { self.row.width + self.spaces.width + self.word.width < 2 ^ 32 }
-        ensures { result ≡ lastRun trim emitted self }
+        ensures { result ≡ last_run trim emitted self }
     {
         let last = self.gather(trim);
         let none = Run::empty();

@@ -16,23 +16,23 @@ place_of edge start width =
     (cond (ltb edge (start + width)) Halved Placed))
 
 -- the counts that a glyph adds to, by its place
-abbrev pub countsAsPlaced : Place → Bool
-countsAsPlaced ZeroWidth = false
-countsAsPlaced Placed = true
-countsAsPlaced Halved = false
-countsAsPlaced Outside = false
+abbrev pub counts_as_placed : Place → Bool
+counts_as_placed ZeroWidth = false
+counts_as_placed Placed = true
+counts_as_placed Halved = false
+counts_as_placed Outside = false
 
 -- C-14: a halved glyph "counts as clipped in drawing and tally"
-abbrev pub countsAsClipped : Place → Bool
-countsAsClipped ZeroWidth = false
-countsAsClipped Placed = false
-countsAsClipped Halved = true
-countsAsClipped Outside = true
+abbrev pub counts_as_clipped : Place → Bool
+counts_as_clipped ZeroWidth = false
+counts_as_clipped Placed = false
+counts_as_clipped Halved = true
+counts_as_clipped Outside = true
 
 -- the cells that a glyph takes on the screen, from its first on: a placed one as many as it is wide; a halved one its first alone, as
 -- the blank symbol that it gets is one cell wide
-abbrev pub cellsTaken : Place → ℕ → ℕ
-cellsTaken ZeroWidth width = 0
-cellsTaken Placed width = width
-cellsTaken Halved width = 1
-cellsTaken Outside width = 0
+abbrev pub cells_taken : Place → ℕ → ℕ
+cells_taken ZeroWidth width = 0
+cells_taken Placed width = width
+cells_taken Halved width = 1
+cells_taken Outside width = 0

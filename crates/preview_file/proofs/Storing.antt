@@ -10,83 +10,83 @@ use borrow.Author.Tests.{lt-ltb, le-ltb, ltb-false}
 use lib.Dec.{ltb}
 use lib.ListN.{length, get_or, set, take, drop, length-append, length-take, length-drop}
 use lib.Seq.{paste-suc, take-length}
-use Rattle.preview_file.specs.NumbersExtra.{numbersFrom}
+use Rattle.preview_file.specs.NumbersExtra.{numbers_from}
 use Rattle.preview_file.specs.declared.Opening.{Opening}
 use Rattle.preview_file.specs.declared.Flaw.{Flaw}
 use Rattle.preview_file.specs.declared.Flaw.TheVariants.{Length, Mark, Short, Styles, Titles, Text, Rest}
 use Rattle.preview_file.specs.declared.Parsed.{Parsed}
 use Rattle.preview_file.specs.declared.Parsed.TheVariants.{Bad, Good}
-use Rattle.preview_file.specs.FileExtra.{mostBytes, mostStyles, mostTitles, mostText, openingBytes, unmarked, openingIn, end_at, judged, SizesFit, parsedOf}
+use Rattle.preview_file.specs.FileExtra.{most_bytes, most_styles, most_titles, most_text, opening_bytes, unmarked, opening_in, end_at, judged, SizesFit, parsed_of}
 
 -- the checks of an opening
 module _ (bytes : ℕ) (o : Opening) where
-  pub judged-styles : mostStyles < o.styles → Bad Styles ≡ judged bytes o
+  pub judged-styles : most_styles < o.styles → Bad Styles ≡ judged bytes o
   unfolding judged
-  judged-styles h = rw (lt-ltb mostStyles o.styles h) refl
+  judged-styles h = rw (lt-ltb most_styles o.styles h) refl
 
-  module _ (s : o.styles ≤ mostStyles) where
-    pub judged-titles : mostTitles < o.titles → Bad Titles ≡ judged bytes o
+  module _ (s : o.styles ≤ most_styles) where
+    pub judged-titles : most_titles < o.titles → Bad Titles ≡ judged bytes o
     unfolding judged
-    judged-titles h = rw (le-ltb mostStyles o.styles s, lt-ltb mostTitles o.titles h) refl
+    judged-titles h = rw (le-ltb most_styles o.styles s, lt-ltb most_titles o.titles h) refl
 
-    module _ (t : o.titles ≤ mostTitles) where
-      pub judged-text : mostText < o.records → Bad Text ≡ judged bytes o
+    module _ (t : o.titles ≤ most_titles) where
+      pub judged-text : most_text < o.records → Bad Text ≡ judged bytes o
       unfolding judged
-      judged-text h = rw (le-ltb mostStyles o.styles s, le-ltb mostTitles o.titles t, lt-ltb mostText o.records h) refl
+      judged-text h = rw (le-ltb most_styles o.styles s, le-ltb most_titles o.titles t, lt-ltb most_text o.records h) refl
 
-      module _ (r : o.records ≤ mostText) where
-        judged-by-length : judged bytes o ≡ cond (ltb bytes (end_at o)) (Bad Short) (cond (ltb (end_at o) bytes) (Bad Rest) (Good o))
+      module _ (r : o.records ≤ most_text) where
+        judged_by_length : judged bytes o ≡ cond (ltb bytes (end_at o)) (Bad Short) (cond (ltb (end_at o) bytes) (Bad Rest) (Good o))
         unfolding judged
-        judged-by-length = rw (le-ltb mostStyles o.styles s, le-ltb mostTitles o.titles t, le-ltb mostText o.records r) refl
+        judged_by_length = rw (le-ltb most_styles o.styles s, le-ltb most_titles o.titles t, le-ltb most_text o.records r) refl
 
         pub judged-short : bytes < end_at o → Bad Short ≡ judged bytes o
-        judged-short h = sym (judged-by-length ∙ rw (lt-ltb bytes (end_at o) h) refl)
+        judged-short h = sym (judged_by_length ∙ rw (lt-ltb bytes (end_at o) h) refl)
 
         module _ (h : end_at o ≤ bytes) where
           pub judged-rest : end_at o < bytes → Bad Rest ≡ judged bytes o
-          judged-rest k = sym (judged-by-length ∙ rw (le-ltb bytes (end_at o) h, lt-ltb (end_at o) bytes k) refl)
+          judged-rest k = sym (judged_by_length ∙ rw (le-ltb bytes (end_at o) h, lt-ltb (end_at o) bytes k) refl)
 
-          pub judged-good : bytes ≤ end_at o → Good o ≡ judged bytes o
-          judged-good k = sym (judged-by-length ∙ rw (le-ltb bytes (end_at o) h, le-ltb (end_at o) bytes k) refl)
+          pub judged_good : bytes ≤ end_at o → Good o ≡ judged bytes o
+          judged_good k = sym (judged_by_length ∙ rw (le-ltb bytes (end_at o) h, le-ltb (end_at o) bytes k) refl)
 
-pub ruleset judging = (judged-styles, judged-titles, judged-text, judged-short, judged-rest, judged-good)
+pub ruleset judging = (judged-styles, judged-titles, judged-text, judged-short, judged-rest, judged_good)
 
 -- the checks before those
 module _ (bytes : List ℕ) where
-  pub parsed-length : mostBytes < length bytes → Bad Length ≡ parsedOf bytes
-  unfolding parsedOf
-  parsed-length h = rw (lt-ltb mostBytes (length bytes) h) refl
+  pub parsed_length : most_bytes < length bytes → Bad Length ≡ parsed_of bytes
+  unfolding parsed_of
+  parsed_length h = rw (lt-ltb most_bytes (length bytes) h) refl
 
-  module _ (l : length bytes ≤ mostBytes) (b : Bool) (e : b ≡ unmarked bytes) where
-    pub parsed-mark : b ≡ true → Bad Mark ≡ parsedOf bytes
-    unfolding parsedOf
-    parsed-mark t = rw (le-ltb mostBytes (length bytes) l, ← e, t) refl
+  module _ (l : length bytes ≤ most_bytes) (b : Bool) (e : b ≡ unmarked bytes) where
+    pub parsed_mark : b ≡ true → Bad Mark ≡ parsed_of bytes
+    unfolding parsed_of
+    parsed_mark t = rw (le-ltb most_bytes (length bytes) l, ← e, t) refl
 
     module _ (f : b ≡ false) where
-      pub parsed-short : length bytes < openingBytes → Bad Short ≡ parsedOf bytes
-      unfolding parsedOf
-      parsed-short h = rw (le-ltb mostBytes (length bytes) l, ← e, f, lt-ltb (length bytes) openingBytes h) refl
+      pub parsed_short : length bytes < opening_bytes → Bad Short ≡ parsed_of bytes
+      unfolding parsed_of
+      parsed_short h = rw (le-ltb most_bytes (length bytes) l, ← e, f, lt-ltb (length bytes) opening_bytes h) refl
 
       pub parsed-judged :
-          (o : Opening) (p : Parsed) → openingBytes ≤ length bytes → o ≡ openingIn bytes → p ≡ judged (length bytes) o → p ≡ parsedOf bytes
-      unfolding parsedOf
-      parsed-judged o p h i j = rw (le-ltb mostBytes (length bytes) l, ← e, f, le-ltb (length bytes) openingBytes h, ← i) j
+          (o : Opening) (p : Parsed) → opening_bytes ≤ length bytes → o ≡ opening_in bytes → p ≡ judged (length bytes) o → p ≡ parsed_of bytes
+      unfolding parsed_of
+      parsed-judged o p h i j = rw (le-ltb most_bytes (length bytes) l, ← e, f, le-ltb (length bytes) opening_bytes h, ← i) j
 
-pub ruleset parsing = (parsed-length, parsed-mark, parsed-short, parsed-judged)
+pub ruleset parsing = (parsed_length, parsed_mark, parsed_short, parsed-judged)
 
 -- consecutive numbers and the bytes of each
 module _ (read : ℕ → ℕ) (size : ℕ) where
-  pub numbers-count : (at n : ℕ) → length (numbersFrom read size at n) ≡ n
-  numbers-count at zero = refl
-  numbers-count at (suc n) = ap suc (numbers-count (at + size) n)
+  pub numbers_count : (at n : ℕ) → length (numbers_from read size at n) ≡ n
+  numbers_count at zero = refl
+  numbers_count at (suc n) = ap suc (numbers_count (at + size) n)
 
   step-over : (at size i : ℕ) → at + size + size * i ≡ at + size * suc i
   step-over at size i = rw (mul-suc size i) (omega arith)
 
-  numbers-at : (at n i : ℕ) → i < n → get_or (numbersFrom read size at n) i 0 ≡ read (at + size * i)
-  numbers-at at zero i h = absurd (omega arith)
-  numbers-at at (suc n) zero h = ap read (rw (mul-zero size) (omega arith))
-  numbers-at at (suc n) (suc i) h = numbers-at (at + size) n i (omega arith) ∙ ap read (step-over at size i)
+  numbers_at : (at n i : ℕ) → i < n → get_or (numbers_from read size at n) i 0 ≡ read (at + size * i)
+  numbers_at at zero i h = absurd (omega arith)
+  numbers_at at (suc n) zero h = ap read (rw (mul-zero size) (omega arith))
+  numbers_at at (suc n) (suc i) h = numbers_at (at + size) n i (omega arith) ∙ ap read (step-over at size i)
 
 -- loop invariant: before each turn the first i numbers are stored at the start of the list, and the rest of it is unchanged
 pub record Storing (all old new : List ℕ) (i : ℕ) : Type 0 where
@@ -94,35 +94,35 @@ pub record Storing (all old new : List ℕ) (i : ℕ) : Type 0 where
   pub same : new ≡ take i all ++ drop i old
 
 module _ (read : ℕ → ℕ) (size from count : ℕ) (old : List ℕ) (fits : count ≤ length old) where
-  pub storing-starts : Storing (numbersFrom read size from count) old old 0
-  storing-starts = record { within = omega arith; same = refl }
+  pub storing_starts : Storing (numbers_from read size from count) old old 0
+  storing_starts = record { within = omega arith; same = refl }
 
-  module _ (new : List ℕ) (i : ℕ) (s : Storing (numbersFrom read size from count) old new i) where
-    pub storing-length : length new ≡ length old
-    storing-length =
-        rw s.same (simp (length-append, length-take, length-drop) (omega (arith, s.within, numbers-count read size from count)))
+  module _ (new : List ℕ) (i : ℕ) (s : Storing (numbers_from read size from count) old new i) where
+    pub storing_length : length new ≡ length old
+    storing_length =
+        rw s.same (simp (length-append, length-take, length-drop) (omega (arith, s.within, numbers_count read size from count)))
 
-    pub storing-writes : i < count → i < length new
-    storing-writes h = omega (arith, storing-length)
+    pub storing_writes : i < count → i < length new
+    storing_writes h = omega (arith, storing_length)
 
-    pub storing-goes : (v : ℕ) → i < count → v ≡ read (from + size * i) → Storing (numbersFrom read size from count) old (set new i v) (i + 1)
-    storing-goes v h e =
-        let n = numbers-count read size from count in
-        let step = simp zero-add at (paste-suc old 0 (numbersFrom read size from count) i 0 (omega (arith, n)) (omega arith)) in
+    pub storing_goes : (v : ℕ) → i < count → v ≡ read (from + size * i) → Storing (numbers_from read size from count) old (set new i v) (i + 1)
+    storing_goes v h e =
+        let n = numbers_count read size from count in
+        let step = simp zero-add at (paste-suc old 0 (numbers_from read size from count) i 0 (omega (arith, n)) (omega arith)) in
         record {
           within = omega (arith, n);
-          same = rw (s.same, e, ← numbers-at read size from count i h) (simp add-one step);
+          same = rw (s.same, e, ← numbers_at read size from count i h) (simp add-one step);
         }
 
-    pub storing-ends : count ≤ i → new ≡ numbersFrom read size from count ++ drop count old
-    storing-ends h =
-        let n = numbers-count read size from count in
+    pub storing_ends : count ≤ i → new ≡ numbers_from read size from count ++ drop count old
+    storing_ends h =
+        let n = numbers_count read size from count in
         let k : i ≡ count = omega (arith, s.within, n) in
-        let t : take i (numbersFrom read size from count) ≡ numbersFrom read size from count =
-        ap (λ (m : ℕ). take m (numbersFrom read size from count)) (k ∙ sym n) ∙ take-length (numbersFrom read size from count) in
+        let t : take i (numbers_from read size from count) ≡ numbers_from read size from count =
+        ap (λ (m : ℕ). take m (numbers_from read size from count)) (k ∙ sym n) ∙ take-length (numbers_from read size from count) in
         s.same ∙ rw (t, k) refl
 
-pub ruleset storing = (storing-starts, storing-length, storing-writes, storing-goes, storing-ends)
+pub ruleset storing = (storing_starts, storing_length, storing_writes, storing_goes, storing_ends)
 
 -- an opening that passes has counts within the maxima that match the input's length
 abbrev Within : ℕ → Parsed → Type 0
@@ -131,7 +131,7 @@ Within bytes (Good o) = SizesFit bytes o
 
 judged-within :
     (bytes : ℕ) (o : Opening) (a b c d e : Bool) →
-    ltb mostStyles o.styles ≡ a → ltb mostTitles o.titles ≡ b → ltb mostText o.records ≡ c → ltb bytes (end_at o) ≡ d → ltb (end_at o) bytes ≡ e →
+    ltb most_styles o.styles ≡ a → ltb most_titles o.titles ≡ b → ltb most_text o.records ≡ c → ltb bytes (end_at o) ≡ d → ltb (end_at o) bytes ≡ e →
     Within bytes (cond a (Bad Styles) (cond b (Bad Titles) (cond c (Bad Text) (cond d (Bad Short) (cond e (Bad Rest) (Good o))))))
 judged-within bytes o true b c d e p q r s t = tt
 judged-within bytes o false true c d e p q r s t = tt
@@ -140,9 +140,9 @@ judged-within bytes o false false false true e p q r s t = tt
 judged-within bytes o false false false false true p q r s t = tt
 judged-within bytes o false false false false false p q r s t =
     record {
-      styles-in = ltb-false mostStyles o.styles p;
-      titles-in = ltb-false mostTitles o.titles q;
-      text_in = ltb-false mostText o.records r;
+      styles_in = ltb-false most_styles o.styles p;
+      titles_in = ltb-false most_titles o.titles q;
+      text_in = ltb-false most_text o.records r;
       whole = omega (arith, ltb-false bytes (end_at o) s, ltb-false (end_at o) bytes t);
     }
 
@@ -153,19 +153,19 @@ parsed-within bytes o true b c = tt
 parsed-within bytes o false true c = tt
 parsed-within bytes o false false true = tt
 parsed-within bytes o false false false =
-    judged-within bytes o (ltb mostStyles o.styles) (ltb mostTitles o.titles) (ltb mostText o.records) (ltb bytes (end_at o)) (ltb (end_at o) bytes) refl refl refl refl refl
+    judged-within bytes o (ltb most_styles o.styles) (ltb most_titles o.titles) (ltb most_text o.records) (ltb bytes (end_at o)) (ltb (end_at o) bytes) refl refl refl refl refl
 
-module _ (bytes : List ℕ) (p : Parsed) (o : Opening) (e : p ≡ parsedOf bytes) (g : p ≡ Good o) where
-  pub good-sized : SizesFit (length bytes) o
-  unfolding parsedOf
-  good-sized =
+module _ (bytes : List ℕ) (p : Parsed) (o : Opening) (e : p ≡ parsed_of bytes) (g : p ≡ Good o) where
+  pub good_sized : SizesFit (length bytes) o
+  unfolding parsed_of
+  good_sized =
       rw (← e, g) at
-      (parsed-within (length bytes) (openingIn bytes) (ltb mostBytes (length bytes)) (unmarked bytes) (ltb (length bytes) openingBytes))
+      (parsed-within (length bytes) (opening_in bytes) (ltb most_bytes (length bytes)) (unmarked bytes) (ltb (length bytes) opening_bytes))
 
-pub bad-parsed : (bytes : List ℕ) (p : Parsed) (flaw : Flaw) → p ≡ parsedOf bytes → p ≡ Bad flaw → Bad flaw ≡ parsedOf bytes
-bad-parsed bytes p flaw e b = sym b ∙ e
+pub bad_parsed : (bytes : List ℕ) (p : Parsed) (flaw : Flaw) → p ≡ parsed_of bytes → p ≡ Bad flaw → Bad flaw ≡ parsed_of bytes
+bad_parsed bytes p flaw e b = sym b ∙ e
 
-pub good-parsed : (bytes : List ℕ) (p : Parsed) (o : Opening) → p ≡ parsedOf bytes → p ≡ Good o → Good o ≡ parsedOf bytes
-good-parsed bytes p o e g = sym g ∙ e
+pub good_parsed : (bytes : List ℕ) (p : Parsed) (o : Opening) → p ≡ parsed_of bytes → p ≡ Good o → Good o ≡ parsed_of bytes
+good_parsed bytes p o e g = sym g ∙ e
 
-pub ruleset reading = (good-sized, bad-parsed, good-parsed)
+pub ruleset reading = (good_sized, bad_parsed, good_parsed)

@@ -9,20 +9,20 @@ use Rattle.preview_file.specs.declared.Paddings.{Paddings}
 use Rattle.preview_file.specs.declared.Flaw.TheVariants.{Length, Mark, Short, Styles, Titles, Text, Rest}
 use Rattle.preview_file.specs.declared.Parsed.{Parsed}
 use Rattle.preview_file.specs.declared.Parsed.TheVariants.{Bad, Good}
-use Rattle.preview_file.specs.NumbersExtra.{number2, number4, number8, signed, numbersFrom}
+use Rattle.preview_file.specs.NumbersExtra.{number2, number4, number8, signed, numbers_from}
 
 -- maxima of bytes, styles, title records and text records
-abbrev pub mostBytes : ℕ
-mostBytes = 131072
+abbrev pub most_bytes : ℕ
+most_bytes = 131072
 
-abbrev pub mostStyles : ℕ
-mostStyles = 256
+abbrev pub most_styles : ℕ
+most_styles = 256
 
-abbrev pub mostTitles : ℕ
-mostTitles = 8192
+abbrev pub most_titles : ℕ
+most_titles = 8192
 
-abbrev pub mostText : ℕ
-mostText = 24576
+abbrev pub most_text : ℕ
+most_text = 24576
 
 -- "NTC1"
 abbrev pub mark : ℕ
@@ -31,11 +31,11 @@ mark = 78 * 2 ^ 24 + 84 * 2 ^ 16 + 67 * 2 ^ 8 + 49
 unfoldable pub unmarked : List ℕ → Bool
 unmarked bytes = ltb (length bytes) 4 || not (eqb (number4 bytes 0) mark)
 
-abbrev pub areaIn : List ℕ → FlatArea
-areaIn bytes = record { x = number2 bytes 8; y = number2 bytes 10; width = number2 bytes 12; height = number2 bytes 14 }
+abbrev pub area_in : List ℕ → FlatArea
+area_in bytes = record { x = number2 bytes 8; y = number2 bytes 10; width = number2 bytes 12; height = number2 bytes 14 }
 
-unfoldable pub symbolsIn : List ℕ → Symbols
-symbolsIn bytes =
+unfoldable pub symbols_in : List ℕ → Symbols
+symbols_in bytes =
     record {
       top_left = number4 bytes 16;
       top_right = number4 bytes 20;
@@ -48,13 +48,13 @@ symbolsIn bytes =
       shadow = number4 bytes 48;
     }
 
-unfoldable pub paddingsIn : List ℕ → Paddings
-paddingsIn bytes = record { left = number2 bytes 60; right = number2 bytes 62; top = number2 bytes 64; bottom = number2 bytes 66 }
+unfoldable pub paddings_in : List ℕ → Paddings
+paddings_in bytes = record { left = number2 bytes 60; right = number2 bytes 62; top = number2 bytes 64; bottom = number2 bytes 66 }
 
-unfoldable pub blockIn : List ℕ → FlatBlock
-blockIn bytes =
-    let symbols = symbolsIn bytes in
-    let padding = paddingsIn bytes in
+unfoldable pub block_in : List ℕ → FlatBlock
+block_in bytes =
+    let symbols = symbols_in bytes in
+    let padding = paddings_in bytes in
     record {
       top_left = symbols.top_left;
       top_right = symbols.top_right;
@@ -85,8 +85,8 @@ blockIn bytes =
     }
 
 -- the form doesn't say how ambiguous glyphs are read: 1, narrow
-unfoldable pub textIn : List ℕ → FlatText
-textIn bytes =
+unfoldable pub text_fields_in : List ℕ → FlatText
+text_fields_in bytes =
     record {
       scroll = number2 bytes 79;
       column = number2 bytes 81;
@@ -98,65 +98,65 @@ textIn bytes =
     }
 
 -- size of the fields before the styles
-abbrev pub openingBytes : ℕ
-openingBytes = 93
+abbrev pub opening_bytes : ℕ
+opening_bytes = 93
 
-unfoldable pub openingIn : List ℕ → Opening
-openingIn bytes =
+unfoldable pub opening_in : List ℕ → Opening
+opening_in bytes =
     record {
       columns = number2 bytes 4;
       rows = number2 bytes 6;
-      area = areaIn bytes;
-      block = blockIn bytes;
-      text = textIn bytes;
+      area = area_in bytes;
+      block = block_in bytes;
+      text = text_fields_in bytes;
       styles = number2 bytes 87;
       titles = number2 bytes 89;
       records = number2 bytes 91;
     }
 
 -- offsets of the title records, the text records and the end
-abbrev pub titlesAt : Opening → ℕ
-titlesAt o = openingBytes + 8 * o.styles
+abbrev pub titles_at : Opening → ℕ
+titles_at o = opening_bytes + 8 * o.styles
 
-abbrev pub textAt : Opening → ℕ
-textAt o = titlesAt o + 4 * o.titles
+abbrev pub text_at : Opening → ℕ
+text_at o = titles_at o + 4 * o.titles
 
 abbrev pub end_at : Opening → ℕ
-end_at o = textAt o + 4 * o.records
+end_at o = text_at o + 4 * o.records
 
 -- result of the checks of an opening, in an input of `bytes` bytes
 unfoldable pub judged : ℕ → Opening → Parsed
 judged bytes o =
-    cond (ltb mostStyles o.styles) (Bad Styles)
-    (cond (ltb mostTitles o.titles) (Bad Titles)
-    (cond (ltb mostText o.records) (Bad Text)
+    cond (ltb most_styles o.styles) (Bad Styles)
+    (cond (ltb most_titles o.titles) (Bad Titles)
+    (cond (ltb most_text o.records) (Bad Text)
     (cond (ltb bytes (end_at o)) (Bad Short)
     (cond (ltb (end_at o) bytes) (Bad Rest)
     (Good o)))))
 
 -- an opening that passes the checks
 pub record SizesFit (bytes : ℕ) (o : Opening) : Type 0 where
-  pub styles-in : o.styles ≤ mostStyles
-  pub titles-in : o.titles ≤ mostTitles
-  pub text_in : o.records ≤ mostText
+  pub styles_in : o.styles ≤ most_styles
+  pub titles_in : o.titles ≤ most_titles
+  pub text_in : o.records ≤ most_text
   pub whole : end_at o ≡ bytes
 
-unfoldable pub parsedOf : List ℕ → Parsed
-parsedOf bytes =
-    cond (ltb mostBytes (length bytes)) (Bad Length)
+unfoldable pub parsed_of : List ℕ → Parsed
+parsed_of bytes =
+    cond (ltb most_bytes (length bytes)) (Bad Length)
     (cond (unmarked bytes) (Bad Mark)
-    (cond (ltb (length bytes) openingBytes) (Bad Short)
-    (judged (length bytes) (openingIn bytes))))
+    (cond (ltb (length bytes) opening_bytes) (Bad Short)
+    (judged (length bytes) (opening_in bytes))))
 
 -- the slices for styles, titles and text after reading: filled from the start, or unchanged if the input is bad
-abbrev pub stylesHeld : Parsed → List ℕ → List ℕ → List ℕ
-stylesHeld (Bad flaw) bytes old = old
-stylesHeld (Good o) bytes old = numbersFrom (number8 bytes) 8 openingBytes o.styles ++ drop o.styles old
+abbrev pub styles_held : Parsed → List ℕ → List ℕ → List ℕ
+styles_held (Bad flaw) bytes old = old
+styles_held (Good o) bytes old = numbers_from (number8 bytes) 8 opening_bytes o.styles ++ drop o.styles old
 
-abbrev pub titlesHeld : Parsed → List ℕ → List ℕ → List ℕ
-titlesHeld (Bad flaw) bytes old = old
-titlesHeld (Good o) bytes old = numbersFrom (number4 bytes) 4 (titlesAt o) o.titles ++ drop o.titles old
+abbrev pub titles_held : Parsed → List ℕ → List ℕ → List ℕ
+titles_held (Bad flaw) bytes old = old
+titles_held (Good o) bytes old = numbers_from (number4 bytes) 4 (titles_at o) o.titles ++ drop o.titles old
 
-abbrev pub textHeld : Parsed → List ℕ → List ℕ → List ℕ
-textHeld (Bad flaw) bytes old = old
-textHeld (Good o) bytes old = numbersFrom (number4 bytes) 4 (textAt o) o.records ++ drop o.records old
+abbrev pub text_held : Parsed → List ℕ → List ℕ → List ℕ
+text_held (Bad flaw) bytes old = old
+text_held (Good o) bytes old = numbers_from (number4 bytes) 4 (text_at o) o.records ++ drop o.records old

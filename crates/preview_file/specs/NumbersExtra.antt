@@ -15,6 +15,6 @@ unfoldable pub signed : ℕ → ℤ
 signed n = cond (ltb n (2 ^ 31)) (pos n) (negsuc (2 ^ 32 - 1 - n))
 
 -- n consecutive numbers of `size` bytes each, the first at offset `at`
-abbrev pub numbersFrom : (ℕ → ℕ) → ℕ → ℕ → ℕ → List ℕ
-numbersFrom read size at zero = []
-numbersFrom read size at (suc n) = read at ∷ numbersFrom read size (at + size) n
+abbrev pub numbers_from : (ℕ → ℕ) → ℕ → ℕ → ℕ → List ℕ
+numbers_from read size at zero = []
+numbers_from read size at (suc n) = read at ∷ numbers_from read size (at + size) n

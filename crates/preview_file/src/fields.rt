@@ -1,14 +1,14 @@
 // Reads the fields of an opening.
 ghost use Rattle.std.specs.Prelude.{◌≡◌, ◌≤◌, length};
-ghost use Rattle.preview_file.specs.FileExtra.{openingBytes, areaIn, symbolsIn, paddingsIn, blockIn, textIn, openingIn};
+ghost use Rattle.preview_file.specs.FileExtra.{opening_bytes, area_in, symbols_in, paddings_in, block_in, text_fields_in, opening_in};
 
 use crate::numbers::{count, half, number_4, signed};
 use crate::{Opening, Paddings, Symbols};
 use flat::{FlatArea, FlatBlock, FlatText};
 
 fn area(input: &[u8]) -> FlatArea
-    requires { openingBytes ≤ length input.now }
-    ensures { result ≡ areaIn input.now }
+    requires { opening_bytes ≤ length input.now }
+    ensures { result ≡ area_in input.now }
 {
     FlatArea {
         x: half(input, 8),
@@ -19,8 +19,8 @@ fn area(input: &[u8]) -> FlatArea
 }
 
 fn symbols(input: &[u8]) -> Symbols
-    requires { openingBytes ≤ length input.now }
-    ensures { result ≡ symbolsIn input.now }
+    requires { opening_bytes ≤ length input.now }
+    ensures { result ≡ symbols_in input.now }
 {
     Symbols {
         top_left: number_4(input, 16),
@@ -36,8 +36,8 @@ fn symbols(input: &[u8]) -> Symbols
 }
 
 fn paddings(input: &[u8]) -> Paddings
-    requires { openingBytes ≤ length input.now }
-    ensures { result ≡ paddingsIn input.now }
+    requires { opening_bytes ≤ length input.now }
+    ensures { result ≡ paddings_in input.now }
 {
     Paddings {
         left: half(input, 60),
@@ -48,8 +48,8 @@ fn paddings(input: &[u8]) -> Paddings
 }
 
 fn block(input: &[u8]) -> FlatBlock
-    requires { openingBytes ≤ length input.now }
-    ensures { result ≡ blockIn input.now }
+    requires { opening_bytes ≤ length input.now }
+    ensures { result ≡ block_in input.now }
 {
     let symbols = symbols(input);
     let padding = paddings(input);
@@ -85,8 +85,8 @@ fn block(input: &[u8]) -> FlatBlock
 
 // The form doesn't say how ambiguous glyphs are read: narrow, unless the program is told otherwise.
 fn text(input: &[u8]) -> FlatText
-    requires { openingBytes ≤ length input.now }
-    ensures { result ≡ textIn input.now }
+    requires { opening_bytes ≤ length input.now }
+    ensures { result ≡ text_fields_in input.now }
 {
     FlatText {
         scroll: half(input, 79),
@@ -100,8 +100,8 @@ fn text(input: &[u8]) -> FlatText
 }
 
 pub fn opening(input: &[u8]) -> Opening
-    requires { openingBytes ≤ length input.now }
-    ensures { result ≡ openingIn input.now }
+    requires { opening_bytes ≤ length input.now }
+    ensures { result ≡ opening_in input.now }
 {
     let area = area(input);
     let block = block(input);

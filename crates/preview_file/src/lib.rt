@@ -9,8 +9,8 @@
 // and nothing after. It has at most 131,072 bytes, 256 styles, 8,192 title records and 24,576 text records: more than the calls
 // accept, so that their refusals can be seen.
 ghost use Rattle.std.specs.Prelude.{◌≡◌, ◌≤◌, length};
-ghost use Rattle.preview_file.specs.FileExtra.{mostStyles, mostTitles, mostText, unmarked, judged, SizesFit, parsedOf};
-ghost use Rattle.preview_file.specs.FileExtra.{stylesHeld, titlesHeld, textHeld};
+ghost use Rattle.preview_file.specs.FileExtra.{most_styles, most_titles, most_text, unmarked, judged, SizesFit, parsed_of};
+ghost use Rattle.preview_file.specs.FileExtra.{styles_held, titles_held, text_held};
 ghost use Rattle.preview_file.specs.declared.Parsed.TheVariants.{Good};
 
 use flat::{FlatArea, FlatBlock, FlatText};
@@ -111,7 +111,7 @@ fn judge(bytes: usize, opening: Opening) -> Parsed
 
 // Parses the opening of an input and checks the input's length.
 fn parse(input: &[u8]) -> Parsed
-    ensures { result ≡ parsedOf input.now }
+    ensures { result ≡ parsed_of input.now }
 {
     if 131072 < input.len() {
         return Parsed::Bad(Flaw::Length);
@@ -134,10 +134,10 @@ fn store_all(
     text: &mut [u32],
 )
     requires sizes_fit { SizesFit (length input.now) opening }
-    requires most_styles_in_bounds { (mostStyles ≤ length styles.old) × (mostTitles ≤ length titles.old) × (mostText ≤ length text.old) }
-    ensures styles_after { styles.new ≡ stylesHeld (Good opening) input.now styles.old }
-    ensures titles_after { titles.new ≡ titlesHeld (Good opening) input.now titles.old }
-    ensures text_after { text.new ≡ textHeld (Good opening) input.now text.old }
+    requires most_styles_in_bounds { (most_styles ≤ length styles.old) × (most_titles ≤ length titles.old) × (most_text ≤ length text.old) }
+    ensures styles_after { styles.new ≡ styles_held (Good opening) input.now styles.old }
+    ensures titles_after { titles.new ≡ titles_held (Good opening) input.now titles.old }
+    ensures text_after { text.new ≡ text_held (Good opening) input.now text.old }
 {
     let titles_at = 93 + 8 * opening.styles;
     let text_at = titles_at + 4 * opening.titles;
@@ -148,11 +148,11 @@ fn store_all(
 
 // Parses an input and stores its styles and records at the start of the slices for them, which a bad input leaves unchanged.
 pub fn read(input: &[u8], styles: &mut [u64], titles: &mut [u32], text: &mut [u32]) -> Parsed
-    requires { (mostStyles ≤ length styles.old) × (mostTitles ≤ length titles.old) × (mostText ≤ length text.old) }
-    ensures value { result ≡ parsedOf input.now }
-    ensures styles_after { styles.new ≡ stylesHeld result input.now styles.old }
-    ensures titles_after { titles.new ≡ titlesHeld result input.now titles.old }
-    ensures text_after { text.new ≡ textHeld result input.now text.old }
+    requires { (most_styles ≤ length styles.old) × (most_titles ≤ length titles.old) × (most_text ≤ length text.old) }
+    ensures value { result ≡ parsed_of input.now }
+    ensures styles_after { styles.new ≡ styles_held result input.now styles.old }
+    ensures titles_after { titles.new ≡ titles_held result input.now titles.old }
+    ensures text_after { text.new ≡ text_held result input.now text.old }
 {
     match parse(input) {
         Parsed::Bad(flaw) => Parsed::Bad(flaw),

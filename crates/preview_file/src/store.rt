@@ -1,6 +1,6 @@
 // Stores numbers of an input at the start of a slice.
 ghost use Rattle.std.specs.Prelude.{◌≡◌, ◌+◌, ◌*◌, ◌≤◌, ◌++◌, length, drop};
-ghost use Rattle.preview_file.specs.NumbersExtra.{number4, number8, numbersFrom};
+ghost use Rattle.preview_file.specs.NumbersExtra.{number4, number8, numbers_from};
 
 use crate::numbers::{number_4, number_8};
 
@@ -8,7 +8,7 @@ use crate::numbers::{number_4, number_8};
 pub fn store_styles(input: &[u8], from: usize, count: usize, styles: &mut [u64])
     requires count_in_bounds { from + 8 * count ≤ length input.now }
     requires count_in_bounds_2 { count ≤ length styles.old }
-    ensures { styles.new ≡ numbersFrom (number8 input.now) 8 from count ++ drop count styles.old }
+    ensures { styles.new ≡ numbers_from (number8 input.now) 8 from count ++ drop count styles.old }
 {
     let mut i = 0;
     while i < count {
@@ -21,7 +21,7 @@ pub fn store_styles(input: &[u8], from: usize, count: usize, styles: &mut [u64])
 pub fn store_records(input: &[u8], from: usize, count: usize, records: &mut [u32])
     requires count_in_bounds { from + 4 * count ≤ length input.now }
     requires count_in_bounds_2 { count ≤ length records.old }
-    ensures { records.new ≡ numbersFrom (number4 input.now) 4 from count ++ drop count records.old }
+    ensures { records.new ≡ numbers_from (number4 input.now) 4 from count ++ drop count records.old }
 {
     let mut i = 0;
     while i < count {

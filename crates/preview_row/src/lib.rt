@@ -2,7 +2,7 @@
 // touches hold the width of its symbol here, or 0, which covers no more cells than 1; cells that a wide symbol covers are skipped.
 ghost use Rattle.std.specs.Prelude.{◌≡◌, ◌+◌, ◌-◌, ◌*◌, ◌≤◌, length};
 ghost use Rattle.append_bytes.specs.WrittenExtra.{Written};
-ghost use Rattle.preview_row.specs.RowExtra.{styleText, cellText, stepText, styleAfter, coveredAfter, cellsText, endText, rowText};
+ghost use Rattle.preview_row.specs.RowExtra.{style_text, cell_text, step_text, style_after, covered_after, cells_text, end_text, row_text};
 
 use append_bytes::put;
 use preview_sgr::put_style;
@@ -19,7 +19,7 @@ pub struct Pen {
 // Writes a style's sequence, if sequences are asked for and the previous style differs.
 fn put_change(buffer: &mut [u8], at: usize, ansi: bool, before: u64, style: u64) -> usize
     requires { at + 40 ≤ length buffer.old }
-    ensures written { Written buffer.old at buffer.new result (styleText ansi before style) }
+    ensures written { Written buffer.old at buffer.new result (style_text ansi before style) }
     ensures upper_bound { result ≤ at + 40 }
 {
     if ansi {
@@ -34,7 +34,7 @@ fn put_change(buffer: &mut [u8], at: usize, ansi: bool, before: u64, style: u64)
 // Writes a cell's text.
 fn put_cell(buffer: &mut [u8], at: usize, ansi: bool, before: u64, cell: u64) -> usize
     requires { at + 44 ≤ length buffer.old }
-    ensures written { Written buffer.old at buffer.new result (cellText ansi before cell) }
+    ensures written { Written buffer.old at buffer.new result (cell_text ansi before cell) }
     ensures upper_bound { result ≤ at + 44 }
 {
     let next = put_change(buffer, at, ansi, before, cell::appearance(cell));
@@ -54,10 +54,10 @@ fn less_one(number: u64) -> u64
 // Writes a cell's text, unless the cell is covered.
 fn step(buffer: &mut [u8], pen: Pen, ansi: bool, cell: u64) -> Pen
     requires { pen.at + 44 ≤ length buffer.old }
-    ensures written { Written buffer.old pen.at buffer.new result.at (stepText ansi pen.style pen.covered cell) }
+    ensures written { Written buffer.old pen.at buffer.new result.at (step_text ansi pen.style pen.covered cell) }
     ensures at_bound { result.at ≤ pen.at + 44 }
-    ensures style_value { result.style ≡ styleAfter pen.style pen.covered cell }
-    ensures covered_value { result.covered ≡ coveredAfter pen.covered cell }
+    ensures style_value { result.style ≡ style_after pen.style pen.covered cell }
+    ensures covered_value { result.covered ≡ covered_after pen.covered cell }
 {
     if 0 < pen.covered {
         return Pen {
@@ -77,7 +77,7 @@ fn step(buffer: &mut [u8], pen: Pen, ansi: bool, cell: u64) -> Pen
 // Writes the text of cells.
 fn put_cells(buffer: &mut [u8], ansi: bool, cells: &[u64]) -> usize
     requires { 44 * length cells.now ≤ length buffer.old }
-    ensures written { Written buffer.old 0 buffer.new result (cellsText ansi 0 0 cells.now) }
+    ensures written { Written buffer.old 0 buffer.new result (cells_text ansi 0 0 cells.now) }
     ensures upper_bound { result ≤ 44 * length cells.now }
 {
     let mut pen = Pen {
@@ -96,7 +96,7 @@ fn put_cells(buffer: &mut [u8], ansi: bool, cells: &[u64]) -> usize
 // Writes the end of a row.
 fn put_end(buffer: &mut [u8], at: usize, ansi: bool) -> usize
     requires { at + 41 ≤ length buffer.old }
-    ensures written { Written buffer.old at buffer.new result (endText ansi) }
+    ensures written { Written buffer.old at buffer.new result (end_text ansi) }
     ensures upper_bound { result ≤ at + 41 }
 {
     if ansi {
@@ -109,7 +109,7 @@ fn put_end(buffer: &mut [u8], at: usize, ansi: bool) -> usize
 // Writes a row's text at the start of a buffer and returns its length in bytes.
 pub fn put_row(buffer: &mut [u8], ansi: bool, cells: &[u64]) -> usize
     requires { 44 * length cells.now + 41 ≤ length buffer.old }
-    ensures written { Written buffer.old 0 buffer.new result (rowText ansi cells.now) }
+    ensures written { Written buffer.old 0 buffer.new result (row_text ansi cells.now) }
     ensures upper_bound { result ≤ length buffer.new }
 {
     let next = put_cells(buffer, ansi, cells);

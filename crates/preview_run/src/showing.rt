@@ -1,6 +1,6 @@
 // Shows a notice page by page.
 ghost use Rattle.std.specs.Prelude.{◌≡◌, ◌≤◌, min, length};
-ghost use Rattle.preview_file.specs.FileExtra.{mostStyles, mostTitles, mostText};
+ghost use Rattle.preview_file.specs.FileExtra.{most_styles, most_titles, most_text};
 
 use crate::Asked;
 use notice::{AmbiguousWidth, DrawAnswer, DrawCounts, PagesAnswer, TallyAnswer, Wrap};
@@ -339,7 +339,7 @@ pub fn show_input(
     titles: &mut [u32],
     text: &mut [u32],
 )
-    requires { (mostStyles ≤ length styles.old) × (mostTitles ≤ length titles.old) × (mostText ≤ length text.old) }
+    requires { (most_styles ≤ length styles.old) × (most_titles ≤ length titles.old) × (most_text ≤ length text.old) }
 {
     match preview_file::read(input, styles, titles, text) {
         Parsed::Bad(flaw) => preview_messages::bad_input(flaw),

@@ -1,7 +1,7 @@
 -- Not in the papers: a cell's colours and modifiers as an escape sequence: Select Graphic Rendition of ECMA-48, `ESC [ 0 ; .. m`,
 -- where 0 resets the style.
 use Rattle.std.specs.Prelude.{ℕ, zero, suc, ◌+◌, ◌/◌, ◌%◌, cond, List, [], ◌∷◌, ◌++◌, eqb, ltb}
-use Rattle.cell.specs.Cell.{cellFrom}
+use Rattle.cell.specs.Cell.{cell_from}
 
 -- a number below 1,000 in decimal
 abbrev pub digit : ℕ → ℕ
@@ -31,7 +31,7 @@ colour kind n = cond (eqb n 0) [] (59 ∷ kind ∷ 56 ∷ 59 ∷ 53 ∷ 59 ∷ d
 unfoldable pub sgr : ℕ → List ℕ
 sgr cell =
     (27 ∷ 91 ∷ 48 ∷ [])
-    ++ (codes (cellFrom cell).modifiers 1 9
-    ++ (colour 51 (cellFrom cell).foreground
-    ++ (colour 52 (cellFrom cell).background
+    ++ (codes (cell_from cell).modifiers 1 9
+    ++ (colour 51 (cell_from cell).foreground
+    ++ (colour 52 (cell_from cell).background
     ++ (109 ∷ []))))

@@ -1,7 +1,7 @@
 // Writes a cell's colours and modifiers as an escape sequence.
 ghost use Rattle.std.specs.Prelude.{◌≡◌, [], ◌∷◌, ◌++◌, ◌+◌, ◌<◌, ◌≤◌, length};
 ghost use Rattle.append_bytes.specs.WrittenExtra.{Written};
-ghost use Rattle.cell.specs.Cell.{cellFrom};
+ghost use Rattle.cell.specs.Cell.{cell_from};
 ghost use Rattle.preview_sgr.specs.SgrExtra.{digit, decimal, code, codes, colour, sgr};
 
 use append_bytes::{put, put_2, put_all};
@@ -74,7 +74,7 @@ fn put_colour(buffer: &mut [u8], at: usize, kind: u8, number: u64) -> usize
 // Writes both colours and the end of the sequence.
 fn put_colours(buffer: &mut [u8], at: usize, cell: u64) -> usize
     requires { at + 19 ≤ length buffer.old }
-    ensures fact { let colours = colour 51 (cellFrom cell).foreground ++ (colour 52 (cellFrom cell).background ++ (109 ∷ [])) in
+    ensures fact { let colours = colour 51 (cell_from cell).foreground ++ (colour 52 (cell_from cell).background ++ (109 ∷ [])) in
         Written buffer.old at buffer.new result colours }
     ensures upper_bound { result ≤ at + 19 }
 {

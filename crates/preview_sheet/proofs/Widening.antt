@@ -3,22 +3,22 @@ use Prim.Native.Nat.{ℕ, ◌%◌, ◌^◌}
 use mathlib.Core.Path.{◌≡◌, refl, ◌∙◌}
 use mathlib.Core.Bool.{Bool, true, false}
 use Rattle.text.specs.declared.AmbiguousWidth.{AmbiguousWidth}
-use Rattle.text.specs.Record.{isHead, width_of, whitespaceOf, styleOf, glyphRecord}
-use Rattle.cell.specs.Cell.{cellFrom, withUntouched}
-use Rattle.preview_sheet.specs.WidthsExtra.{widened, withWidth}
+use Rattle.text.specs.Record.{is_head, width_of, whitespace_of, style_of, glyph_record}
+use Rattle.cell.specs.Cell.{cell_from, with_untouched}
+use Rattle.preview_sheet.specs.WidthsExtra.{widened, with_width}
 
-module _ (a : AmbiguousWidth) (r : ℕ) (b : Bool) (e : b ≡ isHead r) where
+module _ (a : AmbiguousWidth) (r : ℕ) (b : Bool) (e : b ≡ is_head r) where
   pub widened-head : b ≡ true → r ≡ widened a r
   unfolding widened
   widened-head t = rw (← e, t) refl
 
   pub widened-glyph :
-      (w s v : ℕ) (space : Bool) → b ≡ false → w ≡ width_of a r → space ≡ whitespaceOf r → s ≡ styleOf r → v ≡ glyphRecord w w space s → v ≡ widened a r
+      (w s v : ℕ) (space : Bool) → b ≡ false → w ≡ width_of a r → space ≡ whitespace_of r → s ≡ style_of r → v ≡ glyph_record w w space s → v ≡ widened a r
   unfolding widened
   widened-glyph w s v space f g h k p = p ∙ rw (← e, f, g, h, k) refl
 
-pub marked-width : (cell wide symbol v : ℕ) → symbol ≡ (cellFrom wide).symbol → v ≡ withUntouched (symbol % 2 ^ 3) cell → v ≡ withWidth cell wide
-unfolding withWidth
+pub marked-width : (cell wide symbol v : ℕ) → symbol ≡ (cell_from wide).symbol → v ≡ with_untouched (symbol % 2 ^ 3) cell → v ≡ with_width cell wide
+unfolding with_width
 marked-width cell wide symbol v e p = p ∙ rw e refl
 
 pub ruleset widening = (widened-head, widened-glyph, marked-width)

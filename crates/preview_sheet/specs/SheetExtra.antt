@@ -3,51 +3,51 @@ use Rattle.std.specs.Prelude.{ℕ, Bool, cond, List, [], pos}
 use Rattle.text.specs.declared.AmbiguousWidth.{AmbiguousWidth}
 use Rattle.layout.specs.declared.Rect.{Rect}
 use Rattle.layout.specs.Rect.{meet}
-use Rattle.buffer.specs.Drawing.{areaOf}
-use Rattle.buffer.specs.Screen.{screenOf}
-use Rattle.refuse.specs.Refusal.{refusalNumber}
+use Rattle.buffer.specs.Drawing.{area_of}
+use Rattle.buffer.specs.Screen.{screen_of}
+use Rattle.refuse.specs.Refusal.{refusal_number}
 use Rattle.inner.specs.declared.InnerAnswer.{InnerAnswer}
 use Rattle.inner.specs.declared.InnerAnswer.TheVariants.{Area, Refused as NoArea}
 use Rattle.inner.specs.Call.{call_of as innerCall, answer_of as innerAnswer}
 use Rattle.line_composer.specs.declared.Wrap.{Wrap}
 use Rattle.measure.specs.declared.MeasureAnswer.{MeasureAnswer}
 use Rattle.measure.specs.declared.MeasureAnswer.TheVariants.{Value, Refused as NoValue}
-use Rattle.measure.specs.LineCount.{call_of as countCall, answer_of as countAnswer}
+use Rattle.measure.specs.LineCount.{call_of as count_call, answer_of as countAnswer}
 use Rattle.paragraph.specs.declared.Notice.{Notice}
 use Rattle.draw_frame.specs.Call.{answer_of as frameAnswer}
 use Rattle.draw_text.specs.declared.DrawAnswer.{DrawAnswer}
 use Rattle.draw_text.specs.declared.DrawAnswer.TheVariants.{Refused as NotDrawn}
 use Rattle.draw_text.specs.Call.{answer_of as textAnswer}
 use Rattle.draw_notice.specs.Call.{Call, call_of}
-use Rattle.draw_notice.specs.Pair.{frameCall, textCall}
-use Rattle.pages.specs.Pages.{scrolledTo}
+use Rattle.draw_notice.specs.Pair.{frame_call, text_call}
+use Rattle.pages.specs.Pages.{scrolled_to}
 use Rattle.flat.specs.declared.FlatBlock.{FlatBlock}
-use Rattle.flat.specs.FlatExtra.{ambiguousNamed, areaFrom, blockFrom, noticeFrom, wrapNamed}
+use Rattle.flat.specs.FlatExtra.{ambiguous_named, area_from, block_from, notice_from, wrap_named}
 use Rattle.preview_file.specs.declared.Opening.{Opening}
-use Rattle.preview_sheet.specs.WidthsExtra.{widenedBlock}
+use Rattle.preview_sheet.specs.WidthsExtra.{widened_block}
 use Rattle.preview_sheet.specs.declared.Fitting.{Fitting}
 use Rattle.preview_sheet.specs.declared.Fitting.TheVariants.{Fits, Refused}
 
 -- the notice with scroll row `first`
-abbrev pub noticeAt : Opening → ℕ → Notice
-noticeAt o first = scrolledTo first (noticeFrom o.block o.text)
+abbrev pub notice_at : Opening → ℕ → Notice
+notice_at o first = scrolled_to first (notice_from o.block o.text)
 
 -- the notice on cells
 abbrev pub call_at : Opening → ℕ → List ℕ → List ℕ → List ℕ → List ℕ → Call
 call_at o first styles titles text cells =
-    call_of o.columns o.rows cells styles text titles (areaFrom o.area) (noticeAt o first)
+    call_of o.columns o.rows cells styles text titles (area_from o.area) (notice_at o first)
 
 -- the answer of both calls: that of the text, or why the frame is refused
-abbrev pub answeredBoth : InnerAnswer → DrawAnswer → DrawAnswer
-answeredBoth (Area inner) drawn = drawn
-answeredBoth (NoArea why) drawn = NotDrawn why
+abbrev pub answered_both : InnerAnswer → DrawAnswer → DrawAnswer
+answered_both (Area inner) drawn = drawn
+answered_both (NoArea why) drawn = NotDrawn why
 
-unfoldable pub pairAnswer : Call → DrawAnswer
-pairAnswer call = answeredBoth (frameAnswer (frameCall call)) (textAnswer (textCall call))
+unfoldable pub pair_answer : Call → DrawAnswer
+pair_answer call = answered_both (frameAnswer (frame_call call)) (textAnswer (text_call call))
 
 -- the opening with its ambiguous glyphs read wide, if so asked
-abbrev pub openingRead : Bool → Opening → Opening
-openingRead wide o =
+abbrev pub opening_read : Bool → Opening → Opening
+opening_read wide o =
     record {
       columns = o.columns;
       rows = o.rows;
@@ -69,13 +69,13 @@ openingRead wide o =
     }
 
 -- the opening with the symbols of its block replaced by their widths
-abbrev pub widenedOpening : Opening → Opening
-widenedOpening o =
+abbrev pub widened_opening : Opening → Opening
+widened_opening o =
     record {
       columns = o.columns;
       rows = o.rows;
       area = o.area;
-      block = widenedBlock o.block;
+      block = widened_block o.block;
       text = o.text;
       styles = o.styles;
       titles = o.titles;
@@ -83,8 +83,8 @@ widenedOpening o =
     }
 
 -- a block with nothing set, which adds no rows to the lines
-abbrev pub nothingSet : FlatBlock
-nothingSet =
+abbrev pub nothing_set : FlatBlock
+nothing_set =
     record {
       top_left = 0;
       top_right = 0;
@@ -117,20 +117,20 @@ nothingSet =
 -- count of lines at an area's width, given the answer of `line_count`
 abbrev pub fitted : Rect → MeasureAnswer → Fitting
 fitted inside (Value lines) = Fits (record { width = inside.width; height = inside.height; lines = lines })
-fitted inside (NoValue why) = Refused (refusalNumber why)
+fitted inside (NoValue why) = Refused (refusal_number why)
 
-unfoldable pub linesIn : AmbiguousWidth → Wrap → List ℕ → Rect → Fitting
-linesIn ambiguous wrap text inside =
-    fitted inside (countAnswer (countCall text ambiguous [] (blockFrom nothingSet) wrap inside.width))
+unfoldable pub lines_in : AmbiguousWidth → Wrap → List ℕ → Rect → Fitting
+lines_in ambiguous wrap text inside =
+    fitted inside (countAnswer (count_call text ambiguous [] (block_from nothing_set) wrap inside.width))
 
 -- size and lines of the inner area, given the answer of `inner` on the intersection of area and screen
-abbrev pub measuredIn : AmbiguousWidth → Wrap → List ℕ → InnerAnswer → Fitting
-measuredIn ambiguous wrap text (Area inside) = linesIn ambiguous wrap text inside
-measuredIn ambiguous wrap text (NoArea why) = Refused (refusalNumber why)
+abbrev pub measured_in : AmbiguousWidth → Wrap → List ℕ → InnerAnswer → Fitting
+measured_in ambiguous wrap text (Area inside) = lines_in ambiguous wrap text inside
+measured_in ambiguous wrap text (NoArea why) = Refused (refusal_number why)
 
-abbrev pub metOf : Opening → Rect
-metOf o = meet (areaFrom o.area) (areaOf (screenOf o.columns o.rows))
+abbrev pub met_of : Opening → Rect
+met_of o = meet (area_from o.area) (area_of (screen_of o.columns o.rows))
 
-unfoldable pub fittingOf : Opening → List ℕ → List ℕ → Fitting
-fittingOf o titles text =
-    measuredIn (ambiguousNamed o.text.ambiguous) (wrapNamed o.text) text (innerAnswer (innerCall (blockFrom o.block) titles (metOf o)))
+unfoldable pub fitting_of : Opening → List ℕ → List ℕ → Fitting
+fitting_of o titles text =
+    measured_in (ambiguous_named o.text.ambiguous) (wrap_named o.text) text (innerAnswer (innerCall (block_from o.block) titles (met_of o)))

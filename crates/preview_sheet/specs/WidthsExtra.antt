@@ -2,18 +2,18 @@
 -- symbol, 32, where a halved glyph is drawn.
 use Rattle.std.specs.Prelude.{ℕ, ◌%◌, ◌^◌, cond, List, [], ◌∷◌}
 use Rattle.text.specs.declared.AmbiguousWidth.{AmbiguousWidth}
-use Rattle.text.specs.Record.{isHead, width_of, whitespaceOf, styleOf, glyphRecord}
-use Rattle.cell.specs.Cell.{cellFrom, withUntouched}
+use Rattle.text.specs.Record.{is_head, width_of, whitespace_of, style_of, glyph_record}
+use Rattle.cell.specs.Cell.{cell_from, with_untouched}
 use Rattle.flat.specs.declared.FlatBlock.{FlatBlock}
 
 -- a glyph with its width, as read, as symbol and as width; a head is unchanged
 unfoldable pub widened : AmbiguousWidth → ℕ → ℕ
 widened ambiguous r =
-    cond (isHead r) r (glyphRecord (width_of ambiguous r) (width_of ambiguous r) (whitespaceOf r) (styleOf r))
+    cond (is_head r) r (glyph_record (width_of ambiguous r) (width_of ambiguous r) (whitespace_of r) (style_of r))
 
 -- the block with all its symbols replaced by 1, the width of each
-abbrev pub widenedBlock : FlatBlock → FlatBlock
-widenedBlock b =
+abbrev pub widened_block : FlatBlock → FlatBlock
+widened_block b =
     record {
       top_left = 1;
       top_right = 1;
@@ -44,11 +44,11 @@ widenedBlock b =
     }
 
 -- a cell with the symbol of `wide`, a width, in the bits that drawing never touches
-unfoldable pub withWidth : ℕ → ℕ → ℕ
-withWidth cell wide = withUntouched ((cellFrom wide).symbol % 2 ^ 3) cell
+unfoldable pub with_width : ℕ → ℕ → ℕ
+with_width cell wide = with_untouched ((cell_from wide).symbol % 2 ^ 3) cell
 
 -- each entry changed by the other list's entry at its index, if there is one
-abbrev pub changedBy : (ℕ → ℕ → ℕ) → List ℕ → List ℕ → List ℕ
-changedBy f [] others = []
-changedBy f (x ∷ xs) [] = x ∷ xs
-changedBy f (x ∷ xs) (y ∷ ys) = f x y ∷ changedBy f xs ys
+abbrev pub changed_by : (ℕ → ℕ → ℕ) → List ℕ → List ℕ → List ℕ
+changed_by f [] others = []
+changed_by f (x ∷ xs) [] = x ∷ xs
+changed_by f (x ∷ xs) (y ∷ ys) = f x y ∷ changed_by f xs ys

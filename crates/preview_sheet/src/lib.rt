@@ -5,13 +5,13 @@ pub mod widths;
 
 ghost use Rattle.std.specs.Prelude.{◌≡◌, length, replicate};
 ghost use Rattle.layout.specs.Rect.{meet};
-ghost use Rattle.buffer.specs.Drawing.{areaOf};
-ghost use Rattle.buffer.specs.Screen.{screenOf};
+ghost use Rattle.buffer.specs.Drawing.{area_of};
+ghost use Rattle.buffer.specs.Screen.{screen_of};
 ghost use Rattle.draw_notice.specs.Call.{call_of};
-ghost use Rattle.draw_notice.specs.Pair.{pairCells};
+ghost use Rattle.draw_notice.specs.Pair.{pair_cells};
 ghost use Rattle.count_pages.specs.Call.{answer_of as pagesAnswer};
-ghost use Rattle.flat.specs.FlatExtra.{areaFrom, blockFrom};
-ghost use Rattle.preview_sheet.specs.SheetExtra.{noticeAt, call_at, pairAnswer, openingRead, widenedOpening, nothingSet, linesIn, fittingOf};
+ghost use Rattle.flat.specs.FlatExtra.{area_from, block_from};
+ghost use Rattle.preview_sheet.specs.SheetExtra.{notice_at, call_at, pair_answer, opening_read, widened_opening, nothing_set, lines_in, fitting_of};
 
 use buffer::Screen;
 use flat::{FlatArea, FlatBlock};
@@ -37,7 +37,7 @@ pub enum Fitting {
 
 // Returns the notice with scroll row `first`.
 fn notice_at(opening: Opening, first: u16) -> Notice
-    ensures { result ≡ noticeAt opening first }
+    ensures { result ≡ notice_at opening first }
 {
     let block = opening.block;
     let mut settings = opening.text;
@@ -47,7 +47,7 @@ fn notice_at(opening: Opening, first: u16) -> Notice
 
 // Returns the opening with its ambiguous glyphs read wide, if so asked.
 pub fn read_as(opening: Opening, wide: bool) -> Opening
-    ensures { result ≡ openingRead wide opening }
+    ensures { result ≡ opening_read wide opening }
 {
     let mut settings = opening.text;
     let mut read = opening;
@@ -61,7 +61,7 @@ pub fn read_as(opening: Opening, wide: bool) -> Opening
 
 // Returns the opening with the symbols of its block replaced by their widths.
 pub fn widened(opening: Opening) -> Opening
-    ensures { result ≡ widenedOpening opening }
+    ensures { result ≡ widened_opening opening }
 {
     let block = widths::widened_block(opening.block);
     let mut wide = opening;
@@ -102,7 +102,7 @@ fn draw_both(
     notice: Notice,
 ) -> DrawAnswer
     ensures { let call = call_of columns rows cells.old styles.now text.now titles.now area notice in
-        (result ≡ pairAnswer call) × (cells.new ≡ pairCells call) }
+        (result ≡ pair_answer call) × (cells.new ≡ pair_cells call) }
 {
     let ambiguous = notice.ambiguous;
     let framed = notice::draw_frame(
@@ -137,7 +137,7 @@ pub fn draw(
 ) -> DrawAnswer
     ensures { let blanks = replicate (length cells.old) blank in
         let call = call_at opening first styles.now titles.now text.now blanks in
-        (result ≡ pairAnswer call) × (cells.new ≡ pairCells call) }
+        (result ≡ pair_answer call) × (cells.new ≡ pair_cells call) }
 {
     let flat_area = opening.area;
     let area = flat_area.area();
@@ -150,7 +150,7 @@ pub fn draw(
 
 // Returns a block with nothing set, which adds no rows to the lines.
 fn no_block() -> Block
-    ensures { result ≡ blockFrom nothingSet }
+    ensures { result ≡ block_from nothing_set }
 {
     let flat = FlatBlock {
         top_left: 0,
@@ -185,7 +185,7 @@ fn no_block() -> Block
 
 // Returns the intersection of an area and a screen.
 fn met(area: FlatArea, columns: u16, rows: u16) -> Rect
-    ensures { result ≡ meet (areaFrom area) (areaOf (screenOf columns rows)) }
+    ensures { result ≡ meet (area_from area) (area_of (screen_of columns rows)) }
 {
     let screen = Screen { columns, rows };
     area.area().intersection(screen.area())
@@ -193,7 +193,7 @@ fn met(area: FlatArea, columns: u16, rows: u16) -> Rect
 
 // Counts the lines at an area's width.
 fn lines_in(wrap: Wrap, inside: Rect, text: &[u32], ambiguous: AmbiguousWidth) -> Fitting
-    ensures { result ≡ linesIn ambiguous wrap text.now inside }
+    ensures { result ≡ lines_in ambiguous wrap text.now inside }
 {
     match notice::line_count(text, ambiguous, &[0u32; 0], no_block(), wrap, inside.width) {
         MeasureAnswer::Value(lines) => Fitting::Fits(Measure {
@@ -207,7 +207,7 @@ fn lines_in(wrap: Wrap, inside: Rect, text: &[u32], ambiguous: AmbiguousWidth) -
 
 // Returns the size of the inner area, and the count of lines at its width.
 pub fn measured(opening: Opening, titles: &[u32], text: &[u32]) -> Fitting
-    ensures { result ≡ fittingOf opening titles.now text.now }
+    ensures { result ≡ fitting_of opening titles.now text.now }
 {
     let area = opening.area;
     let flat_block = opening.block;

@@ -1,6 +1,6 @@
 // The pages of a notice.
 ghost use Rattle.std.specs.Prelude.{◌≡◌, ◌+◌, ◌-◌, min};
-ghost use Rattle.preview_sheet.specs.PagingExtra.{pagesFrom, isAsked, isPast};
+ghost use Rattle.preview_sheet.specs.PagingExtra.{pages_from, is_asked, is_past};
 
 // Pages to show.
 #[derive(Drop)]
@@ -11,7 +11,7 @@ pub enum Pages {
 
 // Returns the count of pages for the lines from `first` on, at least 1.
 pub fn page_count(lines: u32, first: u16, height: u16) -> u64
-    ensures { result ≡ pagesFrom lines first height }
+    ensures { result ≡ pages_from lines first height }
 {
     if height == 0 {
         return 1;
@@ -34,7 +34,7 @@ pub fn next_first(first: u16, height: u16) -> u16
 impl Pages {
     // Whether a page is to be shown.
     pub fn has(self, page: u64) -> bool
-        ensures { result ≡ isAsked self page }
+        ensures { result ≡ is_asked self page }
     {
         match self {
             Pages::All => true,
@@ -44,7 +44,7 @@ impl Pages {
 
     // Whether the page asked for is past the last of `pages`.
     pub fn is_past(self, pages: u64) -> bool
-        ensures { result ≡ isPast self pages }
+        ensures { result ≡ is_past self pages }
     {
         match self {
             Pages::All => false,

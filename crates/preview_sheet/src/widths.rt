@@ -1,7 +1,7 @@
 // Replaces the symbols of a notice by their widths: drawn like the notice, each cell then holds the width of its symbol, or the blank
 // symbol where a halved glyph is drawn. Of that 3 bits are read, which are 0: it covers no other cell.
 ghost use Rattle.std.specs.Prelude.{◌≡◌};
-ghost use Rattle.preview_sheet.specs.WidthsExtra.{widened, widenedBlock, withWidth, changedBy};
+ghost use Rattle.preview_sheet.specs.WidthsExtra.{widened, widened_block, with_width, changed_by};
 
 use flat::FlatBlock;
 use text::{AmbiguousWidth, glyph, head};
@@ -19,7 +19,7 @@ fn widened_record(word: u32, ambiguous: AmbiguousWidth) -> u32
 
 // Copies records to the start of `wide`, as many as fit, with widths as symbols.
 pub fn widen(records: &[u32], ambiguous: AmbiguousWidth, wide: &mut [u32])
-    ensures { wide.new ≡ changedBy (λ old word. widened ambiguous word) wide.old records.now }
+    ensures { wide.new ≡ changed_by (λ old word. widened ambiguous word) wide.old records.now }
 {
     let mut i = 0;
     while i < records.len() && i < wide.len() {
@@ -30,7 +30,7 @@ pub fn widen(records: &[u32], ambiguous: AmbiguousWidth, wide: &mut [u32])
 
 // Returns the block with all its symbols replaced by 1, the width of each.
 pub fn widened_block(mut block: FlatBlock) -> FlatBlock
-    ensures { result ≡ widenedBlock block }
+    ensures { result ≡ widened_block block }
 {
     block.top_left = 1;
     block.top_right = 1;
@@ -46,14 +46,14 @@ pub fn widened_block(mut block: FlatBlock) -> FlatBlock
 
 // Returns a cell with the symbol of `wide`, a width, in the bits that drawing never touches.
 fn with_width(cell: u64, wide: u64) -> u64
-    ensures { result ≡ withWidth cell wide }
+    ensures { result ≡ with_width cell wide }
 {
     cell::set_untouched(cell::symbol(wide) % 8, cell)
 }
 
 // Writes the widths in `wide` into the bits of the cells that drawing never touches.
 pub fn mark(cells: &mut [u64], wide: &[u64])
-    ensures { cells.new ≡ changedBy withWidth cells.old wide.now }
+    ensures { cells.new ≡ changed_by with_width cells.old wide.now }
 {
     let mut i = 0;
     while i < cells.len() && i < wide.len() {

@@ -13,32 +13,32 @@ use Rattle.append_bytes.proofs.Writing.{written_then}
 use Rattle.preview_utf8.specs.Utf8Extra.{in_range, hidden, shown, following, encoded, utf8}
 
 module _ (low high n : ℕ) where
-  pub between-above : low ≤ n → leb n high ≡ in_range low high n
+  pub between_above : low ≤ n → leb n high ≡ in_range low high n
   unfolding in_range
-  between-above h = simp (le-leb low n h)
+  between_above h = simp (le-leb low n h)
 
-  pub between-below : n < low → false ≡ in_range low high n
+  pub between_below : n < low → false ≡ in_range low high n
   unfolding in_range
-  between-below h = simp (lt-leb low n h)
+  between_below h = simp (lt-leb low n h)
 
 module _ (n : ℕ) where
-  pub hidden-control : n < 32 → true ≡ hidden n
+  pub hidden_control : n < 32 → true ≡ hidden n
   unfolding hidden
-  hidden-control h = simp (lt-ltb n 32 h)
+  hidden_control h = simp (lt-ltb n 32 h)
 
   module _ (h : 32 ≤ n) (a : Bool) (e : a ≡ in_range 127 159 n) where
-    pub hidden-delete : a ≡ true → true ≡ hidden n
+    pub hidden_delete : a ≡ true → true ≡ hidden n
     unfolding hidden
-    hidden-delete t = rw (le-ltb n 32 h, ← e, t) refl
+    hidden_delete t = rw (le-ltb n 32 h, ← e, t) refl
 
     module _ (f : a ≡ false) (b : Bool) (g : b ≡ in_range 55296 57343 n) where
-      pub hidden-surrogate : b ≡ true → true ≡ hidden n
+      pub hidden_surrogate : b ≡ true → true ≡ hidden n
       unfolding hidden
-      hidden-surrogate t = rw (le-ltb n 32 h, ← e, f, ← g, t) refl
+      hidden_surrogate t = rw (le-ltb n 32 h, ← e, f, ← g, t) refl
 
-      pub hidden-beyond : b ≡ false → ltb 1114111 n ≡ hidden n
+      pub hidden_beyond : b ≡ false → ltb 1114111 n ≡ hidden n
       unfolding hidden
-      hidden-beyond k = rw (le-ltb n 32 h, ← e, f, ← g, k) refl
+      hidden_beyond k = rw (le-ltb n 32 h, ← e, f, ← g, k) refl
 
   hidden-last : hidden n ≡ false → ltb 1114111 n ≡ false
   unfolding hidden
@@ -53,30 +53,30 @@ module _ (n : ℕ) where
     shown-replaced t = rw (← e, t) refl
 
     module _ (f : b ≡ false) where
-      pub shown-itself : n ≡ shown n
+      pub shown_itself : n ≡ shown n
       unfolding shown
-      shown-itself = rw (← e, f) refl
+      shown_itself = rw (← e, f) refl
 
       pub shown-below : n < 1114112
       shown-below = omega (arith, ltb-false 1114111 n (hidden-last (sym e ∙ f)))
 
 pub ruleset tests =
-    (between-above, between-below, hidden-control, hidden-delete, hidden-surrogate, hidden-beyond, shown-replaced, shown-itself, shown-below)
+    (between_above, between_below, hidden_control, hidden_delete, hidden_surrogate, hidden_beyond, shown-replaced, shown_itself, shown-below)
 
 module _ (old new : List ℕ) (at to n : ℕ) where
-  pub encoded-1 : n < 128 → Written old at new to (n ∷ []) → Written old at new to (encoded n)
+  pub encoded_1 : n < 128 → Written old at new to (n ∷ []) → Written old at new to (encoded n)
   unfolding encoded
-  encoded-1 h w = rw (lt-ltb n 128 h) w
+  encoded_1 h w = rw (lt-ltb n 128 h) w
 
   module _ (h : 128 ≤ n) (d : ℕ) (e : d ≡ following n) where
-    pub encoded-2 : n < 2048 → Written old at new to ((192 + n / 64) ∷ d ∷ []) → Written old at new to (encoded n)
+    pub encoded_2 : n < 2048 → Written old at new to ((192 + n / 64) ∷ d ∷ []) → Written old at new to (encoded n)
     unfolding encoded
-    encoded-2 k w = rw (le-ltb n 128 h, lt-ltb n 2048 k) (rw e at w)
+    encoded_2 k w = rw (le-ltb n 128 h, lt-ltb n 2048 k) (rw e at w)
 
     module _ (k : 2048 ≤ n) (c : ℕ) (f : c ≡ following (n / 64)) (middle : List ℕ) (next : ℕ) (last : Written middle next new to (c ∷ d ∷ [])) where
-      pub encoded-3 : n < 65536 → Written old at middle next ((224 + n / 4096) ∷ []) → Written old at new to (encoded n)
+      pub encoded_3 : n < 65536 → Written old at middle next ((224 + n / 4096) ∷ []) → Written old at new to (encoded n)
       unfolding encoded
-      encoded-3 l w =
+      encoded_3 l w =
           rw (le-ltb n 128 h, le-ltb n 2048 k, lt-ltb n 65536 l) (rw (e, f) at (written_then old at middle new next to ((224 + n / 4096) ∷ []) (c ∷ d ∷ []) w last))
 
       pub encoded-4 :
@@ -85,7 +85,7 @@ module _ (old new : List ℕ) (at to n : ℕ) where
       encoded-4 l b g w =
           rw (le-ltb n 128 h, le-ltb n 2048 k, le-ltb n 65536 l) (rw (e, f, g) at (written_then old at middle new next to ((240 + n / 262144) ∷ b ∷ []) (c ∷ d ∷ []) w last))
 
-pub ruleset encoding = (encoded-1, encoded-2, encoded-3, encoded-4)
+pub ruleset encoding = (encoded_1, encoded_2, encoded_3, encoded-4)
 
 pub symbol-written :
     (old new : List ℕ) (at to n s : ℕ) → s ≡ shown n → Written old at new to (encoded s) → Written old at new to (utf8 n)

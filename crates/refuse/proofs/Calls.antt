@@ -8,7 +8,7 @@ use lib.Dec.{eqb}
 use Rattle.refuse.specs.declared.Refusal.{Refusal}
 use Rattle.refuse.specs.declared.Verdict.{Verdict}
 use Rattle.refuse.specs.declared.Verdict.TheVariants.{Accepted, Refused}
-use Rattle.refuse.specs.Refusal.{Cause, firstCause, refusalNumber, verdictNumber, answering, unlessRefused}
+use Rattle.refuse.specs.Refusal.{Cause, first_cause, refusal_number, verdict_number, answering, unless_refused}
 
 -- a check that holds is the verdict; otherwise the remaining checks decide
 module _ (why : Refusal) (holds found : Bool) (others : Verdict) where
@@ -19,12 +19,12 @@ module _ (why : Refusal) (holds found : Bool) (others : Verdict) where
   pass verdict e f p = rw (← e, f) p
 
 -- a refusal by the first part of a list of causes is final; if none of them holds, the later causes decide
-early-refused : (causes later : List Cause) (why : Refusal) → firstCause causes ≡ Refused why → firstCause (causes ++ later) ≡ Refused why
-early-refused [] later why e = absurd (let z : ◌≡◌ {A = ℕ} 0 1 = cc in omega arith)
-early-refused (cause ∷ causes) later why e = go cause.holds e (early-refused causes later why)
+early_refused : (causes later : List Cause) (why : Refusal) → first_cause causes ≡ Refused why → first_cause (causes ++ later) ≡ Refused why
+early_refused [] later why e = absurd (let z : ◌≡◌ {A = ℕ} 0 1 = cc in omega arith)
+early_refused (cause ∷ causes) later why e = go cause.holds e (early_refused causes later why)
   where
-    go : (b : Bool) → cond b (Refused cause.why) (firstCause causes) ≡ Refused why → (firstCause causes ≡ Refused why → firstCause (causes ++ later) ≡ Refused why)
-        → cond b (Refused cause.why) (firstCause (causes ++ later)) ≡ Refused why
+    go : (b : Bool) → cond b (Refused cause.why) (first_cause causes) ≡ Refused why → (first_cause causes ≡ Refused why → first_cause (causes ++ later) ≡ Refused why)
+        → cond b (Refused cause.why) (first_cause (causes ++ later)) ≡ Refused why
     go true p rest = p
     go false p rest = rest p
 
@@ -33,63 +33,63 @@ passed : (why : Refusal) (holds : Bool) (others : Verdict) → cond holds (Refus
 passed why true others e = absurd (let z : ◌≡◌ {A = ℕ} 0 1 = cc in omega arith)
 passed why false others e = (refl, e)
 
-early-accepted : (causes later : List Cause) → firstCause causes ≡ Accepted → firstCause (causes ++ later) ≡ firstCause later
-early-accepted [] later e = refl
-early-accepted (cause ∷ causes) later e =
-    let p = passed cause.why cause.holds (firstCause causes) e in
-    rw p.0 (early-accepted causes later p.1)
+early_accepted : (causes later : List Cause) → first_cause causes ≡ Accepted → first_cause (causes ++ later) ≡ first_cause later
+early_accepted [] later e = refl
+early_accepted (cause ∷ causes) later e =
+    let p = passed cause.why cause.holds (first_cause causes) e in
+    rw p.0 (early_accepted causes later p.1)
 
 module _ (early later : List Cause) (found : Verdict) where
-  pub stop-early : (why : Refusal) → found ≡ firstCause early → found ≡ Refused why → Refused why ≡ firstCause (early ++ later)
-  stop-early why e r = sym (early-refused early later why (sym e ∙ r))
+  pub stop_early : (why : Refusal) → found ≡ first_cause early → found ≡ Refused why → Refused why ≡ first_cause (early ++ later)
+  stop_early why e r = sym (early_refused early later why (sym e ∙ r))
 
-  pub pass-early : (verdict : Verdict) → found ≡ firstCause early → found ≡ Accepted → verdict ≡ firstCause later → verdict ≡ firstCause (early ++ later)
-  pass-early verdict e a p = p ∙ sym (early-accepted early later (sym e ∙ a))
+  pub pass_early : (verdict : Verdict) → found ≡ first_cause early → found ≡ Accepted → verdict ≡ first_cause later → verdict ≡ first_cause (early ++ later)
+  pass_early verdict e a p = p ∙ sym (early_accepted early later (sym e ∙ a))
 
-pub ruleset causes = (stop, pass, stop-early, pass-early)
+pub ruleset causes = (stop, pass, stop_early, pass_early)
 
 -- whether the cause `why` is in a list and holds
-abbrev pub holdsFor : Refusal → List Cause → Bool
-holdsFor why [] = false
-holdsFor why (cause ∷ causes) = cond (eqb (refusalNumber cause.why) (refusalNumber why)) cause.holds (holdsFor why causes)
+abbrev pub holds_for : Refusal → List Cause → Bool
+holds_for why [] = false
+holds_for why (cause ∷ causes) = cond (eqb (refusal_number cause.why) (refusal_number why)) cause.holds (holds_for why causes)
 
 -- if a call is accepted, no cause holds
-pub no-cause : (causes : List Cause) (why : Refusal) → firstCause causes ≡ Accepted → holdsFor why causes ≡ false
-no-cause [] why a = refl
-no-cause (cause ∷ causes) why a =
-    let p = passed cause.why cause.holds (firstCause causes) a in
-    go (eqb (refusalNumber cause.why) (refusalNumber why)) p.0 (no-cause causes why p.1)
+pub no_cause : (causes : List Cause) (why : Refusal) → first_cause causes ≡ Accepted → holds_for why causes ≡ false
+no_cause [] why a = refl
+no_cause (cause ∷ causes) why a =
+    let p = passed cause.why cause.holds (first_cause causes) a in
+    go (eqb (refusal_number cause.why) (refusal_number why)) p.0 (no_cause causes why p.1)
   where
-    go : (same : Bool) → cause.holds ≡ false → holdsFor why causes ≡ false → cond same cause.holds (holdsFor why causes) ≡ false
+    go : (same : Bool) → cause.holds ≡ false → holds_for why causes ≡ false → cond same cause.holds (holds_for why causes) ≡ false
     go true now later = now
     go false now later = later
 
 -- the answer of a call, by its verdict
 module _ {A B : Type 0} (accepted : A → B) (refused : Refusal → B) (verdict : Verdict) (answer : A) where
-  pub answer-refused : (why : Refusal) → verdict ≡ Refused why → refused why ≡ answering accepted refused verdict answer
-  answer-refused why e = rw e
+  pub answer_refused : (why : Refusal) → verdict ≡ Refused why → refused why ≡ answering accepted refused verdict answer
+  answer_refused why e = rw e
 
-  pub answer-accepted : verdict ≡ Accepted → (a : A) → a ≡ answer → accepted a ≡ answering accepted refused verdict answer
-  answer-accepted e a p = rw e (ap accepted p)
+  pub answer_accepted : verdict ≡ Accepted → (a : A) → a ≡ answer → accepted a ≡ answering accepted refused verdict answer
+  answer_accepted e a p = rw e (ap accepted p)
 
 -- the values that it leaves
 module _ {A : Type 0} (verdict : Verdict) (new old : A) where
-  pub left-refused : (why : Refusal) → verdict ≡ Refused why → old ≡ unlessRefused verdict new old
-  left-refused why e = rw e
+  pub left_refused : (why : Refusal) → verdict ≡ Refused why → old ≡ unless_refused verdict new old
+  left_refused why e = rw e
 
-  pub left-accepted : verdict ≡ Accepted → (a : A) → a ≡ new → a ≡ unlessRefused verdict new old
+  pub left-accepted : verdict ≡ Accepted → (a : A) → a ≡ new → a ≡ unless_refused verdict new old
   left-accepted e a p = rw e p
 
 -- the number in an answer is the verdict's
 pub answered-number : {A B : Type 0} (accepted : A → B) (refused : Refusal → B) (number : B → ℕ)
-    → ((a : A) → number (accepted a) ≡ 0) → ((why : Refusal) → number (refused why) ≡ refusalNumber why)
-    → (verdict : Verdict) (answer : A) → number (answering accepted refused verdict answer) ≡ verdictNumber verdict
+    → ((a : A) → number (accepted a) ≡ 0) → ((why : Refusal) → number (refused why) ≡ refusal_number why)
+    → (verdict : Verdict) (answer : A) → number (answering accepted refused verdict answer) ≡ verdict_number verdict
 answered-number accepted refused number p q Accepted answer = p answer
 answered-number accepted refused number p q (Refused why) answer = q why
 
 -- the value in an answer is that of an accepted call, or `none`
-pub answered-value : {A B C : Type 0} (accepted : A → B) (refused : Refusal → B) (value : B → C) (of : A → C) (none : C)
+pub answered_value : {A B C : Type 0} (accepted : A → B) (refused : Refusal → B) (value : B → C) (of : A → C) (none : C)
     → ((a : A) → value (accepted a) ≡ of a) → ((why : Refusal) → value (refused why) ≡ none)
-    → (verdict : Verdict) (answer : A) → value (answering accepted refused verdict answer) ≡ unlessRefused verdict (of answer) none
-answered-value accepted refused value of none p q Accepted answer = p answer
-answered-value accepted refused value of none p q (Refused why) answer = q why
+    → (verdict : Verdict) (answer : A) → value (answering accepted refused verdict answer) ≡ unless_refused verdict (of answer) none
+answered_value accepted refused value of none p q Accepted answer = p answer
+answered_value accepted refused value of none p q (Refused why) answer = q why

@@ -17,5 +17,5 @@ some-counted test (r ∷ rs) = go (test r) (some-counted test rs)
     go true ih = lt-ltb 0 (1 + count_of test rs) (omega arith)
     go false ih = rw zero-add ih
 
-pub any-counted : (test : ℕ → Bool) (records : List ℕ) (count : ℕ) → count ≡ count_of test records → ltb 0 count ≡ some test records
-any-counted test records count e = ap (ltb 0) e ∙ some-counted test records
+pub any_counted : (test : ℕ → Bool) (records : List ℕ) (count : ℕ) → count ≡ count_of test records → ltb 0 count ≡ some test records
+any_counted test records count e = ap (ltb 0) e ∙ some-counted test records

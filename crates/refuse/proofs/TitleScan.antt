@@ -8,100 +8,100 @@ use borrow.Author.Tests.{lt-ltb, le-ltb}
 use lib.Dec.{ltb}
 use lib.ListN.{length, get_or, drop}
 use lib.Seq.{drop-length}
-use Rattle.text.specs.Line.{TextLine, untilHead, lines_from, notOpening}
-use Rattle.text.proofs.TextLines.{AtHead, opens-start, rest, rest-drops, next-opens, line_first}
+use Rattle.text.specs.Line.{TextLine, until_head, lines_from, not_opening}
+use Rattle.text.proofs.TextLines.{AtHead, opens-start, rest, rest-drops, next_opens, line_first}
 use Rattle.refuse.specs.declared.Ceilings.{Ceilings}
 use Rattle.text.specs.Lists.{some}
-use Rattle.refuse.specs.Causes.{tooManyGlyphs, positionThree, headZerosSet, titlesWrong}
-use Rattle.refuse.specs.ScanExtra.{titleWrong, lineWrong, scanWrong}
+use Rattle.refuse.specs.Causes.{too_many_glyphs, position_three, head_zeros_set, titles_wrong}
+use Rattle.refuse.specs.ScanExtra.{title_wrong, line_wrong, scan_wrong}
 
 -- Before each turn: the `count` titles before index `at` pass the test, so that the remaining ones decide the result.
 pub record Scanning (most : Ceilings) (rs : List ℕ) (count at : ℕ) : Type 0 where
   pub opens : AtHead rs at
   pub few : count ≤ most.titles
   pub counted : count + length (lines_from at (drop at rs)) ≡ length (lines_from 0 rs)
-  pub same : some (lineWrong most) (lines_from at (drop at rs)) ≡ some (lineWrong most) (lines_from 0 rs)
+  pub same : some (line_wrong most) (lines_from at (drop at rs)) ≡ some (line_wrong most) (lines_from 0 rs)
 
 module _ (most : Ceilings) (rs : List ℕ) where
-  pub scan-starts : notOpening rs ≡ false → Scanning most rs 0 0
-  scan-starts e = record { opens = opens-start rs e; few = omega arith; counted = omega arith; same = refl }
+  pub scan_starts : not_opening rs ≡ false → Scanning most rs 0 0
+  scan_starts e = record { opens = opens-start rs e; few = omega arith; counted = omega arith; same = refl }
 
   module _ (count at : ℕ) (s : Scanning most rs count at) where
-    pub scan-many : (limit : ℕ) → limit ≡ most.titles → at < length rs → limit ≤ count → true ≡ scanWrong most rs
-    unfolding scanWrong
-    scan-many limit e h m =
+    pub scan_many : (limit : ℕ) → limit ≡ most.titles → at < length rs → limit ≤ count → true ≡ scan_wrong most rs
+    unfolding scan_wrong
+    scan_many limit e h m =
         let f = line_first rs at _ h s.opens refl in
         simp (lt-ltb most.titles (length (lines_from 0 rs)) (omega (arith, ap length f, s.counted)))
 
-    module _ (n : ℕ) (b : Bool) (h : at < length rs) (borrowed : n ≡ length (untilHead (rest rs (at + 1)))) (p : b ≡ titleWrong most (get_or rs at 0) n) where
-      n-is-length : n ≡ length (untilHead (drop (at + 1) rs))
-      n-is-length = borrowed ∙ ap (λ (l : List ℕ). length (untilHead l)) (rest-drops rs (at + 1))
+    module _ (n : ℕ) (b : Bool) (h : at < length rs) (borrowed : n ≡ length (until_head (rest rs (at + 1)))) (p : b ≡ title_wrong most (get_or rs at 0) n) where
+      n-is-length : n ≡ length (until_head (drop (at + 1) rs))
+      n-is-length = borrowed ∙ ap (λ (l : List ℕ). length (until_head l)) (rest-drops rs (at + 1))
 
-      split-by-title : some (lineWrong most) (lines_from 0 rs) ≡ (b || some (lineWrong most) (lines_from (at + 1 + n) (drop (at + 1 + n) rs)))
-      split-by-title =
-          sym s.same ∙ ap (some (lineWrong most)) (line_first rs at n h s.opens n-is-length)
+      split_by_title : some (line_wrong most) (lines_from 0 rs) ≡ (b || some (line_wrong most) (lines_from (at + 1 + n) (drop (at + 1 + n) rs)))
+      split_by_title =
+          sym s.same ∙ ap (some (line_wrong most)) (line_first rs at n h s.opens n-is-length)
           ∙ rw (← n-is-length, ← p)
 
-      pub scan-hits : b ≡ true → true ≡ scanWrong most rs
-      unfolding scanWrong
-      scan-hits t = rw (split-by-title, t) (sym (or-true (ltb most.titles (length (lines_from 0 rs)))))
+      pub scan_hits : b ≡ true → true ≡ scan_wrong most rs
+      unfolding scan_wrong
+      scan_hits t = rw (split_by_title, t) (sym (or-true (ltb most.titles (length (lines_from 0 rs)))))
 
-      pub scan-goes : (limit : ℕ) → limit ≡ most.titles → count < limit → b ≡ false → Scanning most rs (count + 1) (at + 1 + n)
-      scan-goes limit q m f =
+      pub scan_goes : (limit : ℕ) → limit ≡ most.titles → count < limit → b ≡ false → Scanning most rs (count + 1) (at + 1 + n)
+      scan_goes limit q m f =
           record {
-            opens = next-opens rs at n h s.opens n-is-length;
+            opens = next_opens rs at n h s.opens n-is-length;
             few = omega arith;
             counted = omega (arith, s.counted, ap length (line_first rs at n h s.opens n-is-length));
-            same = sym (split-by-title ∙ rw f);
+            same = sym (split_by_title ∙ rw f);
           }
 
-    pub scan-ends : length rs ≤ at → false ≡ scanWrong most rs
-    unfolding scanWrong
-    scan-ends h =
+    pub scan_ends : length rs ≤ at → false ≡ scan_wrong most rs
+    unfolding scan_wrong
+    scan_ends h =
         let e : at ≡ length rs = omega (arith, s.opens.within) in
         let d : lines_from at (drop at rs) ≡ [] = ap (lines_from at) (ap (λ (n : ℕ). drop n rs) e ∙ drop-length rs) in
         let c : length (lines_from 0 rs) ≤ most.titles = omega (arith, s.counted, s.few, ap length d) in
-        simp (le-ltb most.titles (length (lines_from 0 rs)) c) (sym (ap (some (lineWrong most)) d) ∙ s.same)
+        simp (le-ltb most.titles (length (lines_from 0 rs)) c) (sym (ap (some (line_wrong most)) d) ∙ s.same)
 
 -- the table's five tests in the order of the loop, those of one title together
-five-reordered : (a b c d e : Bool) → (a || b || c || d || e) ≡ (c || (a || (b || (d || e))))
-five-reordered true b true d e = refl
-five-reordered true b false d e = refl
-five-reordered false true true d e = refl
-five-reordered false true false d e = refl
-five-reordered false false true d e = refl
-five-reordered false false false d e = refl
+five_reordered : (a b c d e : Bool) → (a || b || c || d || e) ≡ (c || (a || (b || (d || e))))
+five_reordered true b true d e = refl
+five_reordered true b false d e = refl
+five_reordered false true true d e = refl
+five_reordered false true false d e = refl
+five_reordered false false true d e = refl
+five_reordered false false false d e = refl
 
-three-or : (a b c x y z : Bool) → ((a || (b || c)) || (x || (y || z))) ≡ ((a || x) || ((b || y) || (c || z)))
-three-or true b c x y z = refl
-three-or false b c true y z = or-true (b || c)
-three-or false true c false y z = refl
-three-or false false c false true z = or-true c
-three-or false false c false false z = refl
+three_or : (a b c x y z : Bool) → ((a || (b || c)) || (x || (y || z))) ≡ ((a || x) || ((b || y) || (c || z)))
+three_or true b c x y z = refl
+three_or false b c true y z = or-true (b || c)
+three_or false true c false y z = refl
+three_or false false c false true z = or-true c
+three_or false false c false false z = refl
 
-title-tests : (most : Ceilings) (ts : List TextLine) → some (lineWrong most) ts ≡ (some (tooManyGlyphs most) ts || (some positionThree ts || some headZerosSet ts))
-unfolding titleWrong
-title-tests most [] = refl
-title-tests most (t ∷ ts) =
-    ap (λ (b : Bool). lineWrong most t || b) (title-tests most ts)
-    ∙ three-or (tooManyGlyphs most t) (positionThree t) (headZerosSet t) (some (tooManyGlyphs most) ts) (some positionThree ts) (some headZerosSet ts)
+title_tests : (most : Ceilings) (ts : List TextLine) → some (line_wrong most) ts ≡ (some (too_many_glyphs most) ts || (some position_three ts || some head_zeros_set ts))
+unfolding title_wrong
+title_tests most [] = refl
+title_tests most (t ∷ ts) =
+    ap (λ (b : Bool). line_wrong most t || b) (title_tests most ts)
+    ∙ three_or (too_many_glyphs most t) (position_three t) (head_zeros_set t) (some (too_many_glyphs most) ts) (some position_three ts) (some head_zeros_set ts)
 
-titles-wrong-by-scan : (most : Ceilings) (rs : List ℕ) → titlesWrong most rs ≡ (notOpening rs || scanWrong most rs)
-unfolding titlesWrong scanWrong
-titles-wrong-by-scan most rs =
-    five-reordered (ltb most.titles (length (lines_from 0 rs))) (some (tooManyGlyphs most) (lines_from 0 rs)) (notOpening rs) (some positionThree (lines_from 0 rs)) (some headZerosSet (lines_from 0 rs))
-    ∙ rw (title-tests most (lines_from 0 rs))
+titles-wrong_by_scan : (most : Ceilings) (rs : List ℕ) → titles_wrong most rs ≡ (not_opening rs || scan_wrong most rs)
+unfolding titles_wrong scan_wrong
+titles-wrong_by_scan most rs =
+    five_reordered (ltb most.titles (length (lines_from 0 rs))) (some (too_many_glyphs most) (lines_from 0 rs)) (not_opening rs) (some position_three (lines_from 0 rs)) (some head_zeros_set (lines_from 0 rs))
+    ∙ rw (title_tests most (lines_from 0 rs))
 
-module _ (most : Ceilings) (rs : List ℕ) (b : Bool) (e : b ≡ notOpening rs) where
-  pub titles-open-wrong : b ≡ true → true ≡ titlesWrong most rs
-  titles-open-wrong t = rw (titles-wrong-by-scan most rs, ← e, t)
+module _ (most : Ceilings) (rs : List ℕ) (b : Bool) (e : b ≡ not_opening rs) where
+  pub titles_open_wrong : b ≡ true → true ≡ titles_wrong most rs
+  titles_open_wrong t = rw (titles-wrong_by_scan most rs, ← e, t)
 
-  pub titles-open : (x : Bool) → b ≡ false → x ≡ scanWrong most rs → x ≡ titlesWrong most rs
-  titles-open x f p = rw (titles-wrong-by-scan most rs, ← e, f) p
+  pub titles_open : (x : Bool) → b ≡ false → x ≡ scan_wrong most rs → x ≡ titles_wrong most rs
+  titles_open x f p = rw (titles-wrong_by_scan most rs, ← e, f) p
 
-  pub titles-opened : b ≡ false → notOpening rs ≡ false
+  pub titles-opened : b ≡ false → not_opening rs ≡ false
   titles-opened f = sym e ∙ f
 
-pub ruleset scanned = (titles-open-wrong, titles-open, titles-opened)
+pub ruleset scanned = (titles_open_wrong, titles_open, titles-opened)
 
-pub ruleset scanning = (scan-starts, scan-many, scan-hits, scan-goes, scan-ends)
+pub ruleset scanning = (scan_starts, scan_many, scan_hits, scan_goes, scan_ends)

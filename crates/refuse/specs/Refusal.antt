@@ -6,33 +6,33 @@ use Rattle.refuse.specs.declared.Verdict.{Verdict}
 use Rattle.refuse.specs.declared.Verdict.TheVariants.{Accepted, Refused}
 
 -- the table's numbers
-abbrev pub refusalNumber : Refusal → ℕ
-refusalNumber Screen = 1
-refusalNumber Styles = 2
-refusalNumber TextLength = 3
-refusalNumber TextHeads = 4
-refusalNumber Titles = 5
-refusalNumber StyleNumber = 6
-refusalNumber Symbol = 7
-refusalNumber Limit = 8
-refusalNumber ListLength = 9
+abbrev pub refusal_number : Refusal → ℕ
+refusal_number Screen = 1
+refusal_number Styles = 2
+refusal_number TextLength = 3
+refusal_number TextHeads = 4
+refusal_number Titles = 5
+refusal_number StyleNumber = 6
+refusal_number Symbol = 7
+refusal_number Limit = 8
+refusal_number ListLength = 9
 
 -- 0 if the call is accepted
-abbrev pub verdictNumber : Verdict → ℕ
-verdictNumber Accepted = 0
-verdictNumber (Refused why) = refusalNumber why
+abbrev pub verdict_number : Verdict → ℕ
+verdict_number Accepted = 0
+verdict_number (Refused why) = refusal_number why
 
 -- the order in which all calls check causes: the table's. A cause added later gets its place here, whatever its number.
-abbrev pub causeOrder : List Refusal
-causeOrder = Screen ∷ Styles ∷ TextLength ∷ TextHeads ∷ Titles ∷ StyleNumber ∷ Symbol ∷ Limit ∷ ListLength ∷ []
+abbrev pub cause_order : List Refusal
+cause_order = Screen ∷ Styles ∷ TextLength ∷ TextHeads ∷ Titles ∷ StyleNumber ∷ Symbol ∷ Limit ∷ ListLength ∷ []
 
 -- the place of a cause in a list, counted from the place given; 0 if absent
-abbrev pub placeFrom : ℕ → List Refusal → Refusal → ℕ
-placeFrom place [] why = 0
-placeFrom place (first ∷ later) why = cond (eqb (refusalNumber first) (refusalNumber why)) place (placeFrom (suc place) later why)
+abbrev pub place_from : ℕ → List Refusal → Refusal → ℕ
+place_from place [] why = 0
+place_from place (first ∷ later) why = cond (eqb (refusal_number first) (refusal_number why)) place (place_from (suc place) later why)
 
-abbrev pub refusalPlace : Refusal → ℕ
-refusalPlace why = placeFrom 1 causeOrder why
+abbrev pub refusal_place : Refusal → ℕ
+refusal_place why = place_from 1 cause_order why
 
 -- a cause, and whether it holds for the inputs of a call
 pub record Cause : Type 0 where
@@ -45,9 +45,9 @@ why if b = record { why = why; holds = b }
 
 -- The verdict of a list of causes: the first that holds. Each call lists its causes in the order above, so that this is the cause
 -- at the lowest place (theorem `in_order`).
-abbrev pub firstCause : List Cause → Verdict
-firstCause [] = Accepted
-firstCause (cause ∷ causes) = cond cause.holds (Refused cause.why) (firstCause causes)
+abbrev pub first_cause : List Cause → Verdict
+first_cause [] = Accepted
+first_cause (cause ∷ causes) = cond cause.holds (Refused cause.why) (first_cause causes)
 
 -- the table's column 'Returned': the answer of an accepted call, or the cause of the refusal
 abbrev pub answering : {A B : Type 0} → (A → B) → (Refusal → B) → Verdict → A → B
@@ -56,6 +56,6 @@ answering accepted refused (Refused why) answer = refused why
 
 -- the table's last column, 'Left': the new value if the call is accepted, the old one if it is refused. Also used for counts,
 -- with 0 as the old value ("counts 0").
-abbrev pub unlessRefused : {A : Type 0} → Verdict → A → A → A
-unlessRefused Accepted new old = new
-unlessRefused (Refused why) new old = old
+abbrev pub unless_refused : {A : Type 0} → Verdict → A → A → A
+unless_refused Accepted new old = new
+unless_refused (Refused why) new old = old

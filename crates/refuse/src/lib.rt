@@ -1,7 +1,7 @@
 // Causes of refusal and their numbers; `check_settings`, `check_records` and `check_block` have the checks.
 ghost use Rattle.std.specs.Prelude.{◌≡◌};
-ghost use Rattle.refuse.specs.Refusal.{refusalNumber, verdictNumber};
-ghost use Rattle.refuse.specs.Causes.{mostAccepted};
+ghost use Rattle.refuse.specs.Refusal.{refusal_number, verdict_number};
+ghost use Rattle.refuse.specs.Causes.{most_accepted};
 
 // Causes of refusal, in the order of document 01's table.
 #[derive(Drop)]
@@ -50,7 +50,7 @@ pub const ACCEPTED: Ceilings = Ceilings {
 impl Ceilings {
     // Returns the ceilings of every call.
     pub fn accepted() -> Ceilings
-        ensures { result ≡ mostAccepted }
+        ensures { result ≡ most_accepted }
     {
         ACCEPTED
     }
@@ -59,7 +59,7 @@ impl Ceilings {
 impl Refusal {
     // Returns the number of a cause in document 01's table.
     pub fn number(self) -> u32
-        ensures { result ≡ refusalNumber self }
+        ensures { result ≡ refusal_number self }
     {
         match self {
             Refusal::Screen => 1,
@@ -78,7 +78,7 @@ impl Refusal {
 impl Verdict {
     // Returns the number of the cause, or 0 if the call is accepted.
     pub fn number(self) -> u32
-        ensures { result ≡ verdictNumber self }
+        ensures { result ≡ verdict_number self }
     {
         match self {
             Verdict::Accepted => 0,

@@ -5,24 +5,24 @@ use Rattle.layout.specs.declared.Rect.{Rect}
 use Rattle.layout.specs.Rect.{meet, is_empty}
 use Rattle.block.specs.declared.Block.{Block}
 use Rattle.buffer.specs.declared.Screen.{Screen}
-use Rattle.buffer.specs.Drawing.{Drawing, over, only_if, inOrder, areaOf, styleAt}
+use Rattle.buffer.specs.Drawing.{Drawing, over, only_if, in_order, area_of, style_at}
 use Rattle.render_borders.specs.Borders.{sides, corners}
-use Rattle.titles.specs.Titles.{Title, titlesOn}
-use Rattle.shadow.specs.Shadow.{shadowOf}
+use Rattle.titles.specs.Titles.{Title, titles_on}
+use Rattle.shadow.specs.Shadow.{shadow_of}
 
 -- "over the met area": "block style, sides …, corners …, top titles, bottom titles, shadow".
 -- The paragraph style of a notice, which comes first, is drawn by crate `paragraph`.
 unfoldable pub frame : List ℕ → Screen → List Title → Block → Rect → Drawing
 frame styles screen titles b met =
-    inOrder
-    (over met (styled (styleAt styles b.style))
+    in_order
+    (over met (styled (style_at styles b.style))
     ∷ sides styles b met
     ∷ corners styles b met
-    ∷ titlesOn styles b met titles
-    ∷ shadowOf styles screen met b.shadow
+    ∷ titles_on styles b met titles
+    ∷ shadow_of styles screen met b.shadow
     ∷ [])
 
 -- "Drawing meets area and screen first (…); an empty meeting draws no cell."
 unfoldable pub block_of : List ℕ → Screen → List Title → Block → Rect → Drawing
 block_of styles screen titles b area =
-    only_if (not (is_empty (meet area (areaOf screen)))) (frame styles screen titles b (meet area (areaOf screen)))
+    only_if (not (is_empty (meet area (area_of screen)))) (frame styles screen titles b (meet area (area_of screen)))

@@ -1,12 +1,12 @@
 // Drawing of a block: its style, borders, titles and shadow.
 ghost use Rattle.std.specs.Prelude.{◌≡◌, false, [], ◌∷◌, ◌<◌, ◌^◌, length};
 ghost use Rattle.layout.specs.Rect.{is_empty};
-ghost use Rattle.buffer.specs.Drawing.{drawn, inOrder};
+ghost use Rattle.buffer.specs.Drawing.{drawn, in_order};
 ghost use Rattle.buffer.specs.PartsExtra.{OnScreen};
 ghost use Rattle.text.specs.Line.{Opens};
 ghost use Rattle.render_borders.specs.Borders.{sides, corners};
 ghost use Rattle.block.specs.Causes.{SymbolsFit};
-ghost use Rattle.titles.specs.Titles.{titlesFrom, titlesOn};
+ghost use Rattle.titles.specs.Titles.{titles_from, titles_on};
 ghost use Rattle.render_block.specs.Frame.{frame, block_of};
 ghost use Rattle.buffer.specs.PartsExtra.{HasCells};
 
@@ -28,9 +28,9 @@ fn render_borders_and_titles(
     requires symbols_fit { SymbolsFit block × (is_empty met ≡ false) × (screen.columns < 2 ^ 15) × (screen.rows < 2 ^ 15) × Opens titles.now }
     requires on_screen { OnScreen screen (length cells.old) met }
     ensures { let styles' = styles.now in
-        let read = titlesFrom ambiguous titles.now in
-        let drawings = sides styles' block met ∷ corners styles' block met ∷ titlesOn styles' block met read ∷ [] in
-        cells.new ≡ drawn screen.columns (inOrder drawings) cells.old }
+        let read = titles_from ambiguous titles.now in
+        let drawings = sides styles' block met ∷ corners styles' block met ∷ titles_on styles' block met read ∷ [] in
+        cells.new ≡ drawn screen.columns (in_order drawings) cells.old }
 {
     render_borders::render_borders(screen, cells, styles, block, met);
     render_titles::render_titles(screen, cells, styles, titles, ambiguous, block, met);
@@ -48,7 +48,7 @@ pub fn render_frame(
 )
     requires symbols_fit { SymbolsFit block × (is_empty met ≡ false) × (screen.columns < 2 ^ 15) × (screen.rows < 2 ^ 15) × Opens titles.now }
     requires on_screen { OnScreen screen (length cells.old) met }
-    ensures { let drawing = frame styles.now screen (titlesFrom ambiguous titles.now) block met in
+    ensures { let drawing = frame styles.now screen (titles_from ambiguous titles.now) block met in
         cells.new ≡ drawn screen.columns drawing cells.old }
 {
     let shadow = block.shadow;
@@ -69,7 +69,7 @@ pub fn render(
     area: Rect,
 )
     requires { SymbolsFit block × HasCells screen (length cells.old) × Opens titles.now }
-    ensures { let drawing = block_of styles.now screen (titlesFrom ambiguous titles.now) block area in
+    ensures { let drawing = block_of styles.now screen (titles_from ambiguous titles.now) block area in
         cells.new ≡ drawn screen.columns drawing cells.old }
 {
     let met = area.intersection(screen.area());

@@ -7,7 +7,7 @@ use native.Mathlib.Omega.{arith}
 use borrow.Author.Tests.{leb-false}
 use lib.ListN.{length, get_or}
 use Rattle.text.specs.Lists.{some}
-use Rattle.refuse.specs.Causes.{tooLarge, symbolsWrong}
+use Rattle.refuse.specs.Causes.{too_large, symbols_wrong}
 use Rattle.text.proofs.Bools.{neither}
 use Rattle.layout.specs.declared.Rect.{Rect}
 use Rattle.block.specs.declared.Block.{Block}
@@ -15,11 +15,11 @@ use Rattle.block.specs.declared.Effect.{Effect}
 use Rattle.block.specs.declared.Effect.TheVariants.{Overlay, Symbol}
 use Rattle.block.specs.declared.Shadow.{Shadow}
 use Rattle.block.specs.declared.Shadow.TheVariants.{Absent, Present}
-use Rattle.block.specs.Causes.{effectSymbols, shadowSymbols, borderSymbols, blockSymbols, SymbolsFit}
+use Rattle.block.specs.Causes.{effect_symbols, shadow_symbols, border_symbols, block_symbols, SymbolsFit}
 use Rattle.text.proofs.Either.{some-append}
 use Rattle.shadow.specs.FittingExtra.{EffectFits, ShadowFits}
 use Rattle.border_edges.specs.declared.Edge.{Edge}
-use Rattle.border_edges.specs.Edges.{leftEdge, topEdge, rightEdge, bottomEdge, bottomRightEdge, topRightEdge, bottomLeftEdge, topLeftEdge}
+use Rattle.border_edges.specs.Edges.{left_edge, top_edge, right_edge, bottom_edge, bottom_right_edge, top_right_edge, bottom_left_edge, top_left_edge}
 
 -- a test that no element of a list passes fails for the element at each index
 none-at : (test : ℕ → Bool) (l : List ℕ) (i : ℕ) → some test l ≡ false → i < length l → test (get_or l i 0) ≡ false
@@ -28,65 +28,65 @@ none-at test (x ∷ l) zero h k = (neither (test x) (some test l) h).0
 none-at test (x ∷ l) (suc i) h k = none-at test l i (neither (test x) (some test l) h).1 (omega arith)
 
 -- a shadow without cause 7
-effect-fits : (effect : Effect) → symbolsWrong (effectSymbols effect) ≡ false → EffectFits effect
-effect-fits Overlay h = tt
-effect-fits (Symbol symbol) h = leb-false 2097152 symbol (neither (tooLarge symbol) false h).0
+effect_fits : (effect : Effect) → symbols_wrong (effect_symbols effect) ≡ false → EffectFits effect
+effect_fits Overlay h = tt
+effect_fits (Symbol symbol) h = leb-false 2097152 symbol (neither (too_large symbol) false h).0
 
-shadow-fits : (shadow : Shadow) → symbolsWrong (shadowSymbols shadow) ≡ false → ShadowFits shadow
-shadow-fits Absent h = tt
-shadow-fits (Present effect style x y) h = effect-fits effect h
+shadow_fits : (shadow : Shadow) → symbols_wrong (shadow_symbols shadow) ≡ false → ShadowFits shadow
+shadow_fits Absent h = tt
+shadow_fits (Present effect style x y) h = effect_fits effect h
 
 module _ (b : Block) (fit : SymbolsFit b) where
   -- no border symbol is too large, nor is the shadow's
-  parts-fit : (symbolsWrong (borderSymbols b.border_set) ≡ false) × (symbolsWrong (shadowSymbols b.shadow) ≡ false)
-  unfolding blockSymbols
-  parts-fit =
-      neither _ _ (rw (some-append tooLarge (borderSymbols b.border_set) (shadowSymbols b.shadow)) at fit)
+  parts_fit : (symbols_wrong (border_symbols b.border_set) ≡ false) × (symbols_wrong (shadow_symbols b.shadow) ≡ false)
+  unfolding block_symbols
+  parts_fit =
+      neither _ _ (rw (some-append too_large (border_symbols b.border_set) (shadow_symbols b.shadow)) at fit)
 
-  pub shadow-symbol-fits : ShadowFits b.shadow
-  shadow-symbol-fits = shadow-fits b.shadow parts-fit.1
+  pub shadow_symbol-fits : ShadowFits b.shadow
+  shadow_symbol-fits = shadow_fits b.shadow parts_fit.1
 
   -- each border symbol fits a cell
-  border-fits : (i : ℕ) → i < 8 → get_or (borderSymbols b.border_set) i 0 < 2 ^ 21
-  unfolding borderSymbols
-  border-fits i h = leb-false 2097152 _ (none-at tooLarge (borderSymbols b.border_set) i parts-fit.0 h)
+  border-fits : (i : ℕ) → i < 8 → get_or (border_symbols b.border_set) i 0 < 2 ^ 21
+  unfolding border_symbols
+  border-fits i h = leb-false 2097152 _ (none-at too_large (border_symbols b.border_set) i parts_fit.0 h)
 
   -- so the symbol of each side and corner does
   module _ (r : Rect) (edge : Edge) where
-    pub top-left-fits : edge ≡ topLeftEdge b r → edge.symbol < 2 ^ 21
-    unfolding borderSymbols
+    pub top-left-fits : edge ≡ top_left_edge b r → edge.symbol < 2 ^ 21
+    unfolding border_symbols
     top-left-fits e = rw e (border-fits 0 (omega arith))
 
-    pub top-right-fits : edge ≡ topRightEdge b r → edge.symbol < 2 ^ 21
-    unfolding borderSymbols
+    pub top-right-fits : edge ≡ top_right_edge b r → edge.symbol < 2 ^ 21
+    unfolding border_symbols
     top-right-fits e = rw e (border-fits 1 (omega arith))
 
-    pub bottom-left-fits : edge ≡ bottomLeftEdge b r → edge.symbol < 2 ^ 21
-    unfolding borderSymbols
+    pub bottom-left-fits : edge ≡ bottom_left_edge b r → edge.symbol < 2 ^ 21
+    unfolding border_symbols
     bottom-left-fits e = rw e (border-fits 2 (omega arith))
 
-    pub bottom-right-fits : edge ≡ bottomRightEdge b r → edge.symbol < 2 ^ 21
-    unfolding borderSymbols
+    pub bottom-right-fits : edge ≡ bottom_right_edge b r → edge.symbol < 2 ^ 21
+    unfolding border_symbols
     bottom-right-fits e = rw e (border-fits 3 (omega arith))
 
-    pub left-fits : edge ≡ leftEdge b r → edge.symbol < 2 ^ 21
-    unfolding borderSymbols
+    pub left-fits : edge ≡ left_edge b r → edge.symbol < 2 ^ 21
+    unfolding border_symbols
     left-fits e = rw e (border-fits 4 (omega arith))
 
-    pub right-fits : edge ≡ rightEdge b r → edge.symbol < 2 ^ 21
-    unfolding borderSymbols
+    pub right-fits : edge ≡ right_edge b r → edge.symbol < 2 ^ 21
+    unfolding border_symbols
     right-fits e = rw e (border-fits 5 (omega arith))
 
-    pub top-fits : edge ≡ topEdge b r → edge.symbol < 2 ^ 21
-    unfolding borderSymbols
+    pub top-fits : edge ≡ top_edge b r → edge.symbol < 2 ^ 21
+    unfolding border_symbols
     top-fits e = rw e (border-fits 6 (omega arith))
 
-    pub bottom-fits : edge ≡ bottomEdge b r → edge.symbol < 2 ^ 21
-    unfolding borderSymbols
+    pub bottom-fits : edge ≡ bottom_edge b r → edge.symbol < 2 ^ 21
+    unfolding border_symbols
     bottom-fits e = rw e (border-fits 7 (omega arith))
 
 pub ruleset fitting = (
-  shadow-symbol-fits,
+  shadow_symbol-fits,
   top-left-fits,
   top-right-fits,
   bottom-left-fits,

@@ -1,7 +1,7 @@
 // Drawing of a block's sides and corners.
 ghost use Rattle.std.specs.Prelude.{◌≡◌, false, [], ◌∷◌, ◌<◌, ◌^◌, length};
 ghost use Rattle.layout.specs.Rect.{is_empty};
-ghost use Rattle.buffer.specs.Drawing.{drawn, inOrder};
+ghost use Rattle.buffer.specs.Drawing.{drawn, in_order};
 ghost use Rattle.buffer.specs.PartsExtra.{OnScreen};
 ghost use Rattle.render_borders.specs.Borders.{border, sides, corners};
 ghost use Rattle.block.specs.Causes.{SymbolsFit};
@@ -61,7 +61,7 @@ fn render_corners(screen: Screen, cells: &mut [u64], styles: &[u64], block: Bloc
 pub fn render_borders(screen: Screen, cells: &mut [u64], styles: &[u64], block: Block, area: Rect)
     requires symbols_fit { SymbolsFit block × (is_empty area ≡ false) }
     requires on_screen { OnScreen screen (length cells.old) area }
-    ensures { let drawing = inOrder (sides styles.now block area ∷ corners styles.now block area ∷ []) in
+    ensures { let drawing = in_order (sides styles.now block area ∷ corners styles.now block area ∷ []) in
         cells.new ≡ drawn screen.columns drawing cells.old }
 {
     render_sides(screen, cells, styles, block, area);

@@ -2,7 +2,7 @@
 ghost use Rattle.std.specs.Prelude.{◌≡◌, ◌+◌, ◌^◌, ◌<◌, length, get_or, set};
 ghost use Rattle.text.specs.Line.{FewRecords};
 ghost use Rattle.place.specs.Place.{place_of};
-ghost use Rattle.render_glyphs.specs.WritingExtra.{is_written, symbolWritten, cellWith, writtenAt, withPlace, startsOf, Wrote};
+ghost use Rattle.render_glyphs.specs.WritingExtra.{is_written, symbol_written, cell_with, written_at, with_place, starts_of, Wrote};
 
 use cell::BLANK_SYMBOL;
 use place::Place;
@@ -20,7 +20,7 @@ impl GlyphCounts {
     // Returns the counts with one more glyph. A halved glyph is clipped.
     fn with_glyph(self, place: Place) -> GlyphCounts
         requires { self.placed + self.clipped + 1 < 2 ^ 32 }
-        ensures { result ≡ withPlace self place }
+        ensures { result ≡ with_place self place }
     {
         let mut next = self;
         match place {
@@ -51,7 +51,7 @@ fn write_cell(
     style: u8,
 )
     requires { (column < length row.old) × (symbol < 2 ^ 21) }
-    ensures { let cell = cellWith styles.now text_style symbol style (get_or row.old column 0) in
+    ensures { let cell = cell_with styles.now text_style symbol style (get_or row.old column 0) in
         row.new ≡ set row.old column cell }
 {
     let own_style = buffer::style_at(styles, style);
@@ -74,7 +74,7 @@ fn is_written(place: Place) -> bool
 // Returns the symbol that is written for a glyph's symbol: the blank one if the glyph is halved.
 fn symbol_written(place: Place, symbol: u32) -> u64
     requires { symbol < 2 ^ 21 }
-    ensures { (result ≡ symbolWritten place symbol) × (result < 2 ^ 21) }
+    ensures { (result ≡ symbol_written place symbol) × (result < 2 ^ 21) }
 {
     let own = symbol as u64;
     match place {
@@ -96,7 +96,7 @@ fn write_glyph(
 ) -> Place
     requires { column + width < 2 ^ 32 }
     ensures place { result ≡ place_of (length row.old) column width }
-    ensures cells { row.new ≡ writtenAt styles.now text_style result column word row.old }
+    ensures cells { row.new ≡ written_at styles.now text_style result column word row.old }
 {
     let place = Place::of_glyph(row.len(), column, width);
     if is_written(place) {
@@ -118,7 +118,7 @@ pub fn write_glyphs(
     records: &[u32],
 ) -> GlyphCounts
     requires { FewRecords records.now }
-    ensures { Wrote styles.now style (startsOf rule 0 records.now) row.old row.new result }
+    ensures { Wrote styles.now style (starts_of rule 0 records.now) row.old row.new result }
 {
     let text_style = buffer::style_at(styles, style);
     let mut counts = GlyphCounts {

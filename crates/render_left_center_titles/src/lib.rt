@@ -3,11 +3,11 @@ ghost use Rattle.std.specs.Prelude.{◌≡◌, false, ◌<◌, length};
 ghost use Rattle.text.specs.declared.Alignment.TheVariants.{Left, Center};
 ghost use Rattle.text.specs.Line.{Opens};
 ghost use Rattle.buffer.specs.Drawing.{drawn};
-ghost use Rattle.title_glyphs.specs.TitleGlyphs.{titleGlyphs};
-ghost use Rattle.title.specs.Title.{titleLineWidth};
+ghost use Rattle.title_glyphs.specs.TitleGlyphs.{glyphs_of_title};
+ghost use Rattle.title.specs.Title.{title_line_width};
 ghost use Rattle.title.specs.FittingExtra.{TitleArea};
-ghost use Rattle.titles.specs.Titles.{titlesFrom, filteredTitles, titleDrawn, titlesDrawn, spacedFrom, leftTitles, centerTitles};
-ghost use Rattle.titles.specs.PlacingExtra.{placedWidth, nextPlace, placed_at, placedTitles, centerPlace, AreaFits, titlesOf, titleOf, Added, Moved};
+ghost use Rattle.titles.specs.Titles.{titles_from, filtered_titles, title_drawn, titles_drawn, spaced_from, left_titles, center_titles};
+ghost use Rattle.titles.specs.PlacingExtra.{placed_width, next_place, placed_at, placed_titles, center_place, AreaFits, titles_of, title_of, Added, Moved};
 
 use block::Block;
 use buffer::Screen;
@@ -27,8 +27,8 @@ fn render_title_at(
     ambiguous: AmbiguousWidth,
 ) -> Place
     requires { TitleArea screen (length cells.old) place.area }
-    ensures place { result ≡ nextPlace place (placedWidth place (titleLineWidth (titleGlyphs ambiguous glyphs.now))) }
-    ensures drawn { let drawing = titleDrawn styles.now block (placed_at place (titleOf ambiguous word glyphs.now)) in
+    ensures place { result ≡ next_place place (placed_width place (title_line_width (glyphs_of_title ambiguous glyphs.now))) }
+    ensures drawn { let drawing = title_drawn styles.now block (placed_at place (title_of ambiguous word glyphs.now)) in
         cells.new ≡ drawn screen.columns drawing cells.old }
 {
     let area = place.area;
@@ -65,7 +65,7 @@ fn render_next_title(
     ambiguous: AmbiguousWidth,
 ) -> Place
     requires { AreaFits screen (length cells.old) place.area × (0 < screen.columns) }
-    ensures { let title = titleOf ambiguous word glyphs.now in
+    ensures { let title = title_of ambiguous word glyphs.now in
         Moved screen styles.now block group title place cells.old result cells.new }
 {
     let area = place.area;
@@ -92,7 +92,7 @@ fn render_titles_forward(
 )
     requires columns_nonzero { (0 < screen.columns) × Opens titles.now }
     requires area_fits { AreaFits screen (length cells.old) place.area }
-    ensures { let drawing = titlesDrawn styles.now block (placedTitles place (titlesOf block group (titlesFrom ambiguous titles.now))) in
+    ensures { let drawing = titles_drawn styles.now block (placed_titles place (titles_of block group (titles_from ambiguous titles.now))) in
         cells.new ≡ drawn screen.columns drawing cells.old }
 {
     let mut place = place;
@@ -124,7 +124,7 @@ fn add_spaced(
     glyphs: &[u32],
     ambiguous: AmbiguousWidth,
 ) -> u16
-    ensures { Added block group (titleOf ambiguous word glyphs.now) sum result }
+    ensures { Added block group (title_of ambiguous word glyphs.now) sum result }
 {
     if group.has_title(block, word) {
         return num::saturating_add(
@@ -138,7 +138,7 @@ fn add_spaced(
 // Returns the sum of the widths of a group's titles, with one column after each.
 fn spaced_width(titles: &[u32], ambiguous: AmbiguousWidth, block: Block, group: Group) -> u16
     requires { Opens titles.now }
-    ensures { result ≡ spacedFrom 0 (titlesOf block group (titlesFrom ambiguous titles.now)) }
+    ensures { result ≡ spaced_from 0 (titles_of block group (titles_from ambiguous titles.now)) }
 {
     let mut sum: u16 = 0;
     let mut at = 0;
@@ -164,8 +164,8 @@ pub fn render_left_titles(
 )
     requires columns_nonzero { (0 < screen.columns) × Opens titles.now }
     requires area_fits { AreaFits screen (length cells.old) area }
-    ensures { let read = titlesFrom ambiguous titles.now in
-        let drawing = titlesDrawn styles.now block (leftTitles area (filteredTitles block position Left read)) in
+    ensures { let read = titles_from ambiguous titles.now in
+        let drawing = titles_drawn styles.now block (left_titles area (filtered_titles block position Left read)) in
         cells.new ≡ drawn screen.columns drawing cells.old }
 {
     let group = Group {
@@ -185,7 +185,7 @@ pub fn render_left_titles(
 // Returns the place of the first centred title, given the total width of all centred titles
 // (block.rs: `Block::render_centered_titles_without_truncation`, `.._with_truncation`).
 fn center_place(area: Rect, total: u16) -> Place
-    ensures { result ≡ centerPlace area total }
+    ensures { result ≡ center_place area total }
 {
     if total <= area.width {
         let x = num::saturating_add(area.x, (area.width - total) / 2);
@@ -221,8 +221,8 @@ pub fn render_center_titles(
 )
     requires columns_nonzero { (0 < screen.columns) × Opens titles.now }
     requires area_fits { AreaFits screen (length cells.old) area × (area.height ≡ 1) }
-    ensures { let read = titlesFrom ambiguous titles.now in
-        let drawing = titlesDrawn styles.now block (centerTitles area (filteredTitles block position Center read)) in
+    ensures { let read = titles_from ambiguous titles.now in
+        let drawing = titles_drawn styles.now block (center_titles area (filtered_titles block position Center read)) in
         cells.new ≡ drawn screen.columns drawing cells.old }
 {
     let group = Group {

@@ -8,9 +8,9 @@ use native.Mathlib.Nat.{add-zero}
 use native.Mathlib.Omega.{arith}
 use lib.ListN.{length, take, drop}
 use lib.Seq.{slice, take-add, drop_at, length-take-le}
-use Rattle.text.specs.Line.{Glyph, numbered, total, startsFrom}
+use Rattle.text.specs.Line.{Glyph, numbered, total, starts_from}
 use Rattle.wrapping.specs.declared.Rule.{Rule}
-use Rattle.wrapping.specs.Wrapping.{notOverWide}
+use Rattle.wrapping.specs.Wrapping.{not_over_wide}
 use Rattle.buffer.specs.Drawing.{changed}
 use Rattle.buffer.specs.PartsExtra.{windowed}
 use Rattle.buffer.proofs.Changed.{changed-same, part_length, part-borrowed}
@@ -18,9 +18,9 @@ use Rattle.buffer.proofs.Within.{within-inside, within-before}
 use Rattle.line_composer.specs.declared.WrappedLine.{WrappedLine}
 use Rattle.line_composer.specs.Lines.{Line, line_at}
 use Rattle.render_glyphs.specs.declared.GlyphCounts.{GlyphCounts}
-use Rattle.render_glyphs.specs.RenderGlyphs.{glyphsOn}
-use Rattle.render_glyphs.specs.WritingExtra.{startsOf, Wrote}
-use Rattle.render_line.specs.RenderLine.{lineOffset, drawnStarts, lineOn, placedIn, clippedIn}
+use Rattle.render_glyphs.specs.RenderGlyphs.{glyphs_on}
+use Rattle.render_glyphs.specs.WritingExtra.{starts_of, Wrote}
+use Rattle.render_line.specs.RenderLine.{line_offset, drawn_starts, line_on, placed_in, clipped_in}
 use Rattle.render_line.proofs.Moving.{placed_same, clipped-same, glyphs-same, glyphs-before}
 
 -- a borrowed `&text[first..end]` is a slice of the text
@@ -39,8 +39,8 @@ pub record LineCall : Type 0 where
   pub row : List ℕ
   pub line : WrappedLine
 
-abbrev pub lineCall : List ℕ → ℕ → Rule → List ℕ → List ℕ → WrappedLine → LineCall
-lineCall styles style rule text row line = record { styles = styles; style = style; rule = rule; text = text; row = row; line = line }
+abbrev pub line_call : List ℕ → ℕ → Rule → List ℕ → List ℕ → WrappedLine → LineCall
+line_call styles style rule text row line = record { styles = styles; style = style; rule = rule; text = text; row = row; line = line }
 
 -- State of `write_line` after `write_glyphs`: the line's records are within the text, its width and start column are those of the
 -- rule, and `part` is the slice of the row from the start column on, with the glyphs written.
@@ -48,9 +48,9 @@ pub record LineWritten (v : LineCall) (start : ℕ) (part : List ℕ) (counts : 
   pub ordered : v.line.first ≤ v.line.end
   pub within : v.line.end ≤ length v.text
   pub width : v.line.width ≡ total (line_at v.rule v.text v.line).glyphs
-  pub offset : start ≡ lineOffset v.line.alignment (length v.row) v.line.width
+  pub offset : start ≡ line_offset v.line.alignment (length v.row) v.line.width
   pub low : start ≤ length v.row
-  pub wrote : Wrote v.styles v.style (startsOf v.rule 0 (take (v.line.end - v.line.first) (drop v.line.first v.text)))
+  pub wrote : Wrote v.styles v.style (starts_of v.rule 0 (take (v.line.end - v.line.first) (drop v.line.first v.text)))
       (take (length v.row - start) (drop start v.row)) part counts
 
 module _ (v : LineCall) (start : ℕ) (part : List ℕ) (counts : GlyphCounts) (w : LineWritten v start part counts) where
@@ -78,18 +78,18 @@ module _ (v : LineCall) (start : ℕ) (part : List ℕ) (counts : GlyphCounts) (
   borrowed-length : length borrowed ≡ room
   borrowed-length = part_length start area v.row w.low (omega arith)
 
-  starts-drawn : startsFrom (start + 0) (notOverWide v.rule (numbered v.rule.ambiguous line.first records)) ≡ drawnStarts area composed
-  unfolding drawnStarts line_at
+  starts-drawn : starts_from (start + 0) (not_over_wide v.rule (numbered v.rule.ambiguous line.first records)) ≡ drawn_starts area composed
+  unfolding drawn_starts line_at
   starts-drawn = rw (add-zero, w.offset, w.width, slice-borrowed line.first line.end v.text w.ordered w.within)
 
-  pub line-placed : counts.placed ≡ placedIn area composed
-  unfolding placedIn
+  pub line-placed : counts.placed ≡ placed_in area composed
+  unfolding placed_in
   line-placed =
       (rw borrowed-length at w.wrote.is-placed)
       ∙ (rw (edge, starts-drawn) at (sym (placed_same start room v.rule line.first 0 0 records)))
 
-  pub line-clipped : counts.clipped ≡ clippedIn area composed
-  unfolding clippedIn
+  pub line-clipped : counts.clipped ≡ clipped_in area composed
+  unfolding clipped_in
   line-clipped =
       (rw borrowed-length at w.wrote.is-clipped)
       ∙ (rw (edge, starts-drawn) at (sym (clipped-same start room v.rule line.first 0 0 records)))
@@ -97,24 +97,24 @@ module _ (v : LineCall) (start : ℕ) (part : List ℕ) (counts : GlyphCounts) (
   -- the glyphs written on the slice give the cell of the rule in column i of the row
   abbrev CellAgrees : ℕ → ℕ → Type 0
   CellAgrees i cell =
-      windowed start area (glyphsOn v.styles v.style room (startsOf v.rule 0 records)) i cell
-      ≡ lineOn v.styles v.style area composed i cell
+      windowed start area (glyphs_on v.styles v.style room (starts_of v.rule 0 records)) i cell
+      ≡ line_on v.styles v.style area composed i cell
 
-  cell-before : (i cell : ℕ) → i < start → CellAgrees i cell
-  unfolding lineOn
-  cell-before i cell p =
-      let glyphs : List Glyph = notOverWide v.rule (numbered v.rule.ambiguous line.first records) in
+  cell_before_lem : (i cell : ℕ) → i < start → CellAgrees i cell
+  unfolding line_on
+  cell_before_lem i cell p =
+      let glyphs : List Glyph = not_over_wide v.rule (numbered v.rule.ambiguous line.first records) in
       simp (within-before start area i p)
       (sym (rw starts-drawn at (glyphs-before v.styles v.style area (start + 0) glyphs i cell (omega arith))))
 
-  cell-borrowed : (i cell : ℕ) → i < area → start ≤ i → CellAgrees i cell
-  unfolding lineOn
-  cell-borrowed i cell h p =
+  cell_borrowed : (i cell : ℕ) → i < area → start ≤ i → CellAgrees i cell
+  unfolding line_on
+  cell_borrowed i cell h p =
       let e : start + (i - start) ≡ i = omega arith in
       simp (within-inside start area i p h)
       (rw (edge, starts-drawn, e) at (sym (glyphs-same start room v.rule line.first 0 0 records v.styles v.style (i - start) cell)))
 
-  pub line-drawn : take start v.row ++ (part ++ drop room (drop start v.row)) ≡ changed (lineOn v.styles v.style area composed) v.row
+  pub line-drawn : take start v.row ++ (part ++ drop room (drop start v.row)) ≡ changed (line_on v.styles v.style area composed) v.row
   line-drawn =
-      part-borrowed (glyphsOn v.styles v.style room (startsOf v.rule 0 records)) start area v.row part w.low (omega arith) (rw borrowed-length at w.wrote.cells)
-      ∙ changed-same _ _ v.row (λ i cell h. dite (dec_lt i start) (cell-before i cell) (λ n. cell-borrowed i cell h (omega (arith, n))))
+      part-borrowed (glyphs_on v.styles v.style room (starts_of v.rule 0 records)) start area v.row part w.low (omega arith) (rw borrowed-length at w.wrote.cells)
+      ∙ changed-same _ _ v.row (λ i cell h. dite (dec_lt i start) (cell_before_lem i cell) (λ n. cell_borrowed i cell h (omega (arith, n))))

@@ -6,7 +6,7 @@ use native.Mathlib.Omega.{arith}
 use lib.ListN.{length, take, drop}
 use Rattle.text.specs.Line.{total}
 use Rattle.layout.specs.declared.Rect.{Rect}
-use Rattle.layout.specs.Rect.{rightOf, bottomOf}
+use Rattle.layout.specs.Rect.{right_of, bottom_of}
 use Rattle.wrapping.specs.declared.Rule.{Rule}
 use Rattle.buffer.specs.declared.Screen.{Screen}
 use Rattle.buffer.specs.Drawing.{changed, drawn}
@@ -14,30 +14,30 @@ use Rattle.buffer.specs.PartsExtra.{in_row}
 use Rattle.buffer.proofs.Changed.{part_length}
 use Rattle.buffer.proofs.Rows.{row-borrowed, row_fits}
 use Rattle.line_composer.specs.declared.WrappedLine.{WrappedLine}
-use Rattle.line_composer.specs.Lines.{Line, wrappedLineOf, line_at}
+use Rattle.line_composer.specs.Lines.{Line, wrapped_line_of, line_at}
 use Rattle.line_composer.specs.ComposingExtra.{ReadsBack}
-use Rattle.render_line.specs.RenderLine.{lineOn, placedIn, clippedIn}
+use Rattle.render_line.specs.RenderLine.{line_on, placed_in, clipped_in}
 use Rattle.buffer.specs.PartsExtra.{AreaOnScreen}
 
 -- the width field of a composed line is the total width of its glyphs
-pub width-of-glyphs : (u : Rule) (text : List ℕ) (line : WrappedLine) → ReadsBack u text line → line.width ≡ total (line_at u text line).glyphs
-unfolding wrappedLineOf
-width-of-glyphs u text line t = ap (λ (x : WrappedLine). x.width) t.is
+pub width_of_glyphs : (u : Rule) (text : List ℕ) (line : WrappedLine) → ReadsBack u text line → line.width ≡ total (line_at u text line).glyphs
+unfolding wrapped_line_of
+width_of_glyphs u text line t = ap (λ (x : WrappedLine). x.width) t.is
 
 module _ (s : Screen) (n : ℕ) (r : Rect) (a : AreaOnScreen s n r) where
   -- right and bottom of an area on the screen don't saturate
-  pub right-sum : rightOf r ≡ r.x + r.width
-  right-sum = omega (arith, a.on-screen.right, a.few-columns)
+  pub right-sum : right_of r ≡ r.x + r.width
+  right-sum = omega (arith, a.on_screen.right, a.few-columns)
 
-  pub bottom-sum : bottomOf r ≡ r.y + r.height
-  bottom-sum = omega (arith, a.on-screen.bottom, a.few-rows)
+  pub bottom-sum : bottom_of r ≡ r.y + r.height
+  bottom-sum = omega (arith, a.on_screen.bottom, a.few-rows)
 
   -- a row of the area ends within the cells
-  pub row-end : (row : ℕ) → row < r.height → (r.y + row) * s.columns + rightOf r ≤ n
+  pub row-end : (row : ℕ) → row < r.height → (r.y + row) * s.columns + right_of r ≤ n
   row-end row h =
-      row_fits s.columns (rightOf r) (r.y + row) s.rows n a.on-screen.right (omega (arith, bottom-sum, a.on-screen.bottom)) a.on-screen.size
+      row_fits s.columns (right_of r) (r.y + row) s.rows n a.on_screen.right (omega (arith, bottom-sum, a.on_screen.bottom)) a.on_screen.size
 
-module _ (s : Screen) (r : Rect) (cells : List ℕ) (row right : ℕ) (a : AreaOnScreen s (length cells) r) (h : row < r.height) (e : right ≡ rightOf r) where
+module _ (s : Screen) (r : Rect) (cells : List ℕ) (row right : ℕ) (a : AreaOnScreen s (length cells) r) (h : row < r.height) (e : right ≡ right_of r) where
   -- the borrowed slice is as long as the area is wide
   part-width : length (take (((r.y + row) * s.columns + right) - ((r.y + row) * s.columns + r.x)) (drop ((r.y + row) * s.columns + r.x) cells)) ≡ r.width
   part-width =
@@ -46,22 +46,22 @@ module _ (s : Screen) (r : Rect) (cells : List ℕ) (row right : ℕ) (a : AreaO
       ∙ omega (arith, e, w)
 
   pub row-drawn : (styles : List ℕ) (style : ℕ) (line : Line) (part : List ℕ)
-      → part ≡ changed (lineOn styles style (length (take (((r.y + row) * s.columns + right) - ((r.y + row) * s.columns + r.x)) (drop ((r.y + row) * s.columns + r.x) cells))) line)
+      → part ≡ changed (line_on styles style (length (take (((r.y + row) * s.columns + right) - ((r.y + row) * s.columns + r.x)) (drop ((r.y + row) * s.columns + r.x) cells))) line)
       (take (((r.y + row) * s.columns + right) - ((r.y + row) * s.columns + r.x)) (drop ((r.y + row) * s.columns + r.x) cells))
       → take ((r.y + row) * s.columns + r.x) cells ++ (part ++ drop (((r.y + row) * s.columns + right) - ((r.y + row) * s.columns + r.x)) (drop ((r.y + row) * s.columns + r.x) cells))
-      ≡ drawn s.columns (in_row r.x (rightOf r) (r.y + row) (lineOn styles style r.width line)) cells
+      ≡ drawn s.columns (in_row r.x (right_of r) (r.y + row) (line_on styles style r.width line)) cells
   row-drawn styles style line part p =
       rw e
-      (row-borrowed s.columns r.x (rightOf r) (r.y + row) (lineOn styles style r.width line) cells part a.on-screen.columns
-      (omega (arith, right-sum s (length cells) r a)) a.on-screen.right (row-end s (length cells) r a row h)
+      (row-borrowed s.columns r.x (right_of r) (r.y + row) (line_on styles style r.width line) cells part a.on_screen.columns
+      (omega (arith, right-sum s (length cells) r a)) a.on_screen.right (row-end s (length cells) r a row h)
       (rw e at (rw part-width at p)))
 
   pub row-placed : (line : Line) (n : ℕ)
-      → n ≡ placedIn (length (take (((r.y + row) * s.columns + right) - ((r.y + row) * s.columns + r.x)) (drop ((r.y + row) * s.columns + r.x) cells))) line
-      → n ≡ placedIn r.width line
+      → n ≡ placed_in (length (take (((r.y + row) * s.columns + right) - ((r.y + row) * s.columns + r.x)) (drop ((r.y + row) * s.columns + r.x) cells))) line
+      → n ≡ placed_in r.width line
   row-placed line n p = rw part-width at p
 
   pub row-clipped : (line : Line) (n : ℕ)
-      → n ≡ clippedIn (length (take (((r.y + row) * s.columns + right) - ((r.y + row) * s.columns + r.x)) (drop ((r.y + row) * s.columns + r.x) cells))) line
-      → n ≡ clippedIn r.width line
+      → n ≡ clipped_in (length (take (((r.y + row) * s.columns + right) - ((r.y + row) * s.columns + r.x)) (drop ((r.y + row) * s.columns + r.x) cells))) line
+      → n ≡ clipped_in r.width line
   row-clipped line n p = rw part-width at p

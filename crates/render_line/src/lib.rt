@@ -1,13 +1,13 @@
 // Drawing of one composed line on a row of the text's area: paragraph.rs: `render_line` and `get_line_offset`.
 ghost use Rattle.std.specs.Prelude.{◌≡◌, ◌+◌, ◌≤◌, ◌<◌, length};
 ghost use Rattle.text.specs.Line.{total, FewRecords};
-ghost use Rattle.layout.specs.Rect.{rightOf};
+ghost use Rattle.layout.specs.Rect.{right_of};
 ghost use Rattle.buffer.specs.Drawing.{changed, drawn};
 ghost use Rattle.buffer.specs.PartsExtra.{in_row};
 ghost use Rattle.buffer.specs.PartsExtra.{AreaOnScreen};
 ghost use Rattle.line_composer.specs.Lines.{line_at};
 ghost use Rattle.line_composer.specs.ComposingExtra.{ReadsBack};
-ghost use Rattle.render_line.specs.RenderLine.{lineOffset, lineOn, placedIn, clippedIn};
+ghost use Rattle.render_line.specs.RenderLine.{line_offset, line_on, placed_in, clipped_in};
 
 use buffer::Screen;
 use layout::Rect;
@@ -19,7 +19,7 @@ use wrapping::Rule;
 
 // Returns the start column of a line, given the widths of the area and of the line (paragraph.rs: `get_line_offset`).
 fn get_line_offset(alignment: Alignment, area: usize, line: usize) -> usize
-    ensures { (result ≡ lineOffset alignment area line) × (result ≤ area) }
+    ensures { (result ≡ line_offset alignment area line) × (result ≤ area) }
 {
     match alignment {
         Alignment::Left => 0,
@@ -39,10 +39,10 @@ pub fn write_line(
 ) -> GlyphCounts
     requires first_le_end { (line.first ≤ line.end) × (line.end ≤ length text.now) × FewRecords text.now }
     requires width_value { line.width ≡ total (line_at rule text.now line).glyphs }
-    ensures cells { let change = lineOn styles.now style (length row.old) (line_at rule text.now line) in
+    ensures cells { let change = line_on styles.now style (length row.old) (line_at rule text.now line) in
         row.new ≡ changed change row.old }
-    ensures placed { result.placed ≡ placedIn (length row.old) (line_at rule text.now line) }
-    ensures clipped { result.clipped ≡ clippedIn (length row.old) (line_at rule text.now line) }
+    ensures placed { result.placed ≡ placed_in (length row.old) (line_at rule text.now line) }
+    ensures clipped { result.clipped ≡ clipped_in (length row.old) (line_at rule text.now line) }
 {
     let first = line.first;
     let end = line.end;
@@ -65,10 +65,10 @@ pub fn render_line(
 ) -> GlyphCounts
     requires reads_back { ReadsBack rule text.now line × FewRecords text.now × (row < area.height) }
     requires area_on_screen { AreaOnScreen screen (length cells.old) area }
-    ensures cells { let drawing = lineOn styles.now style area.width (line_at rule text.now line) in
-        cells.new ≡ drawn screen.columns (in_row area.x (rightOf area) (area.y + row) drawing) cells.old }
-    ensures placed { result.placed ≡ placedIn area.width (line_at rule text.now line) }
-    ensures clipped { result.clipped ≡ clippedIn area.width (line_at rule text.now line) }
+    ensures cells { let drawing = line_on styles.now style area.width (line_at rule text.now line) in
+        cells.new ≡ drawn screen.columns (in_row area.x (right_of area) (area.y + row) drawing) cells.old }
+    ensures placed { result.placed ≡ placed_in area.width (line_at rule text.now line) }
+    ensures clipped { result.clipped ≡ clipped_in area.width (line_at rule text.now line) }
 {
     let start_of_row = (area.y as usize + row as usize) * (screen.columns as usize);
     let start = start_of_row + (area.x as usize);

@@ -13,7 +13,7 @@ use Rattle.line_composer.specs.declared.LineComposer.{LineComposer}
 use Rattle.line_composer.specs.declared.NextLine.{NextLine}
 use Rattle.line_composer.specs.declared.NextLine.TheVariants.{OneLine, Done}
 use Rattle.line_composer.specs.Lines.{Line, line_at}
-use Rattle.line_composer.specs.ComposingExtra.{linesLeft, Ready, Started, PulledLine}
+use Rattle.line_composer.specs.ComposingExtra.{remaining_lines, Ready, Started, PulledLine}
 use Rattle.line_composer.proofs.Pulled.{pulled-left, pulled-ready, none_left}
 use Rattle.render_lines.specs.DrawingExtra.{ComposerAt}
 
@@ -31,31 +31,31 @@ drop_past n m all h e =
 pub record Skipping (u : Rule) (default : Alignment) (text : List ℕ) (n : ℕ) (first : LineComposer) (c : LineComposer) (i : ℕ) : Type 0 where
   pub reached : i ≤ n
   pub ready : Ready u text c
-  pub lines_left : linesLeft u default text c ≡ drop i (linesLeft u default text first)
+  pub lines_left : remaining_lines u default text c ≡ drop i (remaining_lines u default text first)
 
-pub skipping-starts : (u : Rule) (method : Method) (default : Alignment) (text : List ℕ) (n : ℕ) (c : LineComposer) → Started u method text c → Skipping u default text n c c 0
-skipping-starts u method default text n c s = record { reached = omega arith; ready = s.ready; lines_left = refl }
+pub skipping_starts : (u : Rule) (method : Method) (default : Alignment) (text : List ℕ) (n : ℕ) (c : LineComposer) → Started u method text c → Skipping u default text n c c 0
+skipping_starts u method default text n c s = record { reached = omega arith; ready = s.ready; lines_left = refl }
 
 module _ (u : Rule) (default : Alignment) (text : List ℕ) (n : ℕ) (first c : LineComposer) (i : ℕ) (s : Skipping u default text n first c i) where
-  pub skipping-goes : (o : NextLine) (line : WrappedLine) (d : LineComposer) → i < n → PulledLine u default text c o → o ≡ OneLine line d → Skipping u default text n first d (i + 1)
-  skipping-goes o line d h p e =
+  pub skipping_goes : (o : NextLine) (line : WrappedLine) (d : LineComposer) → i < n → PulledLine u default text c o → o ≡ OneLine line d → Skipping u default text n first d (i + 1)
+  skipping_goes o line d h p e =
       record {
         reached = omega arith;
         ready = pulled-ready u default text c o p line d e;
         lines_left = drop_more i _ _ (line_at u text line) (sym (pulled-left u default text c o p line d e) ∙ s.lines_left);
       }
 
-  pub skipping-short : (method : Method) (o : NextLine) → Started u method text first → PulledLine u default text c o → o ≡ Done → ComposerAt u method default text n c
-  skipping-short method o t p e =
-      let z : linesLeft u default text c ≡ [] = none_left u default text c o p e in
+  pub skipping_short : (method : Method) (o : NextLine) → Started u method text first → PulledLine u default text c o → o ≡ Done → ComposerAt u method default text n c
+  skipping_short method o t p e =
+      let z : remaining_lines u default text c ≡ [] = none_left u default text c o p e in
       record {
         ready = s.ready;
         lines_left = z ∙ drop_past i n _ s.reached (sym z ∙ s.lines_left) ∙ ap (drop n) (t.lines_left default);
       }
 
-  pub skipping-done : (method : Method) → Started u method text first → n ≤ i → ComposerAt u method default text n c
-  skipping-done method t h =
+  pub skipping_done : (method : Method) → Started u method text first → n ≤ i → ComposerAt u method default text n c
+  skipping_done method t h =
       let e : i ≡ n = omega (arith, s.reached) in
-      record { ready = s.ready; lines_left = s.lines_left ∙ ap (λ (k : ℕ). drop k (linesLeft u default text first)) e ∙ ap (drop n) (t.lines_left default) }
+      record { ready = s.ready; lines_left = s.lines_left ∙ ap (λ (k : ℕ). drop k (remaining_lines u default text first)) e ∙ ap (drop n) (t.lines_left default) }
 
-pub ruleset skipping = (skipping-starts, skipping-goes, skipping-short, skipping-done)
+pub ruleset skipping = (skipping_starts, skipping_goes, skipping_short, skipping_done)

@@ -6,7 +6,7 @@ use Rattle.wrapping.specs.declared.Rule.{Rule}
 use Rattle.line_composer.specs.declared.Method.{Method}
 use Rattle.line_composer.specs.declared.LineComposer.{LineComposer}
 use Rattle.line_composer.specs.Lines.{Line, lines}
-use Rattle.line_composer.specs.ComposingExtra.{linesLeft, Ready}
+use Rattle.line_composer.specs.ComposingExtra.{remaining_lines, Ready}
 use Rattle.render_lines.specs.declared.TextOptions.{TextOptions}
 
 -- precondition of composing: the text is empty or opens with a head, and isn't too long
@@ -17,8 +17,8 @@ pub record Composable (text : List ℕ) : Type 0 where
 -- a composer positioned before line n of a text
 pub record ComposerAt (u : Rule) (method : Method) (default : Alignment) (text : List ℕ) (n : ℕ) (c : LineComposer) : Type 0 where
   pub ready : Ready u text c
-  pub lines_left : linesLeft u default text c ≡ drop n (lines u method default text)
+  pub lines_left : remaining_lines u default text c ≡ drop n (lines u method default text)
 
 -- the composed lines of a text under the options
-abbrev pub linesFor : TextOptions → List ℕ → List Line
-linesFor options text = lines options.rule options.method options.default_alignment text
+abbrev pub lines_for : TextOptions → List ℕ → List Line
+lines_for options text = lines options.rule options.method options.default_alignment text

@@ -2,8 +2,8 @@
 ghost use Rattle.std.specs.Prelude.{◌≡◌, length};
 ghost use Rattle.buffer.specs.Drawing.{drawn};
 ghost use Rattle.buffer.specs.PartsExtra.{AreaOnScreen};
-ghost use Rattle.render_lines.specs.Rows.{textOn, rowsDrawn, placedOn, clippedOn};
-ghost use Rattle.render_lines.specs.DrawingExtra.{Composable, ComposerAt, linesFor};
+ghost use Rattle.render_lines.specs.Rows.{text_on, rows_drawn, placed_on, clipped_on};
+ghost use Rattle.render_lines.specs.DrawingExtra.{Composable, ComposerAt, lines_for};
 
 use buffer::Screen;
 use layout::Rect;
@@ -63,11 +63,11 @@ pub fn render_lines(
 ) -> DrawCounts
     requires composable { Composable text.now }
     requires area_on_screen { AreaOnScreen screen (length cells.old) area }
-    ensures cells { let drawing = textOn styles.now options.style (linesFor options text.now) area options.scroll in
+    ensures cells { let drawing = text_on styles.now options.style (lines_for options text.now) area options.scroll in
         cells.new ≡ drawn screen.columns drawing cells.old }
-    ensures rows { result.rows ≡ rowsDrawn (linesFor options text.now) area options.scroll }
-    ensures placed { result.placed ≡ placedOn (linesFor options text.now) area options.scroll }
-    ensures clipped { result.clipped ≡ clippedOn (linesFor options text.now) area options.scroll }
+    ensures rows { result.rows ≡ rows_drawn (lines_for options text.now) area options.scroll }
+    ensures placed { result.placed ≡ placed_on (lines_for options text.now) area options.scroll }
+    ensures clipped { result.clipped ≡ clipped_on (lines_for options text.now) area options.scroll }
 {
     let rule = options.rule;
     let method = options.method;

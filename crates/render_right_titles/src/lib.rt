@@ -2,11 +2,11 @@
 ghost use Rattle.std.specs.Prelude.{◌≡◌, reverse, ◌<◌, length};
 ghost use Rattle.text.specs.declared.Alignment.TheVariants.{Right};
 ghost use Rattle.buffer.specs.Drawing.{drawn};
-ghost use Rattle.title_glyphs.specs.TitleGlyphs.{titleGlyphs};
-ghost use Rattle.title.specs.Title.{titleLineWidth};
+ghost use Rattle.title_glyphs.specs.TitleGlyphs.{glyphs_of_title};
+ghost use Rattle.title.specs.Title.{title_line_width};
 ghost use Rattle.title.specs.FittingExtra.{TitleArea};
-ghost use Rattle.titles.specs.Titles.{titlesFrom, filteredTitles, placedAsGiven, titleDrawn, titlesDrawn, rightPart, beforeTitle, rightTitles};
-ghost use Rattle.titles.specs.PlacingExtra.{AreaFits, titlesOf, titleOf, MovedBack};
+ghost use Rattle.titles.specs.Titles.{titles_from, filtered_titles, placed_as_given, title_drawn, titles_drawn, right_part, before_title, right_titles};
+ghost use Rattle.titles.specs.PlacingExtra.{AreaFits, titles_of, title_of, MovedBack};
 
 use block::Block;
 use buffer::Screen;
@@ -16,7 +16,7 @@ use titles::{Group, heads};
 
 // Returns the area remaining before a title of this width at the right end and the column between titles.
 fn before_title(area: Rect, width: u16) -> Rect
-    ensures { result ≡ beforeTitle width area }
+    ensures { result ≡ before_title width area }
 {
     Rect {
         x: area.x,
@@ -28,7 +28,7 @@ fn before_title(area: Rect, width: u16) -> Rect
 
 // Returns the right part of an area, for a title of this width.
 fn right_part(area: Rect, width: u16) -> Rect
-    ensures { result ≡ rightPart width area }
+    ensures { result ≡ right_part width area }
 {
     Rect {
         x: num::max(num::saturating_sub(area.right(), width), area.x),
@@ -50,9 +50,9 @@ fn render_title_before(
     ambiguous: AmbiguousWidth,
 ) -> Rect
     requires { TitleArea screen (length cells.old) area }
-    ensures left { result ≡ beforeTitle (titleLineWidth (titleGlyphs ambiguous glyphs.now)) area }
-    ensures drawn { let part = rightPart (titleLineWidth (titleGlyphs ambiguous glyphs.now)) area in
-        let drawing = titleDrawn styles.now block (placedAsGiven part (titleOf ambiguous word glyphs.now)) in
+    ensures left { result ≡ before_title (title_line_width (glyphs_of_title ambiguous glyphs.now)) area }
+    ensures drawn { let part = right_part (title_line_width (glyphs_of_title ambiguous glyphs.now)) area in
+        let drawing = title_drawn styles.now block (placed_as_given part (title_of ambiguous word glyphs.now)) in
         cells.new ≡ drawn screen.columns drawing cells.old }
 {
     let width = title::line_width_u16(glyphs, ambiguous);
@@ -84,7 +84,7 @@ fn render_previous_title(
     ambiguous: AmbiguousWidth,
 ) -> Rect
     requires { AreaFits screen (length cells.old) area × (0 < screen.columns) }
-    ensures { let title = titleOf ambiguous word glyphs.now in
+    ensures { let title = title_of ambiguous word glyphs.now in
         MovedBack screen styles.now block group title area cells.old result cells.new }
 {
     if area.is_empty() {
@@ -109,8 +109,8 @@ fn render_titles_backward(
 )
     requires columns_nonzero { 0 < screen.columns }
     requires area_fits { AreaFits screen (length cells.old) area }
-    ensures { let all = titlesFrom ambiguous titles.now in
-        let drawing = titlesDrawn styles.now block (rightTitles area (reverse (titlesOf block group all))) in
+    ensures { let all = titles_from ambiguous titles.now in
+        let drawing = titles_drawn styles.now block (right_titles area (reverse (titles_of block group all))) in
         cells.new ≡ drawn screen.columns drawing cells.old }
 {
     let first = line::line_length(titles);
@@ -147,8 +147,8 @@ pub fn render_right_titles(
 )
     requires columns_nonzero { 0 < screen.columns }
     requires area_fits { AreaFits screen (length cells.old) area }
-    ensures { let all = titlesFrom ambiguous titles.now in
-        let drawing = titlesDrawn styles.now block (rightTitles area (reverse (filteredTitles block position Right all))) in
+    ensures { let all = titles_from ambiguous titles.now in
+        let drawing = titles_drawn styles.now block (right_titles area (reverse (filtered_titles block position Right all))) in
         cells.new ≡ drawn screen.columns drawing cells.old }
 {
     let group = Group {

@@ -4,7 +4,7 @@ ghost use Rattle.layout.specs.Rect.{is_empty};
 ghost use Rattle.buffer.specs.Drawing.{drawn};
 ghost use Rattle.buffer.specs.PartsExtra.{AreaOnScreen};
 ghost use Rattle.render_lines.specs.DrawingExtra.{Composable};
-ghost use Rattle.render_text.specs.SettingsExtra.{textOptionsOf, linesOn, linesCounted};
+ghost use Rattle.render_text.specs.SettingsExtra.{text_options_of, lines_on, lines_counted};
 
 use buffer::{Ink, Screen};
 use layout::Rect;
@@ -27,7 +27,7 @@ pub struct TextSettings {
 
 // Returns the options that `render_lines` takes, at a width.
 fn text_options(notice: TextSettings, width: u16) -> TextOptions
-    ensures { result ≡ textOptionsOf notice width }
+    ensures { result ≡ text_options_of notice width }
 {
     let limit = width as usize;
     let default_alignment = notice.alignment;
@@ -72,9 +72,9 @@ pub fn render_text(
 ) -> DrawCounts
     requires composable { Composable text.now × (is_empty inner ≡ false) }
     requires area_on_screen { AreaOnScreen screen (length cells.old) inner }
-    ensures cells { let drawing = linesOn styles.now text.now notice inner in
+    ensures cells { let drawing = lines_on styles.now text.now notice inner in
         cells.new ≡ drawn screen.columns drawing cells.old }
-    ensures counts { result ≡ linesCounted text.now notice inner }
+    ensures counts { result ≡ lines_counted text.now notice inner }
 {
     let ink = Ink::Style(buffer::style_at(styles, notice.style));
     buffer::paint_area(screen, cells, inner, ink);

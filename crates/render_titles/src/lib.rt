@@ -4,7 +4,7 @@ ghost use Rattle.text.specs.Line.{Opens};
 ghost use Rattle.layout.specs.Rect.{is_empty};
 ghost use Rattle.buffer.specs.Drawing.{drawn};
 ghost use Rattle.buffer.specs.PartsExtra.{OnScreen};
-ghost use Rattle.titles.specs.Titles.{titlesFrom, titlesDrawn, titlesRow, titlesArea, groupsIn, titlesAt, titlesOn};
+ghost use Rattle.titles.specs.Titles.{titles_from, titles_drawn, titles_row, titles_area, groups_in, titles_at, titles_on};
 ghost use Rattle.titles.specs.PlacingExtra.{AreaFits};
 
 use block::Block;
@@ -14,7 +14,7 @@ use text::{AmbiguousWidth, TitlePosition};
 
 // Returns the row of the titles at a position.
 fn titles_row(position: TitlePosition, area: Rect) -> u16
-    ensures { result ≡ titlesRow position area }
+    ensures { result ≡ titles_row position area }
 {
     match position {
         TitlePosition::Top => area.y,
@@ -24,7 +24,7 @@ fn titles_row(position: TitlePosition, area: Rect) -> u16
 
 // Returns the titles area at a position (block.rs: `Block::titles_area`).
 fn titles_area(block: Block, position: TitlePosition, area: Rect) -> Rect
-    ensures { result ≡ titlesArea block position area }
+    ensures { result ≡ titles_area block position area }
 {
     let on = block.borders;
     let left = block::inner_area::cells_taken(on.left);
@@ -50,7 +50,7 @@ fn render_in_titles_area(
 )
     requires columns_nonzero { (0 < screen.columns) × Opens titles.now × (area.height ≡ 1) }
     requires area_fits { AreaFits screen (length cells.old) area }
-    ensures { let drawing = titlesDrawn styles.now block (groupsIn block position area (titlesFrom ambiguous titles.now)) in
+    ensures { let drawing = titles_drawn styles.now block (groups_in block position area (titles_from ambiguous titles.now)) in
         cells.new ≡ drawn screen.columns drawing cells.old }
 {
     render_left_center_titles::render_left_titles(
@@ -77,7 +77,7 @@ fn render_title_position(
 )
     requires met_value { (is_empty met ≡ false) × (screen.columns < 2 ^ 15) × (screen.rows < 2 ^ 15) × Opens titles.now }
     requires on_screen { OnScreen screen (length cells.old) met }
-    ensures { let drawing = titlesDrawn styles.now block (titlesAt block position met (titlesFrom ambiguous titles.now)) in
+    ensures { let drawing = titles_drawn styles.now block (titles_at block position met (titles_from ambiguous titles.now)) in
         cells.new ≡ drawn screen.columns drawing cells.old }
 {
     let area = titles_area(block, position, met);
@@ -98,7 +98,7 @@ pub fn render_titles(
 )
     requires met_value { (is_empty met ≡ false) × (screen.columns < 2 ^ 15) × (screen.rows < 2 ^ 15) × Opens titles.now }
     requires on_screen { OnScreen screen (length cells.old) met }
-    ensures { let drawing = titlesOn styles.now block met (titlesFrom ambiguous titles.now) in
+    ensures { let drawing = titles_on styles.now block met (titles_from ambiguous titles.now) in
         cells.new ≡ drawn screen.columns drawing cells.old }
 {
     render_title_position(

@@ -10,7 +10,7 @@ use borrow.Author.Tests.{eqb-true}
 use lib.Dec.{eqb}
 use lib.IntN.{ℤ}
 use Rattle.num.specs.Held.{held}
-use Rattle.cell.specs.Cell.{withSymbol}
+use Rattle.cell.specs.Cell.{with_symbol}
 use Rattle.layout.specs.declared.Rect.{Rect}
 use Rattle.layout.specs.Rect.{is_empty, within, contains}
 use Rattle.block.specs.declared.Effect.{Effect}
@@ -20,11 +20,11 @@ use Rattle.block.specs.declared.Shadow.TheVariants.{Absent, Present}
 use Rattle.buffer.specs.declared.Screen.{Screen}
 use Rattle.buffer.specs.Drawing.{Drawing, over, sparing}
 use Rattle.buffer.proofs.Over.{over-empty, sparing-inside, sparing-outside}
-use Rattle.shadow.specs.Shadow.{shadowArea, onlyOutside, effect_of, shadowOf}
+use Rattle.shadow.specs.Shadow.{shadow_area, only_outside, effect_of, shadow_of}
 
 -- a cell that a drawing doesn't change isn't changed by the drawing that spares a rectangle either
-sparing-leaves : (r : Rect) (d : Drawing) (column row cell : ℕ) → d column row cell ≡ cell → sparing r d column row cell ≡ cell
-sparing-leaves r d column row cell h = go (contains r column row) refl
+sparing_leaves : (r : Rect) (d : Drawing) (column row cell : ℕ) → d column row cell ≡ cell → sparing r d column row cell ≡ cell
+sparing_leaves r d column row cell h = go (contains r column row) refl
   where
     go : (b : Bool) → contains r column row ≡ b → sparing r d column row cell ≡ cell
     go true e = sparing-inside r d column row cell e
@@ -32,31 +32,31 @@ sparing-leaves r d column row cell h = go (contains r column row) refl
 
 -- no drawing on a shadow's cells changes this cell
 abbrev Unchanged : Rect → Rect → ℕ → ℕ → Type 0
-Unchanged base area column row = (f : ℕ → ℕ) (cell : ℕ) → onlyOutside base area f column row cell ≡ cell
+Unchanged base area column row = (f : ℕ → ℕ) (cell : ℕ) → only_outside base area f column row cell ≡ cell
 
 -- then the shadow's effect doesn't change it
-effect-leaves : (base area : Rect) (effect : Effect) (column row cell : ℕ) → Unchanged base area column row → effect_of base area effect column row cell ≡ cell
-effect-leaves base area Overlay column row cell h = refl
-effect-leaves base area (Symbol symbol) column row cell h = h (withSymbol symbol) cell
+effect_leaves : (base area : Rect) (effect : Effect) (column row cell : ℕ) → Unchanged base area column row → effect_of base area effect column row cell ≡ cell
+effect_leaves base area Overlay column row cell h = refl
+effect_leaves base area (Symbol symbol) column row cell h = h (with_symbol symbol) cell
 
 -- and neither does the shadow
-present-leaves : (styles : List ℕ) (screen : Screen) (base : Rect) (effect : Effect) (style : ℕ) (x y : ℤ) (column row cell : ℕ)
-    → Unchanged base (shadowArea screen base x y) column row → shadowOf styles screen base (Present effect style x y) column row cell ≡ cell
-unfolding shadowOf
-present-leaves styles screen base effect style x y column row cell h =
-    effect-leaves base (shadowArea screen base x y) effect column row _ h ∙ h _ cell
+present_leaves : (styles : List ℕ) (screen : Screen) (base : Rect) (effect : Effect) (style : ℕ) (x y : ℤ) (column row cell : ℕ)
+    → Unchanged base (shadow_area screen base x y) column row → shadow_of styles screen base (Present effect style x y) column row cell ≡ cell
+unfolding shadow_of
+present_leaves styles screen base effect style x y column row cell h =
+    effect_leaves base (shadow_area screen base x y) effect column row _ h ∙ h _ cell
 
 -- a shadow doesn't change the block's own cells
-pub shadow-spares : (styles : List ℕ) (screen : Screen) (base : Rect) (shadow : Shadow) (column row cell : ℕ) → contains base column row ≡ true
-    → shadowOf styles screen base shadow column row cell ≡ cell
-unfolding shadowOf
-shadow-spares styles screen base Absent column row cell h = refl
-shadow-spares styles screen base (Present effect style x y) column row cell h =
-    present-leaves styles screen base effect style x y column row cell (λ f c. sparing-inside base _ column row c h)
+pub shadow_spares : (styles : List ℕ) (screen : Screen) (base : Rect) (shadow : Shadow) (column row cell : ℕ) → contains base column row ≡ true
+    → shadow_of styles screen base shadow column row cell ≡ cell
+unfolding shadow_of
+shadow_spares styles screen base Absent column row cell h = refl
+shadow_spares styles screen base (Present effect style x y) column row cell h =
+    present_leaves styles screen base effect style x y column row cell (λ f c. sparing-inside base _ column row c h)
 
 -- a shadow whose area is empty changes no cell
-pub shadow-empty : (styles : List ℕ) (screen : Screen) (base : Rect) (effect : Effect) (style : ℕ) (x y : ℤ) (column row cell : ℕ)
-    → is_empty (shadowArea screen base x y) ≡ true → shadowOf styles screen base (Present effect style x y) column row cell ≡ cell
-shadow-empty styles screen base effect style x y column row cell h =
-    present-leaves styles screen base effect style x y column row cell
-    (λ f c. sparing-leaves base _ column row c (over-empty (shadowArea screen base x y) f column row c h))
+pub shadow_empty : (styles : List ℕ) (screen : Screen) (base : Rect) (effect : Effect) (style : ℕ) (x y : ℤ) (column row cell : ℕ)
+    → is_empty (shadow_area screen base x y) ≡ true → shadow_of styles screen base (Present effect style x y) column row cell ≡ cell
+shadow_empty styles screen base effect style x y column row cell h =
+    present_leaves styles screen base effect style x y column row cell
+    (λ f c. sparing_leaves base _ column row c (over-empty (shadow_area screen base x y) f column row c h))

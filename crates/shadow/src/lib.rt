@@ -1,9 +1,9 @@
 // Drawing of a block's shadow (block/shadow.rs).
 ghost use Rattle.std.specs.Prelude.{◌≡◌, [], ◌∷◌, length};
 ghost use Rattle.cell.specs.Cell.{styled};
-ghost use Rattle.buffer.specs.Drawing.{drawn, inOrder};
+ghost use Rattle.buffer.specs.Drawing.{drawn, in_order};
 ghost use Rattle.buffer.specs.PartsExtra.{OnScreen};
-ghost use Rattle.shadow.specs.Shadow.{shadowArea, onlyOutside, effect_of, shadowOf};
+ghost use Rattle.shadow.specs.Shadow.{shadow_area, only_outside, effect_of, shadow_of};
 ghost use Rattle.shadow.specs.FittingExtra.{EffectFits, ShadowFits};
 
 use block::{Effect, Shadow};
@@ -33,7 +33,7 @@ fn render_shadow_cells(
 )
     requires effect_fits { EffectFits effect }
     requires on_screen { OnScreen screen (length cells.old) base × OnScreen screen (length cells.old) area }
-    ensures { let drawing = inOrder (onlyOutside base area (styled style) ∷ effect_of base area effect ∷ []) in
+    ensures { let drawing = in_order (only_outside base area (styled style) ∷ effect_of base area effect ∷ []) in
         cells.new ≡ drawn screen.columns drawing cells.old }
 {
     paint_outside::paint_outside(screen, cells, base, area, Ink::Style(style));
@@ -42,7 +42,7 @@ fn render_shadow_cells(
 
 // Returns the intersection of the block's area, moved by the shadow's offset, with the screen.
 fn shadow_area(screen: Screen, base: Rect, x: i32, y: i32) -> Rect
-    ensures { result ≡ shadowArea screen base x y }
+    ensures { result ≡ shadow_area screen base x y }
 {
     base.offset(x, y).intersection(screen.area())
 }
@@ -51,7 +51,7 @@ fn shadow_area(screen: Screen, base: Rect, x: i32, y: i32) -> Rect
 pub fn render_shadow(screen: Screen, cells: &mut [u64], styles: &[u64], base: Rect, shadow: Shadow)
     requires shadow_fits { ShadowFits shadow }
     requires on_screen { OnScreen screen (length cells.old) base }
-    ensures { cells.new ≡ drawn screen.columns (shadowOf styles.now screen base shadow) cells.old }
+    ensures { cells.new ≡ drawn screen.columns (shadow_of styles.now screen base shadow) cells.old }
 {
     let Shadow::Present {
         effect,

@@ -1,6 +1,6 @@
 // Style, 64 bits: foreground given 1 | foreground 8 | background given 1 | background 8 | add 9 | remove 9 | 28 zeros.
 ghost use Rattle.std.specs.Prelude.{◌≡◌, cond, ◌<◌, ◌^◌};
-ghost use Rattle.style.specs.Style.{Style, styleFrom, stylePacked};
+ghost use Rattle.style.specs.Style.{Style, style_from, style_packed};
 
 // Number of values of a field.
 pub const COLOURS: u64 = 1 << 8;
@@ -21,43 +21,43 @@ const ADD_PLACE: u64 = 1 << 37;
 pub const REMOVE_PLACE: u64 = 1 << 28;
 
 pub fn foreground_given(style: u64) -> bool
-    ensures { result ≡ (styleFrom style).foregroundGiven }
+    ensures { result ≡ (style_from style).foreground_given }
 {
     style / FOREGROUND_GIVEN_PLACE % 2 == 1
 }
 
 pub fn foreground(style: u64) -> u64
-    ensures { result ≡ (styleFrom style).foreground }
+    ensures { result ≡ (style_from style).foreground }
 {
     style / FOREGROUND_PLACE % COLOURS
 }
 
 pub fn background_given(style: u64) -> bool
-    ensures { result ≡ (styleFrom style).backgroundGiven }
+    ensures { result ≡ (style_from style).background_given }
 {
     style / BACKGROUND_GIVEN_PLACE % 2 == 1
 }
 
 pub fn background(style: u64) -> u64
-    ensures { result ≡ (styleFrom style).background }
+    ensures { result ≡ (style_from style).background }
 {
     style / BACKGROUND_PLACE % COLOURS
 }
 
 pub fn add(style: u64) -> u64
-    ensures { result ≡ (styleFrom style).add }
+    ensures { result ≡ (style_from style).add }
 {
     style / ADD_PLACE % MODIFIERS
 }
 
 pub fn remove(style: u64) -> u64
-    ensures { result ≡ (styleFrom style).remove }
+    ensures { result ≡ (style_from style).remove }
 {
     style / REMOVE_PLACE % MODIFIERS
 }
 
 pub fn zeros(style: u64) -> u64
-    ensures { result ≡ (styleFrom style).zeros }
+    ensures { result ≡ (style_from style).zeros }
 {
     style % REMOVE_PLACE
 }
@@ -79,10 +79,10 @@ pub fn pack(
     remove: u64,
 ) -> u64
     requires { (foreground < 2 ^ 8) × (background < 2 ^ 8) × (add < 2 ^ 9) × (remove < 2 ^ 9) }
-    ensures { result ≡ stylePacked (record {
-      foregroundGiven = foreground_given;
+    ensures { result ≡ style_packed (record {
+      foreground_given = foreground_given;
       foreground = foreground;
-      backgroundGiven = background_given;
+      background_given = background_given;
       background = background;
       add = add;
       remove = remove;

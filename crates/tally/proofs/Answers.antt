@@ -4,34 +4,34 @@ use Rattle.refuse.specs.declared.Ceilings.{Ceilings}
 use Rattle.refuse.specs.declared.Refusal.{Refusal}
 use Rattle.refuse.specs.declared.Verdict.{Verdict}
 use Rattle.refuse.specs.declared.Verdict.TheVariants.{Accepted, Refused as RefusedFor}
-use Rattle.refuse.specs.Refusal.{firstCause, verdictNumber}
-use Rattle.refuse.specs.Causes.{mostAccepted, textCauses, lineCauses}
-use Rattle.refuse.proofs.Calls.{answer-refused, answer-accepted, answered-number, answered-value}
+use Rattle.refuse.specs.Refusal.{first_cause, verdict_number}
+use Rattle.refuse.specs.Causes.{most_accepted, text_causes, line_causes}
+use Rattle.refuse.proofs.Calls.{answer_refused, answer_accepted, answered-number, answered_value}
 use Rattle.refuse.proofs.Lowest.{InOrder, in_order}
 use Rattle.tally.specs.declared.TallyCounts.{TallyCounts}
 use Rattle.tally.specs.declared.TallyAnswer.TheVariants.{Counted, Refused}
-use Rattle.tally.specs.Tally.{noCounts, tally_of}
-use Rattle.tally.specs.Call.{Call, ruleIn, causesOf, verdictOf, answer_of, countsOf, tallyAnswerNumber, tallyAnswerCounts}
+use Rattle.tally.specs.Tally.{no_counts, tally_of}
+use Rattle.tally.specs.Call.{Call, rule_in, causes_of, verdict_of, answer_of, counts_of, tally_answer_number, tally_answer_counts}
 
 -- a call is refused if and only if a cause holds, and for the lowest such cause
-pub lowest-first : (most : Ceilings) (call : Call) → InOrder (causesOf most call)
-unfolding causesOf lineCauses textCauses
-lowest-first most call = in_order (causesOf most call) refl
+pub lowest-first : (most : Ceilings) (call : Call) → InOrder (causes_of most call)
+unfolding causes_of line_causes text_causes
+lowest-first most call = in_order (causes_of most call) refl
 
-pub answer-number : (call : Call) → tallyAnswerNumber (answer_of call) ≡ verdictNumber (verdictOf call)
+pub answer_number : (call : Call) → tally_answer_number (answer_of call) ≡ verdict_number (verdict_of call)
 unfolding answer_of
-answer-number call = answered-number Counted Refused tallyAnswerNumber (λ counts. refl) (λ why. refl) (verdictOf call) (tally_of (ruleIn call) call.text)
+answer_number call = answered-number Counted Refused tally_answer_number (λ counts. refl) (λ why. refl) (verdict_of call) (tally_of (rule_in call) call.text)
 
-pub answer-counts : (call : Call) → tallyAnswerCounts (answer_of call) ≡ countsOf call
-unfolding answer_of countsOf
-answer-counts call = answered-value Counted Refused tallyAnswerCounts (λ counts. counts) noCounts (λ counts. refl) (λ why. refl) (verdictOf call) (tally_of (ruleIn call) call.text)
+pub answer_counts : (call : Call) → tally_answer_counts (answer_of call) ≡ counts_of call
+unfolding answer_of counts_of
+answer_counts call = answered_value Counted Refused tally_answer_counts (λ counts. counts) no_counts (λ counts. refl) (λ why. refl) (verdict_of call) (tally_of (rule_in call) call.text)
 
 -- v is the verdict of the checks
-module _ (call : Call) (v : Verdict) (e : v ≡ firstCause (lineCauses mostAccepted call.text call.limit)) where
-  pub tally-refused : (why : Refusal) → v ≡ RefusedFor why → Refused why ≡ answer_of call
-  unfolding verdictOf causesOf answer_of
-  tally-refused why r = answer-refused Counted Refused (verdictOf call) (tally_of (ruleIn call) call.text) why (sym e ∙ r)
+module _ (call : Call) (v : Verdict) (e : v ≡ first_cause (line_causes most_accepted call.text call.limit)) where
+  pub tally_refused : (why : Refusal) → v ≡ RefusedFor why → Refused why ≡ answer_of call
+  unfolding verdict_of causes_of answer_of
+  tally_refused why r = answer_refused Counted Refused (verdict_of call) (tally_of (rule_in call) call.text) why (sym e ∙ r)
 
-  pub tally-counted : v ≡ Accepted → (c : TallyCounts) → c ≡ tally_of (ruleIn call) call.text → Counted c ≡ answer_of call
-  unfolding verdictOf causesOf answer_of
-  tally-counted a c p = answer-accepted Counted Refused (verdictOf call) (tally_of (ruleIn call) call.text) (sym e ∙ a) c p
+  pub tally_counted : v ≡ Accepted → (c : TallyCounts) → c ≡ tally_of (rule_in call) call.text → Counted c ≡ answer_of call
+  unfolding verdict_of causes_of answer_of
+  tally_counted a c p = answer_accepted Counted Refused (verdict_of call) (tally_of (rule_in call) call.text) (sym e ∙ a) c p

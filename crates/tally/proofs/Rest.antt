@@ -9,23 +9,23 @@ use Rattle.text.specs.Line.{Opens}
 use Rattle.wrapping.specs.declared.Rule.{Rule}
 use Rattle.line_composer.specs.Lines.{dropped}
 use Rattle.tally_lines.specs.declared.LineCounts.{LineCounts}
-use Rattle.tally_lines.specs.TallyingExtra.{lineCounts}
+use Rattle.tally_lines.specs.TallyingExtra.{line_counts}
 use Rattle.tally.specs.declared.TextGlyphCounts.{TextGlyphCounts}
-use Rattle.tally.specs.Tally.{noCounts, composed, tally_of}
-use Rattle.tally.specs.TallyingExtra.{glyphCounts}
+use Rattle.tally.specs.Tally.{no_counts, composed, tally_of}
+use Rattle.tally.specs.TallyingExtra.{glyph_counts}
 use Rattle.tally.proofs.EveryGlyph.{skipped-glyphs, counts}
 
 module _ (u : Rule) (text : List ℕ) where
   -- "all 0 at limit 0"
-  pub limit-none : u.limit ≡ 0 → noCounts ≡ tally_of u text
+  pub limit-none : u.limit ≡ 0 → no_counts ≡ tally_of u text
   unfolding tally_of
   limit-none e = simp (eq-eqb u.limit 0 e)
 
   module _ (n : u.limit ≡ 0 → ⊥) (o : Opens text) (l : LineCounts) (g : TextGlyphCounts)
-      (e : l ≡ lineCounts u.limit (composed u text)) (f : g ≡ glyphCounts u text) where
+      (e : l ≡ line_counts u.limit (composed u text)) (f : g ≡ glyph_counts u text) where
     -- placed, clipped, zero-width, over-wide and dropped glyphs are all glyphs
     parts : l.placed + l.clipped + l.zero_width + g.over_wide + length (dropped u text) ≡ g.glyphs
-    unfolding tally_of lineCounts glyphCounts
+    unfolding tally_of line_counts glyph_counts
     parts = rw (e, f, skipped-glyphs u text o) (rw (ne_eqb u.limit 0 n) at (counts u text o (omega arith)))
 
     pub over-wide-part : g.over_wide ≤ g.glyphs
@@ -37,8 +37,8 @@ module _ (u : Rule) (text : List ℕ) where
     pub clipped-part : l.clipped ≤ g.glyphs - g.over_wide - l.placed
     clipped-part = omega (arith, parts)
 
-    pub zero-width-part : l.zero_width ≤ g.glyphs - g.over_wide - l.placed - l.clipped
-    zero-width-part = omega (arith, parts)
+    pub zero_width-part : l.zero_width ≤ g.glyphs - g.over_wide - l.placed - l.clipped
+    zero_width-part = omega (arith, parts)
 
     pub all-parts :
         record {
@@ -50,9 +50,9 @@ module _ (u : Rule) (text : List ℕ) where
           dropped = g.glyphs - g.over_wide - l.placed - l.clipped - l.zero_width;
         }
         ≡ tally_of u text
-    unfolding tally_of lineCounts glyphCounts
+    unfolding tally_of line_counts glyph_counts
     all-parts =
         let d : g.glyphs - g.over_wide - l.placed - l.clipped - l.zero_width ≡ length (dropped u text) = omega (arith, parts) in
         rw (d, e, f, skipped-glyphs u text o, ne_eqb u.limit 0 n)
 
-pub ruleset rest = (limit-none, over-wide-part, placed-part, clipped-part, zero-width-part, all-parts)
+pub ruleset rest = (limit-none, over-wide-part, placed-part, clipped-part, zero_width-part, all-parts)

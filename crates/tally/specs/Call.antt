@@ -4,14 +4,14 @@ use Rattle.std.specs.Prelude.{ℕ, Bool, List}
 use Rattle.text.specs.declared.AmbiguousWidth.{AmbiguousWidth}
 use Rattle.refuse.specs.declared.Ceilings.{Ceilings}
 use Rattle.refuse.specs.declared.Verdict.{Verdict}
-use Rattle.refuse.specs.Refusal.{Cause, firstCause, refusalNumber, answering, unlessRefused}
-use Rattle.refuse.specs.Causes.{mostAccepted, lineCauses}
+use Rattle.refuse.specs.Refusal.{Cause, first_cause, refusal_number, answering, unless_refused}
+use Rattle.refuse.specs.Causes.{most_accepted, line_causes}
 use Rattle.wrapping.specs.declared.Rule.{Rule}
-use Rattle.wrapping.specs.Rule.{ruleOf}
+use Rattle.wrapping.specs.Rule.{rule_of}
 use Rattle.tally.specs.declared.TallyCounts.{TallyCounts}
 use Rattle.tally.specs.declared.TallyAnswer.{TallyAnswer}
 use Rattle.tally.specs.declared.TallyAnswer.TheVariants.{Counted, Refused}
-use Rattle.tally.specs.Tally.{noCounts, tally_of}
+use Rattle.tally.specs.Tally.{no_counts, tally_of}
 
 -- inputs of the call
 pub record Call : Type 0 where
@@ -23,28 +23,28 @@ pub record Call : Type 0 where
 abbrev pub call_of : List ℕ → AmbiguousWidth → ℕ → Bool → Call
 call_of text ambiguous limit trim = record { text = text; ambiguous = ambiguous; limit = limit; trim = trim }
 
-abbrev pub ruleIn : Call → Rule
-ruleIn call = ruleOf call.ambiguous call.limit call.trim
+abbrev pub rule_in : Call → Rule
+rule_in call = rule_of call.ambiguous call.limit call.trim
 
 -- causes 3, 4, 8
-unfoldable pub causesOf : Ceilings → Call → List Cause
-causesOf most call = lineCauses most call.text call.limit
+unfoldable pub causes_of : Ceilings → Call → List Cause
+causes_of most call = line_causes most call.text call.limit
 
-unfoldable pub verdictOf : Call → Verdict
-verdictOf call = firstCause (causesOf mostAccepted call)
+unfoldable pub verdict_of : Call → Verdict
+verdict_of call = first_cause (causes_of most_accepted call)
 
 unfoldable pub answer_of : Call → TallyAnswer
-answer_of call = answering Counted Refused (verdictOf call) (tally_of (ruleIn call) call.text)
+answer_of call = answering Counted Refused (verdict_of call) (tally_of (rule_in call) call.text)
 
 -- the counts in the answer: "number, counts 0" if refused
-unfoldable pub countsOf : Call → TallyCounts
-countsOf call = unlessRefused (verdictOf call) (tally_of (ruleIn call) call.text) noCounts
+unfoldable pub counts_of : Call → TallyCounts
+counts_of call = unless_refused (verdict_of call) (tally_of (rule_in call) call.text) no_counts
 
 -- an answer as document 01's number, 0 if accepted, and counts
-abbrev pub tallyAnswerNumber : TallyAnswer → ℕ
-tallyAnswerNumber (Counted counts) = 0
-tallyAnswerNumber (Refused why) = refusalNumber why
+abbrev pub tally_answer_number : TallyAnswer → ℕ
+tally_answer_number (Counted counts) = 0
+tally_answer_number (Refused why) = refusal_number why
 
-abbrev pub tallyAnswerCounts : TallyAnswer → TallyCounts
-tallyAnswerCounts (Counted counts) = counts
-tallyAnswerCounts (Refused why) = noCounts
+abbrev pub tally_answer_counts : TallyAnswer → TallyCounts
+tally_answer_counts (Counted counts) = counts
+tally_answer_counts (Refused why) = no_counts

@@ -2,7 +2,7 @@
 ghost use Rattle.std.specs.Prelude.{◌≡◌};
 ghost use Rattle.text.specs.Line.{Opens, FewRecords};
 ghost use Rattle.tally.specs.Tally.{tally_of};
-ghost use Rattle.tally.specs.TallyingExtra.{glyphCounts};
+ghost use Rattle.tally.specs.TallyingExtra.{glyph_counts};
 
 use crate::{TallyCounts, TextGlyphCounts};
 use text::glyph::WIDEST;
@@ -12,7 +12,7 @@ use wrapping::Rule;
 // Counts a text's glyphs, the records that aren't heads, and the over-wide ones among them, by reading their widths.
 fn read_glyph_counts(rule: Rule, text: &[u32]) -> TextGlyphCounts
     requires { FewRecords text.now }
-    ensures { result ≡ glyphCounts rule text.now }
+    ensures { result ≡ glyph_counts rule text.now }
 {
     let mut glyphs = 0;
     let mut over_wide = 0;
@@ -34,7 +34,7 @@ fn read_glyph_counts(rule: Rule, text: &[u32]) -> TextGlyphCounts
 // Counts a text's glyphs and the over-wide ones among them. At a limit as large as any width there are none, and no width is read.
 fn glyph_counts(rule: Rule, text: &[u32]) -> TextGlyphCounts
     requires { FewRecords text.now }
-    ensures { result ≡ glyphCounts rule text.now }
+    ensures { result ≡ glyph_counts rule text.now }
 {
     if rule.limit < WIDEST {
         return read_glyph_counts(rule, text);

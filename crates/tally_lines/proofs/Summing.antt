@@ -12,23 +12,23 @@ use Rattle.line_composer.specs.declared.NextLine.{NextLine}
 use Rattle.line_composer.specs.declared.NextLine.TheVariants.{OneLine, Done}
 use Rattle.line_composer.specs.declared.Method.TheVariants.{WordWrap}
 use Rattle.line_composer.specs.Lines.{lines, line_at}
-use Rattle.line_composer.specs.ComposingExtra.{linesLeft, Started, ReadsBack, PulledLine}
+use Rattle.line_composer.specs.ComposingExtra.{remaining_lines, Started, ReadsBack, PulledLine}
 use Rattle.line_composer.specs.Places.{starts}
-use Rattle.line_composer.proofs.Pulled.{pulled-left, pulled-reads-back}
+use Rattle.line_composer.proofs.Pulled.{pulled-left, pulled_reads_back}
 use Rattle.line_composer.proofs.Bounds.{lines-short}
-use Rattle.count_lines.proofs.Counting.{Counting, counting-starts, counting-goes, counting-less}
+use Rattle.count_lines.proofs.Counting.{Counting, counting_starts, counting_goes, counting_less}
 use Rattle.tally_lines.specs.declared.LineCounts.{LineCounts}
-use Rattle.tally_lines.specs.TallyingExtra.{emptyLines, sum, lineCounts}
+use Rattle.tally_lines.specs.TallyingExtra.{empty_lines, sum, line_counts}
 use Rattle.tally_lines.proofs.Ways.{all-counted}
-use Rattle.tally_lines.proofs.Sums.{sum-none, none-sum, sum-assoc, first-line}
+use Rattle.tally_lines.proofs.Sums.{sum-none, none-sum, sum_assoc, first-line}
 use Rattle.tally_lines.proofs.Emitted.{text-emits}
 
 -- a text has no more lines than records, and its lines have no more glyphs
 Few : List ℕ → LineCounts → Type 0
 Few text c = (c.lines ≤ length text) × (c.placed + c.clipped + c.zero_width ≤ length text)
 
-few : (u : Rule) (default : Alignment) (text : List ℕ) → Few text (lineCounts u.limit (lines u WordWrap default text))
-unfolding Few lineCounts
+few : (u : Rule) (default : Alignment) (text : List ℕ) → Few text (line_counts u.limit (lines u WordWrap default text))
+unfolding Few line_counts
 few u default text =
     (lines-short u default text, omega (arith, all-counted u.limit (starts (lines u WordWrap default text)), text-emits u default text))
 
@@ -36,39 +36,39 @@ few u default text =
 -- those of all lines.
 pub record Summing (u : Rule) (default : Alignment) (text : List ℕ) (c : LineComposer) (counts : LineCounts) : Type 0 where
   pub short : length text < 2 ^ 28
-  pub counting-on : Counting u default text c counts.lines
-  pub same : sum counts (lineCounts u.limit (linesLeft u default text c)) ≡ lineCounts u.limit (lines u WordWrap default text)
+  pub counting_on : Counting u default text c counts.lines
+  pub same : sum counts (line_counts u.limit (remaining_lines u default text c)) ≡ line_counts u.limit (lines u WordWrap default text)
 
-pub summing-starts : (u : Rule) (default : Alignment) (text : List ℕ) (c : LineComposer) (counts : LineCounts) → length text < 2 ^ 28 → Started u WordWrap text c → counts ≡ emptyLines 0 → Summing u default text c counts
-summing-starts u default text c counts h s e =
+pub summing_starts : (u : Rule) (default : Alignment) (text : List ℕ) (c : LineComposer) (counts : LineCounts) → length text < 2 ^ 28 → Started u WordWrap text c → counts ≡ empty_lines 0 → Summing u default text c counts
+summing_starts u default text c counts h s e =
     rw e
     (record {
       short = h;
-      counting-on = counting-starts u default text c s;
-      same = none-sum (lineCounts u.limit (linesLeft u default text c)) ∙ ap (lineCounts u.limit) (s.lines_left default);
+      counting_on = counting_starts u default text c s;
+      same = none-sum (line_counts u.limit (remaining_lines u default text c)) ∙ ap (line_counts u.limit) (s.lines_left default);
     })
 
 module _ (u : Rule) (default : Alignment) (text : List ℕ) (c : LineComposer) (counts : LineCounts) (s : Summing u default text c counts) (o : NextLine) (p : PulledLine u default text c o) where
   module _ (line : WrappedLine) (d : LineComposer) (e : o ≡ OneLine line d) where
-    reads-back : ReadsBack u text line
-    reads-back = pulled-reads-back u default text c o p line d e
+    reads_back : ReadsBack u text line
+    reads_back = pulled_reads_back u default text c o p line d e
 
     -- the line's records are within the text
     pub line-ordered : line.first ≤ line.end
-    line-ordered = reads-back.ordered
+    line-ordered = reads_back.ordered
 
     pub line-within : line.end ≤ length text
-    line-within = reads-back.within
+    line-within = reads_back.within
 
-    pub summing-less : length (linesLeft u default text d) < length (linesLeft u default text c)
-    summing-less = counting-less u default text c counts.lines s.counting-on o p line d e
+    pub summing_less : length (remaining_lines u default text d) < length (remaining_lines u default text c)
+    summing_less = counting_less u default text c counts.lines s.counting_on o p line d e
 
-    module _ (one : LineCounts) (f : one ≡ lineCounts u.limit (line_at u text line ∷ [])) where
+    module _ (one : LineCounts) (f : one ≡ line_counts u.limit (line_at u text line ∷ [])) where
       -- the sum so far, the line's counts and those of the remaining lines are those of all lines
-      parts : sum counts (sum one (lineCounts u.limit (linesLeft u default text d))) ≡ lineCounts u.limit (lines u WordWrap default text)
+      parts : sum counts (sum one (line_counts u.limit (remaining_lines u default text d))) ≡ line_counts u.limit (lines u WordWrap default text)
       parts =
           ap (sum counts)
-          (rw f (sym (first-line u.limit (line_at u text line) (linesLeft u default text d)) ∙ ap (lineCounts u.limit) (sym (pulled-left u default text c o p line d e))))
+          (rw f (sym (first-line u.limit (line_at u text line) (remaining_lines u default text d)) ∙ ap (line_counts u.limit) (sym (pulled-left u default text c o p line d e))))
           ∙ s.same
 
       fits : (counts.lines + one.lines < 2 ^ 28)
@@ -79,30 +79,30 @@ module _ (u : Rule) (default : Alignment) (text : List ℕ) (c : LineComposer) (
       pub lines_fit : counts.lines + one.lines < 2 ^ 32
       lines_fit = omega (arith, fits)
 
-      pub placed-fit : counts.placed + one.placed < 2 ^ 32
-      placed-fit = omega (arith, fits)
+      pub placed_fit : counts.placed + one.placed < 2 ^ 32
+      placed_fit = omega (arith, fits)
 
-      pub clipped-fit : counts.clipped + one.clipped < 2 ^ 32
-      clipped-fit = omega (arith, fits)
+      pub clipped_fit : counts.clipped + one.clipped < 2 ^ 32
+      clipped_fit = omega (arith, fits)
 
-      pub zero-width-fit : counts.zero_width + one.zero_width < 2 ^ 32
-      zero-width-fit = omega (arith, fits)
+      pub zero_width_fit : counts.zero_width + one.zero_width < 2 ^ 32
+      zero_width_fit = omega (arith, fits)
 
-      pub summing-goes : (next : LineCounts) → next ≡ sum counts one → Summing u default text d next
-      unfolding sum lineCounts
-      summing-goes next g =
+      pub summing_goes : (next : LineCounts) → next ≡ sum counts one → Summing u default text d next
+      unfolding sum line_counts
+      summing_goes next g =
           let n : (sum counts one).lines ≡ counts.lines + 1 = rw f in
           rw g
           (record {
             short = s.short;
-            counting-on = rw n (counting-goes u default text c counts.lines s.counting-on o p line d e);
-            same = sum-assoc counts one (lineCounts u.limit (linesLeft u default text d)) ∙ parts;
+            counting_on = rw n (counting_goes u default text c counts.lines s.counting_on o p line d e);
+            same = sum_assoc counts one (line_counts u.limit (remaining_lines u default text d)) ∙ parts;
           })
 
-  pub summing-done : o ≡ Done → counts ≡ lineCounts u.limit (lines u WordWrap default text)
-  unfolding lineCounts
-  summing-done e =
-      let z : linesLeft u default text c ≡ [] = rw e at p.pulled-lines in
+  pub summing_done : o ≡ Done → counts ≡ line_counts u.limit (lines u WordWrap default text)
+  unfolding line_counts
+  summing_done e =
+      let z : remaining_lines u default text c ≡ [] = rw e at p.pulled-lines in
       sym (sum-none counts) ∙ rw z at s.same
 
-pub ruleset summing = (summing-starts, line-ordered, line-within, summing-less, lines_fit, placed-fit, clipped-fit, zero-width-fit, summing-goes, summing-done)
+pub ruleset summing = (summing_starts, line-ordered, line-within, summing_less, lines_fit, placed_fit, clipped_fit, zero_width_fit, summing_goes, summing_done)

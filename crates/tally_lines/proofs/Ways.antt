@@ -10,32 +10,32 @@ use Rattle.text.specs.Lists.{count_of}
 use Rattle.text.specs.Line.{Start}
 use Rattle.place.specs.declared.Place.{Place}
 use Rattle.place.specs.declared.Place.TheVariants.{ZeroWidth, Placed, Halved, Outside}
-use Rattle.place.specs.Place.{place_of, countsAsPlaced, countsAsClipped}
+use Rattle.place.specs.Place.{place_of, counts_as_placed, counts_as_clipped}
 use Rattle.place.proofs.Places.{by_place}
-use Rattle.line_composer.specs.Places.{place_in, is_placed, isClipped, isZeroWidth}
+use Rattle.line_composer.specs.Places.{place_in, is_placed, is_clipped, is_zero_width}
 use Rattle.tally_lines.specs.declared.LineCounts.{LineCounts}
-use Rattle.tally_lines.specs.TallyingExtra.{withGlyph}
+use Rattle.tally_lines.specs.TallyingExtra.{with_glyph}
 
 -- the place of a glyph, and the results of the three tests on it
 pub record Becomes (limit : ℕ) (s : Start) (place : Place) (zero-width is-placed is-clipped : Bool) : Type 0 where
-  pub of-place : place_in limit s ≡ place
-  pub of-zero-width : isZeroWidth s ≡ zero-width
-  pub of-placed : is_placed limit s ≡ is-placed
-  pub of-clipped : isClipped limit s ≡ is-clipped
+  pub of_place : place_in limit s ≡ place
+  pub of_zero_width : is_zero_width s ≡ zero-width
+  pub of_placed : is_placed limit s ≡ is-placed
+  pub of_clipped : is_clipped limit s ≡ is-clipped
 
 module _ (limit : ℕ) (s : Start) where
-  becomes : (place : Place) (zero-width : Bool) → isZeroWidth s ≡ zero-width → place_in limit s ≡ place
-      → Becomes limit s place zero-width (countsAsPlaced place) (countsAsClipped place)
-  unfolding is_placed isClipped
-  becomes place zero-width z e = record { of-place = e; of-zero-width = z; of-placed = ap countsAsPlaced e; of-clipped = ap countsAsClipped e }
+  becomes : (place : Place) (zero-width : Bool) → is_zero_width s ≡ zero-width → place_in limit s ≡ place
+      → Becomes limit s place zero-width (counts_as_placed place) (counts_as_clipped place)
+  unfolding is_placed is_clipped
+  becomes place zero-width z e = record { of_place = e; of_zero_width = z; of_placed = ap counts_as_placed e; of_clipped = ap counts_as_clipped e }
 
-  is_zero : s.glyph.width ≡ 0 → isZeroWidth s ≡ true
-  unfolding isZeroWidth
+  is_zero : s.glyph.width ≡ 0 → is_zero_width s ≡ true
+  unfolding is_zero_width
   is_zero e = eq-eqb s.glyph.width 0 e
 
-  not-zero : (s.glyph.width ≡ 0 → ⊥) → isZeroWidth s ≡ false
-  unfolding isZeroWidth
-  not-zero n = ne_eqb s.glyph.width 0 n
+  not_zero : (s.glyph.width ≡ 0 → ⊥) → is_zero_width s ≡ false
+  unfolding is_zero_width
+  not_zero n = ne_eqb s.glyph.width 0 n
 
   -- case analysis over the kinds
   pub ways : (P : Type 0)
@@ -47,41 +47,41 @@ module _ (limit : ℕ) (s : Start) where
   ways P zero in-front halved outside =
       by_place limit s.start s.glyph.width (λ p. place_in limit s ≡ p → P)
       (λ z e. zero (becomes ZeroWidth true (is_zero z) e))
-      (λ n _ e. outside (becomes Outside false (not-zero n) e))
-      (λ n _ _ e. halved (becomes Halved false (not-zero n) e))
-      (λ n _ _ e. in-front (becomes Placed false (not-zero n) e))
+      (λ n _ e. outside (becomes Outside false (not_zero n) e))
+      (λ n _ _ e. halved (becomes Halved false (not_zero n) e))
+      (λ n _ _ e. in-front (becomes Placed false (not_zero n) e))
       refl
 
 -- the three counts add up to the number of glyphs
-pub all-counted : (limit : ℕ) (ss : List Start) → count_of (is_placed limit) ss + count_of (isClipped limit) ss + count_of isZeroWidth ss ≡ length ss
+pub all-counted : (limit : ℕ) (ss : List Start) → count_of (is_placed limit) ss + count_of (is_clipped limit) ss + count_of is_zero_width ss ≡ length ss
 all-counted limit [] = omega arith
 all-counted limit (s ∷ ss) =
     let later = all-counted limit ss in
     ways limit s _
-    (λ b. simp (b.of-zero-width, b.of-placed, b.of-clipped) (omega arith))
-    (λ b. simp (b.of-zero-width, b.of-placed, b.of-clipped) (omega arith))
-    (λ b. simp (b.of-zero-width, b.of-placed, b.of-clipped) (omega arith))
-    (λ b. simp (b.of-zero-width, b.of-placed, b.of-clipped) (omega arith))
+    (λ b. simp (b.of_zero_width, b.of_placed, b.of_clipped) (omega arith))
+    (λ b. simp (b.of_zero_width, b.of_placed, b.of_clipped) (omega arith))
+    (λ b. simp (b.of_zero_width, b.of_placed, b.of_clipped) (omega arith))
+    (λ b. simp (b.of_zero_width, b.of_placed, b.of_clipped) (omega arith))
 
 module _ (c : LineCounts) (limit column w : ℕ) (p : Place) (k : p ≡ place_of limit column w) where
-  pub with-zero : p ≡ ZeroWidth
-      → record { lines = c.lines; placed = c.placed; clipped = c.clipped; zero_width = c.zero_width + 1 } ≡ withGlyph c (place_of limit column w)
-  unfolding withGlyph
-  with-zero e = rw (← k, e) refl
+  pub with_zero : p ≡ ZeroWidth
+      → record { lines = c.lines; placed = c.placed; clipped = c.clipped; zero_width = c.zero_width + 1 } ≡ with_glyph c (place_of limit column w)
+  unfolding with_glyph
+  with_zero e = rw (← k, e) refl
 
-  pub with-placed : p ≡ Placed
-      → record { lines = c.lines; placed = c.placed + 1; clipped = c.clipped; zero_width = c.zero_width } ≡ withGlyph c (place_of limit column w)
-  unfolding withGlyph
-  with-placed e = rw (← k, e) refl
+  pub with_placed : p ≡ Placed
+      → record { lines = c.lines; placed = c.placed + 1; clipped = c.clipped; zero_width = c.zero_width } ≡ with_glyph c (place_of limit column w)
+  unfolding with_glyph
+  with_placed e = rw (← k, e) refl
 
-  pub with-halved : p ≡ Halved
-      → record { lines = c.lines; placed = c.placed; clipped = c.clipped + 1; zero_width = c.zero_width } ≡ withGlyph c (place_of limit column w)
-  unfolding withGlyph
-  with-halved e = rw (← k, e) refl
+  pub with_halved : p ≡ Halved
+      → record { lines = c.lines; placed = c.placed; clipped = c.clipped + 1; zero_width = c.zero_width } ≡ with_glyph c (place_of limit column w)
+  unfolding with_glyph
+  with_halved e = rw (← k, e) refl
 
-  pub with-outside : p ≡ Outside
-      → record { lines = c.lines; placed = c.placed; clipped = c.clipped + 1; zero_width = c.zero_width } ≡ withGlyph c (place_of limit column w)
-  unfolding withGlyph
-  with-outside e = rw (← k, e) refl
+  pub with_outside : p ≡ Outside
+      → record { lines = c.lines; placed = c.placed; clipped = c.clipped + 1; zero_width = c.zero_width } ≡ with_glyph c (place_of limit column w)
+  unfolding with_glyph
+  with_outside e = rw (← k, e) refl
 
-pub ruleset with-ways = (with-zero, with-placed, with-halved, with-outside)
+pub ruleset with-ways = (with_zero, with_placed, with_halved, with_outside)

@@ -4,19 +4,19 @@ use Rattle.text.specs.Lists.{count_of}
 use Rattle.place.specs.declared.Place.{Place}
 use Rattle.place.specs.declared.Place.TheVariants.{ZeroWidth, Placed, Halved, Outside}
 use Rattle.line_composer.specs.Lines.{Line}
-use Rattle.line_composer.specs.Places.{starts, is_placed, isClipped, isZeroWidth}
+use Rattle.line_composer.specs.Places.{starts, is_placed, is_clipped, is_zero_width}
 use Rattle.tally_lines.specs.declared.LineCounts.{LineCounts}
 
 -- the counts of n lines without a glyph
-abbrev pub emptyLines : ℕ → LineCounts
-emptyLines n = record { lines = n; placed = 0; clipped = 0; zero_width = 0 }
+abbrev pub empty_lines : ℕ → LineCounts
+empty_lines n = record { lines = n; placed = 0; clipped = 0; zero_width = 0 }
 
 -- the counts with one more glyph, by its place
-unfoldable pub withGlyph : LineCounts → Place → LineCounts
-withGlyph c ZeroWidth = record { lines = c.lines; placed = c.placed; clipped = c.clipped; zero_width = c.zero_width + 1 }
-withGlyph c Placed = record { lines = c.lines; placed = c.placed + 1; clipped = c.clipped; zero_width = c.zero_width }
-withGlyph c Halved = record { lines = c.lines; placed = c.placed; clipped = c.clipped + 1; zero_width = c.zero_width }
-withGlyph c Outside = record { lines = c.lines; placed = c.placed; clipped = c.clipped + 1; zero_width = c.zero_width }
+unfoldable pub with_glyph : LineCounts → Place → LineCounts
+with_glyph c ZeroWidth = record { lines = c.lines; placed = c.placed; clipped = c.clipped; zero_width = c.zero_width + 1 }
+with_glyph c Placed = record { lines = c.lines; placed = c.placed + 1; clipped = c.clipped; zero_width = c.zero_width }
+with_glyph c Halved = record { lines = c.lines; placed = c.placed; clipped = c.clipped + 1; zero_width = c.zero_width }
+with_glyph c Outside = record { lines = c.lines; placed = c.placed; clipped = c.clipped + 1; zero_width = c.zero_width }
 
 unfoldable pub sum : LineCounts → LineCounts → LineCounts
 sum a b =
@@ -28,11 +28,11 @@ sum a b =
     }
 
 -- the counts of composed lines
-unfoldable pub lineCounts : ℕ → List Line → LineCounts
-lineCounts limit lines =
+unfoldable pub line_counts : ℕ → List Line → LineCounts
+line_counts limit lines =
     record {
       lines = length lines;
       placed = count_of (is_placed limit) (starts lines);
-      clipped = count_of (isClipped limit) (starts lines);
-      zero_width = count_of isZeroWidth (starts lines);
+      clipped = count_of (is_clipped limit) (starts lines);
+      zero_width = count_of is_zero_width (starts lines);
     }

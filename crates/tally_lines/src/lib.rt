@@ -5,7 +5,7 @@ ghost use Rattle.text.specs.Line.{Opens, FewRecords};
 ghost use Rattle.place.specs.Place.{place_of};
 ghost use Rattle.line_composer.specs.declared.Method.TheVariants.{WordWrap};
 ghost use Rattle.line_composer.specs.Lines.{lines, line_at};
-ghost use Rattle.tally_lines.specs.TallyingExtra.{emptyLines, withGlyph, sum, lineCounts};
+ghost use Rattle.tally_lines.specs.TallyingExtra.{empty_lines, with_glyph, sum, line_counts};
 
 use line_composer::{LineComposer, Method, NextLine, WrappedLine};
 use place::Place;
@@ -24,7 +24,7 @@ pub struct LineCounts {
 impl LineCounts {
     // Returns the counts of lines without a glyph.
     fn empty(lines: u32) -> LineCounts
-        ensures { result ≡ emptyLines lines }
+        ensures { result ≡ empty_lines lines }
     {
         LineCounts {
             lines,
@@ -38,7 +38,7 @@ impl LineCounts {
     fn with_glyph(self, limit: usize, column: usize, w: usize) -> LineCounts
         requires zero_width_bound { self.placed + self.clipped + self.zero_width + 1 < 2 ^ 32 }
         requires w_bound { column + w < 2 ^ 32 }
-        ensures { result ≡ withGlyph self (place_of limit column w) }
+        ensures { result ≡ with_glyph self (place_of limit column w) }
     {
         let mut next = self;
         match Place::of_glyph(limit, column, w) {
@@ -78,7 +78,7 @@ impl LineCounts {
 // Counts one composed line and its glyphs.
 fn one_line_counts(rule: Rule, text: &[u32], line: WrappedLine) -> LineCounts
     requires { (line.first ≤ line.end) × (line.end ≤ length text.now) × FewRecords text.now }
-    ensures { result ≡ lineCounts rule.limit (line_at rule text.now line ∷ []) }
+    ensures { result ≡ line_counts rule.limit (line_at rule text.now line ∷ []) }
 {
     let end = line.end;
     let mut counts = LineCounts::empty(1);
@@ -99,7 +99,7 @@ fn one_line_counts(rule: Rule, text: &[u32], line: WrappedLine) -> LineCounts
 // Counts a text's composed lines and their glyphs.
 pub fn line_counts(rule: Rule, text: &[u32]) -> LineCounts
     requires { FewRecords text.now × Opens text.now }
-    ensures { result ≡ lineCounts rule.limit (lines rule WordWrap Left text.now) }
+    ensures { result ≡ line_counts rule.limit (lines rule WordWrap Left text.now) }
 {
     let mut composer = LineComposer::new(rule, Method::WordWrap, text);
     let mut counts = LineCounts::empty(0);

@@ -6,13 +6,13 @@ use native.Mathlib.Omega.{arith}
 use lib.Dec.{eqb}
 use lib.ListN.{length, length-append, length-map}
 use Rattle.text.specs.declared.Alignment.{Alignment}
-use Rattle.text.specs.Record.{alignmentOf}
+use Rattle.text.specs.Record.{alignment_of}
 use Rattle.text.specs.Alignment.{resolved}
-use Rattle.text.specs.Line.{Glyph, TextLine, lines_from, glyphsOf}
+use Rattle.text.specs.Line.{Glyph, TextLine, lines_from, glyphs_of}
 use Rattle.wrapping.specs.declared.Rule.{Rule}
-use Rattle.line_truncator.specs.Truncation.{truncate, offset_of, shownFrom}
+use Rattle.line_truncator.specs.Truncation.{truncate, offset_of, shown_from}
 use Rattle.line_composer.specs.declared.Method.TheVariants.{Truncate}
-use Rattle.line_composer.specs.Lines.{aligned, lines_of, lineLines, allLines, lines}
+use Rattle.line_composer.specs.Lines.{aligned, lines_of, line_lines, all_lines, lines}
 use Rattle.measure.proofs.Lines.{text-lines-few}
 
 -- truncation gives at most one line for a text line
@@ -20,26 +20,26 @@ truncate-at-most-one : (u : Rule) (column : ℕ) (alignment : Alignment) (gs : L
 unfolding truncate
 truncate-at-most-one u column alignment gs = go (eqb u.limit 0)
   where
-    go : (b : Bool) → length (cond b [] (shownFrom u (offset_of column alignment) 0 gs ∷ [])) ≤ 1
+    go : (b : Bool) → length (cond b [] (shown_from u (offset_of column alignment) 0 gs ∷ [])) ≤ 1
     go true = omega arith
     go false = omega arith
 
 -- there are at most as many truncated lines as text lines
 module _ (u : Rule) (column : ℕ) (default : Alignment) where
-  no-more-lines-than-text-lines : (ls : List TextLine) → length (allLines u (Truncate column) default ls) ≤ length ls
-  unfolding lineLines lines_of
-  no-more-lines-than-text-lines [] = omega arith
-  no-more-lines-than-text-lines (l ∷ ls) =
-      let alignment : Alignment = resolved (alignmentOf l.head) default in
+  no_more_lines_than_text-lines : (ls : List TextLine) → length (all_lines u (Truncate column) default ls) ≤ length ls
+  unfolding line_lines lines_of
+  no_more_lines_than_text-lines [] = omega arith
+  no_more_lines_than_text-lines (l ∷ ls) =
+      let alignment : Alignment = resolved (alignment_of l.head) default in
       omega (
         arith,
-        length-append (lineLines u (Truncate column) default l) (allLines u (Truncate column) default ls),
-        length-map (truncate u column alignment (glyphsOf u.ambiguous l)) (aligned alignment),
-        truncate-at-most-one u column alignment (glyphsOf u.ambiguous l),
-        no-more-lines-than-text-lines ls,
+        length-append (line_lines u (Truncate column) default l) (all_lines u (Truncate column) default ls),
+        length-map (truncate u column alignment (glyphs_of u.ambiguous l)) (aligned alignment),
+        truncate-at-most-one u column alignment (glyphs_of u.ambiguous l),
+        no_more_lines_than_text-lines ls,
       )
 
 -- a text has no more truncated lines than records
-pub no-more-lines-than-records : (u : Rule) (column : ℕ) (default : Alignment) (text : List ℕ) → length (lines u (Truncate column) default text) ≤ length text
+pub no_more_lines_than_records : (u : Rule) (column : ℕ) (default : Alignment) (text : List ℕ) → length (lines u (Truncate column) default text) ≤ length text
 unfolding lines
-no-more-lines-than-records u column default text = omega (arith, no-more-lines-than-text-lines u column default (lines_from 0 text), text-lines-few 0 text)
+no_more_lines_than_records u column default text = omega (arith, no_more_lines_than_text-lines u column default (lines_from 0 text), text-lines-few 0 text)

@@ -9,80 +9,80 @@ use lib.ListN.{length}
 use lib.Seq.{slice, length-slice}
 use Rattle.text.specs.declared.Alignment.{Alignment}
 use Rattle.wrapping.specs.declared.Rule.{Rule}
-use Rattle.wrapping.proofs.ListRuns.{total-bound}
+use Rattle.wrapping.proofs.ListRuns.{total_bound}
 use Rattle.line_composer.specs.declared.WrappedLine.{WrappedLine}
 use Rattle.line_composer.specs.declared.LineComposer.{LineComposer}
 use Rattle.line_composer.specs.declared.NextLine.{NextLine}
 use Rattle.line_composer.specs.declared.NextLine.TheVariants.{OneLine, Done}
 use Rattle.line_composer.specs.declared.Method.TheVariants.{Truncate}
-use Rattle.line_composer.specs.Lines.{lines, wrappedLineOf, line_at}
-use Rattle.line_composer.specs.ComposingExtra.{linesLeft, Ready, Started, ReadsBack, PulledLine}
-use Rattle.line_composer.proofs.Pulled.{pulled-left, pulled-ready, pulled-reads-back, none_left}
+use Rattle.line_composer.specs.Lines.{lines, wrapped_line_of, line_at}
+use Rattle.line_composer.specs.ComposingExtra.{remaining_lines, Ready, Started, ReadsBack, PulledLine}
+use Rattle.line_composer.proofs.Pulled.{pulled-left, pulled-ready, pulled_reads_back, none_left}
 use Rattle.test_sums.specs.SumsExtra.{with_number}
-use Rattle.test_answers.specs.TextsExtra.{withLine, withLines, linesSum}
-use Rattle.test_answers.proofs.Few.{no-more-lines-than-records}
+use Rattle.test_answers.specs.TextsExtra.{with_line, with_lines, lines_sum}
+use Rattle.test_answers.proofs.Few.{no_more_lines_than_records}
 
 -- before each turn: `count` lines are in the checksum, and the composer has the remaining ones
 pub record Pulling (u : Rule) (column : ℕ) (default : Alignment) (text : List ℕ) (c : LineComposer) (sum count : ℕ) : Type 0 where
   pub ready : Ready u text c
-  pub counted : count + length (linesLeft u default text c) ≡ length (lines u (Truncate column) default text)
-  pub same : withLines sum (linesLeft u default text c) ≡ withLines 0 (lines u (Truncate column) default text)
+  pub counted : count + length (remaining_lines u default text c) ≡ length (lines u (Truncate column) default text)
+  pub same : with_lines sum (remaining_lines u default text c) ≡ with_lines 0 (lines u (Truncate column) default text)
 
 module _ (u : Rule) (column : ℕ) (default : Alignment) (text : List ℕ) (c : LineComposer) where
-  pub pulling-starts : Started u (Truncate column) text c → Pulling u column default text c 0 0
-  pulling-starts s =
+  pub pulling_starts : Started u (Truncate column) text c → Pulling u column default text c 0 0
+  pulling_starts s =
       record {
         ready = s.ready;
         counted = omega (arith, ap length (s.lines_left default));
-        same = ap (withLines 0) (s.lines_left default);
+        same = ap (with_lines 0) (s.lines_left default);
       }
 
   module _ (sum count : ℕ) (k : Pulling u column default text c sum count) (o : NextLine) (p : PulledLine u default text c o) where
     module _ (line : WrappedLine) (d : LineComposer) (e : o ≡ OneLine line d) where
-      left-line-then-rest : linesLeft u default text c ≡ line_at u text line ∷ linesLeft u default text d
-      left-line-then-rest = pulled-left u default text c o p line d e
+      left-line_then_rest : remaining_lines u default text c ≡ line_at u text line ∷ remaining_lines u default text d
+      left-line_then_rest = pulled-left u default text c o p line d e
 
-      reads-back : ReadsBack u text line
-      reads-back = pulled-reads-back u default text c o p line d e
+      reads_back : ReadsBack u text line
+      reads_back = pulled_reads_back u default text c o p line d e
 
       pub first_fits : length text < 2 ^ 28 → line.first < 2 ^ 32
-      first_fits h = omega (arith, reads-back.ordered, reads-back.within)
+      first_fits h = omega (arith, reads_back.ordered, reads_back.within)
 
       pub end_fits : length text < 2 ^ 28 → line.end < 2 ^ 32
-      end_fits h = omega (arith, reads-back.within)
+      end_fits h = omega (arith, reads_back.within)
 
       pub width_fits : length text < 2 ^ 28 → line.width < 2 ^ 32
-      unfolding line_at wrappedLineOf
+      unfolding line_at wrapped_line_of
       width_fits h =
           omega (
             arith,
-            ap (λ (x : WrappedLine). x.width) reads-back.is,
-            total-bound u line.first (slice line.first line.end text),
-            length-slice line.first line.end text reads-back.within,
-            reads-back.within,
+            ap (λ (x : WrappedLine). x.width) reads_back.is,
+            total_bound u line.first (slice line.first line.end text),
+            length-slice line.first line.end text reads_back.within,
+            reads_back.within,
           )
 
       pub count_fits : length text < 2 ^ 28 → Fits w32 (count + 1)
-      count_fits h = record { fits = omega (arith, k.counted, ap length left-line-then-rest, no-more-lines-than-records u column default text) }
+      count_fits h = record { fits = omega (arith, k.counted, ap length left-line_then_rest, no_more_lines_than_records u column default text) }
 
-      pub pulling-less : length (linesLeft u default text d) < length (linesLeft u default text c)
-      pulling-less = omega (arith, ap length left-line-then-rest)
+      pub pulling_less : length (remaining_lines u default text d) < length (remaining_lines u default text c)
+      pulling_less = omega (arith, ap length left-line_then_rest)
 
-      pub pulling-goes : (next : ℕ) → next ≡ withLine sum line → Pulling u column default text d next (count + 1)
-      pulling-goes next f =
-          let next-is : next ≡ withLine sum (wrappedLineOf (line_at u text line)) = f ∙ ap (withLine sum) reads-back.is in
+      pub pulling_goes : (next : ℕ) → next ≡ with_line sum line → Pulling u column default text d next (count + 1)
+      pulling_goes next f =
+          let next-is : next ≡ with_line sum (wrapped_line_of (line_at u text line)) = f ∙ ap (with_line sum) reads_back.is in
           record {
             ready = pulled-ready u default text c o p line d e;
-            counted = omega (arith, k.counted, ap length left-line-then-rest);
-            same = rw next-is (rw left-line-then-rest at k.same);
+            counted = omega (arith, k.counted, ap length left-line_then_rest);
+            same = rw next-is (rw left-line_then_rest at k.same);
           }
 
-    pub pulling-ends : (r : ℕ) → o ≡ Done → r ≡ with_number sum count → r ≡ linesSum (lines u (Truncate column) default text)
-    unfolding linesSum
-    pulling-ends r e f =
-        let z : linesLeft u default text c ≡ [] = none_left u default text c o p e in
-        let same : sum ≡ withLines 0 (lines u (Truncate column) default text) = rw z at k.same in
+    pub pulling_ends : (r : ℕ) → o ≡ Done → r ≡ with_number sum count → r ≡ lines_sum (lines u (Truncate column) default text)
+    unfolding lines_sum
+    pulling_ends r e f =
+        let z : remaining_lines u default text c ≡ [] = none_left u default text c o p e in
+        let same : sum ≡ with_lines 0 (lines u (Truncate column) default text) = rw z at k.same in
         let counted : count ≡ length (lines u (Truncate column) default text) = omega (arith, k.counted, ap length z) in
         cc
 
-pub ruleset pulling = (pulling-starts, first_fits, end_fits, width_fits, count_fits, pulling-less, pulling-goes, pulling-ends)
+pub ruleset pulling = (pulling_starts, first_fits, end_fits, width_fits, count_fits, pulling_less, pulling_goes, pulling_ends)

@@ -4,5 +4,5 @@ use Rattle.render_lines.specs.declared.DrawCounts.{DrawCounts}
 use Rattle.test_sums.specs.SumsExtra.{with_number}
 
 -- the checksum of the rows drawn and the glyphs placed and clipped
-unfoldable pub countsSum : DrawCounts → ℕ
-countsSum counts = with_number (with_number (with_number 0 counts.rows) counts.placed) counts.clipped
+unfoldable pub counts_sum : DrawCounts → ℕ
+counts_sum counts = with_number (with_number (with_number 0 counts.rows) counts.placed) counts.clipped

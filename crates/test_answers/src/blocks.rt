@@ -2,7 +2,7 @@
 ghost use Rattle.std.specs.Prelude.{◌≡◌, ◌≤◌, length};
 ghost use Rattle.test_blocks.specs.TitlesExtra.{Bounded};
 ghost use Rattle.test_blocks.specs.SizesExtra.{Writable};
-ghost use Rattle.test_answers.specs.BlocksExtra.{areaSum, withSpace};
+ghost use Rattle.test_answers.specs.BlocksExtra.{area_sum, with_space};
 
 use crate::Answer;
 use block::{Block, Space};
@@ -22,7 +22,7 @@ use text::AmbiguousWidth;
 
 // Returns the checksum of an area's four numbers.
 pub fn sum_area(area: Rect) -> u32
-    ensures { result ≡ areaSum area }
+    ensures { result ≡ area_sum area }
 {
     let x = with_number(0, area.x as u32);
     let y = with_number(x, area.y as u32);
@@ -32,7 +32,7 @@ pub fn sum_area(area: Rect) -> u32
 
 // Returns a checksum extended by the space that a block takes on two sides.
 fn with_space(sum: u32, space: Space) -> u32
-    ensures { result ≡ withSpace sum space }
+    ensures { result ≡ with_space sum space }
 {
     with_number(with_number(sum, space.before as u32), space.after as u32)
 }

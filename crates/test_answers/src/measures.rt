@@ -1,6 +1,6 @@
 // `line_count` and `line_width` of a text in a block.
 ghost use Rattle.std.specs.Prelude.{◌≡◌, ◌≤◌, length};
-ghost use Rattle.test_answers.specs.TextsExtra.{measuresSum};
+ghost use Rattle.test_answers.specs.TextsExtra.{measures_sum};
 
 use crate::Answer;
 use block::Block;
@@ -13,7 +13,7 @@ use test_texts::Case;
 
 // Returns the checksum of a text's rows, wrapped and unwrapped, and its columns.
 fn sum_measures(wrapped: u32, unwrapped: u32, columns: u32) -> u32
-    ensures { result ≡ measuresSum wrapped unwrapped columns }
+    ensures { result ≡ measures_sum wrapped unwrapped columns }
 {
     with_number(with_number(with_number(0, wrapped), unwrapped), columns)
 }

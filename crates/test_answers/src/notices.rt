@@ -2,7 +2,7 @@
 ghost use Rattle.std.specs.Prelude.{◌≡◌, ◌≤◌, length};
 ghost use Rattle.test_blocks.specs.TitlesExtra.{Bounded};
 ghost use Rattle.test_notices.specs.SizesExtra.{Writable};
-ghost use Rattle.test_answers.specs.NoticesExtra.{countsSum};
+ghost use Rattle.test_answers.specs.NoticesExtra.{counts_sum};
 
 use crate::blocks;
 use buffer::Screen;
@@ -37,7 +37,7 @@ pub enum Answer {
 
 // Returns the checksum of the rows drawn and the glyphs placed and clipped.
 fn sum_counts(counts: DrawCounts) -> u32
-    ensures { result ≡ countsSum counts }
+    ensures { result ≡ counts_sum counts }
 {
     let rows = with_number(0, counts.rows);
     let placed = with_number(rows, counts.placed);

@@ -3,7 +3,7 @@ ghost use Rattle.std.specs.Prelude.{◌≡◌, ◌^◌, ◌<◌};
 ghost use Rattle.text.specs.Line.{Opens, FewRecords};
 ghost use Rattle.line_composer.specs.declared.Method.TheVariants.{Truncate};
 ghost use Rattle.line_composer.specs.Lines.{lines};
-ghost use Rattle.test_answers.specs.TextsExtra.{countsSum, withLine, linesSum};
+ghost use Rattle.test_answers.specs.TextsExtra.{counts_sum, with_line, lines_sum};
 
 use crate::{Answer, measures};
 use line_composer::{LineComposer, Method, NextLine, WrappedLine};
@@ -26,7 +26,7 @@ pub enum Question {
 
 // Returns the checksum of a tally's six counts.
 fn sum_counts(counts: TallyCounts) -> u32
-    ensures { result ≡ countsSum counts }
+    ensures { result ≡ counts_sum counts }
 {
     let lines = with_number(0, counts.lines);
     let placed = with_number(lines, counts.placed);
@@ -39,7 +39,7 @@ fn sum_counts(counts: TallyCounts) -> u32
 // Returns a checksum extended by a composed line.
 fn with_line(sum: u32, line: WrappedLine) -> u32
     requires { (line.first < 2 ^ 32) × (line.end < 2 ^ 32) × (line.width < 2 ^ 32) }
-    ensures { result ≡ withLine sum line }
+    ensures { result ≡ with_line sum line }
 {
     let alignment = line.alignment;
     let first = with_number(sum, line.first as u32);
@@ -51,7 +51,7 @@ fn with_line(sum: u32, line: WrappedLine) -> u32
 // Returns the checksum of a text's truncated lines, scrolled right by `column`: of each, then of their count.
 fn sum_truncated(rule: Rule, column: u32, default_alignment: Alignment, text: &[u32]) -> u32
     requires { FewRecords text.now × Opens text.now }
-    ensures { result ≡ linesSum (lines rule (Truncate column) default_alignment text.now) }
+    ensures { result ≡ lines_sum (lines rule (Truncate column) default_alignment text.now) }
 {
     let mut composer = LineComposer::new(rule, Method::Truncate(column), text);
     let mut sum = 0;

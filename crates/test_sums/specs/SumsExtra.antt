@@ -8,14 +8,14 @@ unfoldable pub with_number : ℕ → ℕ → ℕ
 with_number sum number = stepped sum 2654435769 number
 
 -- a checksum extended by an entry: its upper half, then its lower
-unfoldable pub withEntry : ℕ → ℕ → ℕ
-withEntry sum entry = with_number (with_number sum (entry / 2 ^ 32)) (entry % 2 ^ 32)
+unfoldable pub with_entry : ℕ → ℕ → ℕ
+with_entry sum entry = with_number (with_number sum (entry / 2 ^ 32)) (entry % 2 ^ 32)
 
 -- a checksum extended by each entry of a list
-abbrev pub withEntries : ℕ → List ℕ → ℕ
-withEntries sum [] = sum
-withEntries sum (entry ∷ entries) = withEntries (withEntry sum entry) entries
+abbrev pub with_entries : ℕ → List ℕ → ℕ
+with_entries sum [] = sum
+with_entries sum (entry ∷ entries) = with_entries (with_entry sum entry) entries
 
 -- the checksum of entries: of their count, then of each
-unfoldable pub entriesSum : List ℕ → ℕ
-entriesSum entries = withEntries (length entries % 2 ^ 32) entries
+unfoldable pub entries_sum : List ℕ → ℕ
+entries_sum entries = with_entries (length entries % 2 ^ 32) entries

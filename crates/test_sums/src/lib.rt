@@ -1,6 +1,6 @@
 // Checksums by which answers are compared.
 ghost use Rattle.std.specs.Prelude.{◌≡◌};
-ghost use Rattle.test_sums.specs.SumsExtra.{with_number, withEntry, entriesSum};
+ghost use Rattle.test_sums.specs.SumsExtra.{with_number, with_entry, entries_sum};
 
 use test_texts::numbers::step;
 
@@ -15,7 +15,7 @@ pub fn with_number(sum: u32, number: u32) -> u32
 
 // Returns a checksum extended by an entry: its upper half, then its lower.
 fn with_entry(sum: u32, entry: u64) -> u32
-    ensures { result ≡ withEntry sum entry }
+    ensures { result ≡ with_entry sum entry }
 {
     let upper = (entry / 4294967296) as u32;
     let lower = (entry % 4294967296) as u32;
@@ -24,7 +24,7 @@ fn with_entry(sum: u32, entry: u64) -> u32
 
 // Returns the checksum of entries (composed lines or cells): of their count, then of each.
 pub fn sum_entries(entries: &[u64]) -> u32
-    ensures { result ≡ entriesSum entries.now }
+    ensures { result ≡ entries_sum entries.now }
 {
     let mut sum = (entries.len() % 4294967296) as u32;
     let mut i = 0;

@@ -11,7 +11,7 @@ module _ (a b : ℕ) (ha : a < 2 ^ 32) (hb : b < 2 ^ 32) where
       let l : a * b ≤ a * 2 ^ 32 = mul-le-mul_left a (le_of_lt hb) in
       record { fits = omega arith }
 
-  pub product-fits : Fits w64 (a * b)
-  product-fits =
+  pub product_fits : Fits w64 (a * b)
+  product_fits =
       let l : a * b ≤ a * 2 ^ 32 = mul-le-mul_left a (le_of_lt hb) in
       record { fits = omega arith }

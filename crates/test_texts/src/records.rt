@@ -1,16 +1,16 @@
 // Records of the test texts.
 ghost use Rattle.std.specs.Prelude.{◌≡◌, true, false, ◌<◌, eqb};
-ghost use Rattle.text.specs.Record.{isHead, alignmentOf, position_of, zerosOf, widthCodeOf, whitespaceOf};
+ghost use Rattle.text.specs.Record.{is_head, alignment_of, position_of, zeros_of, width_code_of, whitespace_of};
 
 use text::glyph::{STYLES, SYMBOLS};
 
 // Returns a head with an alignment.
 pub fn head(alignment: u32) -> u32
     requires { alignment < 4 }
-    ensures result_value { isHead result ≡ true }
-    ensures result_value_2 { alignmentOf result ≡ alignment }
+    ensures result_value { is_head result ≡ true }
+    ensures result_value_2 { alignment_of result ≡ alignment }
     ensures result_value_3 { position_of result ≡ 0 }
-    ensures result_value_4 { zerosOf result ≡ 0 }
+    ensures result_value_4 { zeros_of result ≡ 0 }
 {
     text::head::pack(alignment, 0)
 }
@@ -19,9 +19,9 @@ pub fn head(alignment: u32) -> u32
 pub fn glyph(width: u32, space: u32, x: u32) -> u32
     requires width_bound { width < 8 }
     requires space_bound { space < 2 }
-    ensures result_value { isHead result ≡ false }
-    ensures result_value_2 { widthCodeOf result ≡ width }
-    ensures result_value_3 { whitespaceOf result ≡ eqb space 1 }
+    ensures result_value { is_head result ≡ false }
+    ensures result_value_2 { width_code_of result ≡ width }
+    ensures result_value_3 { whitespace_of result ≡ eqb space 1 }
 {
     text::glyph::pack(x % SYMBOLS, width, space == 1, x % STYLES)
 }

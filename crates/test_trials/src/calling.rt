@@ -1,6 +1,6 @@
 // Runs one call on its input and compares the answer.
 ghost use Rattle.std.specs.Prelude.{◌≤◌, length};
-ghost use Rattle.preview_file.specs.FileExtra.{mostStyles, mostTitles, mostText};
+ghost use Rattle.preview_file.specs.FileExtra.{most_styles, most_titles, most_text};
 
 use crate::calls::{Call, draw, next_call};
 use crate::report;
@@ -45,7 +45,7 @@ fn answer(
     text: &mut [u32],
     cells: &mut [u64],
 ) -> u32
-    requires { (mostStyles ≤ length styles.old) × (mostTitles ≤ length titles.old) × (mostText ≤ length text.old) }
+    requires { (most_styles ≤ length styles.old) × (most_titles ≤ length titles.old) × (most_text ≤ length text.old) }
 {
     let Parsed::Good(opening) = preview_file::read(input, styles, titles, text) else {
         return 99;

@@ -1,9 +1,9 @@
 // The calls under test.
 ghost use Rattle.std.specs.Prelude.{◌≡◌};
-ghost use Rattle.draw_block.specs.Call.{blockAnswerNumber};
-ghost use Rattle.inner.specs.Call.{innerAnswerNumber};
-ghost use Rattle.draw_text.specs.Call.{drawAnswerNumber};
-ghost use Rattle.count_pages.specs.Call.{pagesAnswerNumber};
+ghost use Rattle.draw_block.specs.Call.{block_answer_number};
+ghost use Rattle.inner.specs.Call.{inner_answer_number};
+ghost use Rattle.draw_text.specs.Call.{draw_answer_number};
+ghost use Rattle.count_pages.specs.Call.{pages_answer_number};
 
 use crate::pages::read_back;
 use draw_block::BlockAnswer;
@@ -44,7 +44,7 @@ pub fn next_call(fd: i32) -> Call {
 
 // Returns the number of the refusal cause, or 0 if the block is drawn.
 fn block_number(framed: BlockAnswer) -> u32
-    ensures { result ≡ blockAnswerNumber framed }
+    ensures { result ≡ block_answer_number framed }
 {
     match framed {
         BlockAnswer::Done => 0,
@@ -54,7 +54,7 @@ fn block_number(framed: BlockAnswer) -> u32
 
 // Returns the number of the refusal cause, or 0 if the frame is drawn.
 fn frame_number(framed: InnerAnswer) -> u32
-    ensures { result ≡ innerAnswerNumber framed }
+    ensures { result ≡ inner_answer_number framed }
 {
     match framed {
         InnerAnswer::Area(_) => 0,
@@ -64,7 +64,7 @@ fn frame_number(framed: InnerAnswer) -> u32
 
 // Returns the number of the refusal cause, or 0 if the text is drawn.
 fn text_number(drawn: DrawAnswer) -> u32
-    ensures { result ≡ drawAnswerNumber drawn }
+    ensures { result ≡ draw_answer_number drawn }
 {
     match drawn {
         DrawAnswer::Counts(_) => 0,
@@ -74,7 +74,7 @@ fn text_number(drawn: DrawAnswer) -> u32
 
 // Returns the number of the refusal cause, or 0 if the pages are counted.
 fn pages_number(counted: PagesAnswer) -> u32
-    ensures { result ≡ pagesAnswerNumber counted }
+    ensures { result ≡ pages_answer_number counted }
 {
     match counted {
         PagesAnswer::Pages(_) => 0,

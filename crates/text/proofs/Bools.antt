@@ -4,9 +4,9 @@ use mathlib.Core.Path.{◌≡◌, refl}
 use mathlib.Core.Bool.{Bool, true, false, cond, ◌||◌, true≢false}
 use native.Mathlib.Omega.{arith}
 
-pub bit-small : (on : Bool) → cond on 1 0 < 2
-bit-small true = omega arith
-bit-small false = omega arith
+pub bit_small : (on : Bool) → cond on 1 0 < 2
+bit_small true = omega arith
+bit_small false = omega arith
 
 pub neither : (a b : Bool) → (a || b) ≡ false → (a ≡ false) × (b ≡ false)
 neither true b e = absurd (true≢false e)

@@ -20,10 +20,10 @@ some-append test (x ∷ first) later =
     ∙ sym (or_assoc (test x) (some test first) (some test later))
 
 module _ (test : ℕ → Bool) (first later : List ℕ) (found : Bool) (e : found ≡ some test first) where
-  pub first-has : found ≡ true → true ≡ some test (first ++ later)
-  first-has t = rw (some-append test first later) (first_holds (some test first) (some test later) found e t)
+  pub first_has : found ≡ true → true ≡ some test (first ++ later)
+  first_has t = rw (some-append test first later) (first_holds (some test first) (some test later) found e t)
 
-  pub later-has : (x : Bool) → found ≡ false → x ≡ some test later → x ≡ some test (first ++ later)
-  later-has x f p = rw (some-append test first later) (later-holds (some test first) (some test later) found e x f p)
+  pub later_has : (x : Bool) → found ≡ false → x ≡ some test later → x ≡ some test (first ++ later)
+  later_has x f p = rw (some-append test first later) (later-holds (some test first) (some test later) found e x f p)
 
-pub ruleset either = (first_holds, later-holds, first-has, later-has)
+pub ruleset either = (first_holds, later-holds, first_has, later_has)

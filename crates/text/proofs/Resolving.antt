@@ -7,7 +7,7 @@ use Rattle.text.specs.declared.Alignment.{Alignment}
 use Rattle.text.specs.declared.Alignment.TheVariants.{Left, Center, Right}
 use Rattle.text.specs.declared.TitlePosition.{TitlePosition}
 use Rattle.text.specs.declared.TitlePosition.TheVariants.{Top, Bottom}
-use Rattle.text.specs.Alignment.{alignmentNumber, resolved, resolvedPosition}
+use Rattle.text.specs.Alignment.{alignment_number, resolved, resolved_position}
 
 -- n is the field as the code reads it
 module _ (n field : ℕ) (e : n ≡ field) (default : Alignment) where
@@ -24,26 +24,26 @@ module _ (n field : ℕ) (e : n ≡ field) (default : Alignment) where
   default-alignment a b c = rw (← e) (simp (ne_eqb n 0 a, ne_eqb n 1 b, ne_eqb n 2 c))
 
 module _ (n field : ℕ) (e : n ≡ field) (default : TitlePosition) where
-  pub top : n ≡ 0 → Top ≡ resolvedPosition field default
+  pub top : n ≡ 0 → Top ≡ resolved_position field default
   top h = rw (← e, h)
 
-  pub bottom : n ≡ 1 → Bottom ≡ resolvedPosition field default
+  pub bottom : n ≡ 1 → Bottom ≡ resolved_position field default
   bottom h = rw (← e, h)
 
-  pub default-position : (n ≡ 0 → ⊥) → (n ≡ 1 → ⊥) → default ≡ resolvedPosition field default
-  default-position a b = rw (← e) (simp (ne_eqb n 0 a, ne_eqb n 1 b))
+  pub default_position : (n ≡ 0 → ⊥) → (n ≡ 1 → ⊥) → default ≡ resolved_position field default
+  default_position a b = rw (← e) (simp (ne_eqb n 0 a, ne_eqb n 1 b))
 
-pub ruleset resolving = (left, center, right, default-alignment, top, bottom, default-position)
+pub ruleset resolving = (left, center, right, default-alignment, top, bottom, default_position)
 
 -- a field below 3 is the number of the alignment that it resolves to
-pub resolved_number : (field : ℕ) (default : Alignment) → field < 3 → alignmentNumber (resolved field default) ≡ field
+pub resolved_number : (field : ℕ) (default : Alignment) → field < 3 → alignment_number (resolved field default) ≡ field
 resolved_number zero default h = refl
 resolved_number (suc zero) default h = refl
 resolved_number (suc (suc zero)) default h = refl
 resolved_number (suc (suc (suc n))) default h = absurd (omega arith)
 
 -- the number of a resolved alignment is never 3
-pub alignment-small : (n : ℕ) (alignment : Alignment) → n ≡ alignmentNumber alignment → n < 3
+pub alignment-small : (n : ℕ) (alignment : Alignment) → n ≡ alignment_number alignment → n < 3
 alignment-small n Left e = omega arith
 alignment-small n Center e = omega arith
 alignment-small n Right e = omega arith

@@ -6,10 +6,10 @@ use Rattle.text.specs.declared.TitlePosition.{TitlePosition}
 use Rattle.text.specs.declared.TitlePosition.TheVariants.{Top, Bottom}
 
 -- alignment: 0 left, 1 centre, 2 right
-abbrev pub alignmentNumber : Alignment → ℕ
-alignmentNumber Left = 0
-alignmentNumber Center = 1
-alignmentNumber Right = 2
+abbrev pub alignment_number : Alignment → ℕ
+alignment_number Left = 0
+alignment_number Center = 1
+alignment_number Right = 2
 
 -- 3 gives the default. "Alignment 3 in a title means none given": titles are chosen with the block's alignment as the default,
 -- and drawn with left as the default.
@@ -18,10 +18,10 @@ resolved alignment default =
     cond (eqb alignment 0) Left (cond (eqb alignment 1) Center (cond (eqb alignment 2) Right default))
 
 -- position in a title: 0 top, 1 bottom
-abbrev pub positionNumber : TitlePosition → ℕ
-positionNumber Top = 0
-positionNumber Bottom = 1
+abbrev pub position_number : TitlePosition → ℕ
+position_number Top = 0
+position_number Bottom = 1
 
 -- 2 gives the block's default; 3 is refused (cause 5)
-abbrev pub resolvedPosition : ℕ → TitlePosition → TitlePosition
-resolvedPosition position default = cond (eqb position 0) Top (cond (eqb position 1) Bottom default)
+abbrev pub resolved_position : ℕ → TitlePosition → TitlePosition
+resolved_position position default = cond (eqb position 0) Top (cond (eqb position 1) Bottom default)

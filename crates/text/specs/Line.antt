@@ -1,7 +1,7 @@
 -- Document 01, 'Packed fields': "A head opens a line." Holds for a text and for titles, where each line is a title.
 use Rattle.std.specs.Prelude.{ℕ, suc, ◌+◌, ◌<◌, ◌^◌, ◌≡◌, Bool, false, cond, not, List, [], ◌∷◌, length}
 use Rattle.text.specs.declared.AmbiguousWidth.{AmbiguousWidth}
-use Rattle.text.specs.Record.{isHead, symbol_of, width_of, whitespaceOf, styleOf}
+use Rattle.text.specs.Record.{is_head, symbol_of, width_of, whitespace_of, style_of}
 
 -- a glyph: its record number, with heads counted, and its fields, the width as read
 pub record Glyph : Type 0 where
@@ -13,14 +13,14 @@ pub record Glyph : Type 0 where
 
 -- the glyph of a record. C-11: "The promise of reading a glyph's width changes, and every part that asks for a width follows."
 -- Every rule that asks for a width asks a glyph.
-abbrev pub glyphFrom : AmbiguousWidth → ℕ → ℕ → Glyph
-glyphFrom ambiguous number r =
-    record { number = number; symbol = symbol_of r; width = width_of ambiguous r; whitespace = whitespaceOf r; style = styleOf r }
+abbrev pub glyph_from : AmbiguousWidth → ℕ → ℕ → Glyph
+glyph_from ambiguous number r =
+    record { number = number; symbol = symbol_of r; width = width_of ambiguous r; whitespace = whitespace_of r; style = style_of r }
 
 -- the records as glyphs, numbered from the number given
 abbrev pub numbered : AmbiguousWidth → ℕ → List ℕ → List Glyph
 numbered ambiguous number [] = []
-numbered ambiguous number (r ∷ rs) = glyphFrom ambiguous number r ∷ numbered ambiguous (suc number) rs
+numbered ambiguous number (r ∷ rs) = glyph_from ambiguous number r ∷ numbered ambiguous (suc number) rs
 
 -- 'Wrapping': "A list's width is its sum."
 abbrev pub total : List Glyph → ℕ
@@ -34,14 +34,14 @@ pub record Start : Type 0 where
 
 -- 'Rows, pages, tally': "In a composed line a glyph starts at the sum of the widths of its line's glyphs before it", counted from
 -- the column given: 0, or the start column ("drawing adds the start column"). The same for a title.
-abbrev pub startsFrom : ℕ → List Glyph → List Start
-startsFrom start [] = []
-startsFrom start (g ∷ gs) = record { start = start; glyph = g } ∷ startsFrom (start + g.width) gs
+abbrev pub starts_from : ℕ → List Glyph → List Start
+starts_from start [] = []
+starts_from start (g ∷ gs) = record { start = start; glyph = g } ∷ starts_from (start + g.width) gs
 
 -- the records before the next head
-abbrev pub untilHead : List ℕ → List ℕ
-untilHead [] = []
-untilHead (r ∷ rs) = cond (isHead r) [] (r ∷ untilHead rs)
+abbrev pub until_head : List ℕ → List ℕ
+until_head [] = []
+until_head (r ∷ rs) = cond (is_head r) [] (r ∷ until_head rs)
 
 -- a text line: its head, the number of the record after the head, and the records up to the next head
 pub record TextLine : Type 0 where
@@ -53,29 +53,29 @@ pub record TextLine : Type 0 where
 abbrev pub lines_from : ℕ → List ℕ → List TextLine
 lines_from number [] = []
 lines_from number (r ∷ rs) =
-    cond (isHead r)
-    (record { head = r; first = suc number; records = untilHead rs } ∷ lines_from (suc number) rs)
+    cond (is_head r)
+    (record { head = r; first = suc number; records = until_head rs } ∷ lines_from (suc number) rs)
     (lines_from (suc number) rs)
 
-abbrev pub glyphsOf : AmbiguousWidth → TextLine → List Glyph
-glyphsOf ambiguous line = numbered ambiguous line.first line.records
+abbrev pub glyphs_of : AmbiguousWidth → TextLine → List Glyph
+glyphs_of ambiguous line = numbered ambiguous line.first line.records
 
 -- 'Rows, pages, tally': "glyphs are the records that aren't heads", numbered from the number given
-abbrev pub glyphsFrom : AmbiguousWidth → ℕ → List ℕ → List Glyph
-glyphsFrom ambiguous number [] = []
-glyphsFrom ambiguous number (r ∷ rs) =
-    cond (isHead r)
-    (glyphsFrom ambiguous (suc number) rs)
-    (glyphFrom ambiguous number r ∷ glyphsFrom ambiguous (suc number) rs)
+abbrev pub glyphs_from : AmbiguousWidth → ℕ → List ℕ → List Glyph
+glyphs_from ambiguous number [] = []
+glyphs_from ambiguous number (r ∷ rs) =
+    cond (is_head r)
+    (glyphs_from ambiguous (suc number) rs)
+    (glyph_from ambiguous number r ∷ glyphs_from ambiguous (suc number) rs)
 
 -- 'Why a call is refused', causes 4 and 5: records "not empty and not opening with a head"
-abbrev pub notOpening : List ℕ → Bool
-notOpening [] = false
-notOpening (r ∷ rs) = not (isHead r)
+abbrev pub not_opening : List ℕ → Bool
+not_opening [] = false
+not_opening (r ∷ rs) = not (is_head r)
 
 -- Preconditions of functions that read records, established by the checks of a call: the records are empty or open with a head,
 abbrev pub Opens : List ℕ → Type 0
-Opens records = notOpening records ≡ false
+Opens records = not_opening records ≡ false
 
 -- and are few enough that no sum of their widths or numbers overflows 32 bits
 abbrev pub FewRecords : List ℕ → Type 0

@@ -1,6 +1,6 @@
 // Glyph, 32 bits: 0 | symbol 21 | width 3 | whitespace 1 | style 6.
 ghost use Rattle.std.specs.Prelude.{◌≡◌, cond, ◌≤◌, ◌<◌, ◌^◌};
-ghost use Rattle.text.specs.Record.{symbol_of, widthCodeOf, ambiguousCells, width_of, whitespaceOf, styleOf, glyphRecord};
+ghost use Rattle.text.specs.Record.{symbol_of, width_code_of, ambiguous_cells, width_of, whitespace_of, style_of, glyph_record};
 
 use crate::AmbiguousWidth;
 
@@ -32,14 +32,14 @@ pub fn symbol(glyph: u32) -> u32
 
 // The width field as it is packed; `width` reads it.
 pub fn width_code(glyph: u32) -> u32
-    ensures { result ≡ widthCodeOf glyph }
+    ensures { result ≡ width_code_of glyph }
 {
     glyph / WIDTH_PLACE % WIDTHS
 }
 
 // Returns the cells that an ambiguous glyph is read as.
 fn ambiguous_cells(ambiguous: AmbiguousWidth) -> u32
-    ensures { result ≡ ambiguousCells ambiguous }
+    ensures { result ≡ ambiguous_cells ambiguous }
 {
     match ambiguous {
         AmbiguousWidth::Narrow => 1,
@@ -59,13 +59,13 @@ pub fn width(glyph: u32, ambiguous: AmbiguousWidth) -> u32
 }
 
 pub fn is_whitespace(glyph: u32) -> bool
-    ensures { result ≡ whitespaceOf glyph }
+    ensures { result ≡ whitespace_of glyph }
 {
     glyph / WHITESPACE_PLACE % 2 == 1
 }
 
 pub fn style(glyph: u32) -> u32
-    ensures { result ≡ styleOf glyph }
+    ensures { result ≡ style_of glyph }
 {
     glyph % STYLES
 }
@@ -80,7 +80,7 @@ fn bit(on: bool) -> u32
 // Packs these fields into a glyph.
 pub fn pack(symbol: u32, width: u32, whitespace: bool, style: u32) -> u32
     requires { (symbol < 2 ^ 21) × (width < 2 ^ 3) × (style < 2 ^ 6) }
-    ensures { result ≡ glyphRecord symbol width whitespace style }
+    ensures { result ≡ glyph_record symbol width whitespace style }
 {
     symbol * SYMBOL_PLACE + width * WIDTH_PLACE + bit(whitespace) * WHITESPACE_PLACE + style
 }

@@ -1,7 +1,7 @@
 // Head, 32 bits: 1 | alignment 2 | position 2 | 27 zeros.
 ghost use Rattle.std.specs.Prelude.{◌≡◌, ◌<◌, ◌^◌};
-ghost use Rattle.text.specs.Record.{isHead, alignmentOf, position_of, zerosOf, headRecord};
-ghost use Rattle.text.specs.Alignment.{resolved, resolvedPosition};
+ghost use Rattle.text.specs.Record.{is_head, alignment_of, position_of, zeros_of, head_record};
+ghost use Rattle.text.specs.Alignment.{resolved, resolved_position};
 
 use crate::{Alignment, TitlePosition};
 
@@ -19,13 +19,13 @@ pub const POSITION_PLACE: u32 = 1 << 27;
 
 // Whether a record is a head; if not, it is a glyph.
 pub fn is_head(word: u32) -> bool
-    ensures { result ≡ isHead word }
+    ensures { result ≡ is_head word }
 {
     word / HEAD_PLACE == 1
 }
 
 pub fn alignment(head: u32) -> u32
-    ensures { result ≡ alignmentOf head }
+    ensures { result ≡ alignment_of head }
 {
     head / ALIGNMENT_PLACE % ALIGNMENTS
 }
@@ -37,7 +37,7 @@ pub fn position(head: u32) -> u32
 }
 
 pub fn zeros(head: u32) -> u32
-    ensures { result ≡ zerosOf head }
+    ensures { result ≡ zeros_of head }
 {
     head % POSITION_PLACE
 }
@@ -45,14 +45,14 @@ pub fn zeros(head: u32) -> u32
 // Packs these fields into a head, with zeros 0.
 pub fn pack(alignment: u32, position: u32) -> u32
     requires { (alignment < 2 ^ 2) × (position < 2 ^ 2) }
-    ensures { result ≡ headRecord alignment position }
+    ensures { result ≡ head_record alignment position }
 {
     HEAD_PLACE + alignment * ALIGNMENT_PLACE + position * POSITION_PLACE
 }
 
 // Returns the alignment that a head gives, or the default.
 pub fn resolve(head: u32, default_alignment: Alignment) -> Alignment
-    ensures { result ≡ resolved (alignmentOf head) default_alignment }
+    ensures { result ≡ resolved (alignment_of head) default_alignment }
 {
     match alignment(head) {
         0 => Alignment::Left,
@@ -64,7 +64,7 @@ pub fn resolve(head: u32, default_alignment: Alignment) -> Alignment
 
 // Returns the position that a title's head gives, or the default.
 pub fn resolve_position(head: u32, default_position: TitlePosition) -> TitlePosition
-    ensures { result ≡ resolvedPosition (position_of head) default_position }
+    ensures { result ≡ resolved_position (position_of head) default_position }
 {
     match position(head) {
         0 => TitlePosition::Top,

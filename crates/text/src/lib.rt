@@ -1,6 +1,6 @@
 // Records of a text and of titles: glyphs, heads, and the lines that heads open.
 ghost use Rattle.std.specs.Prelude.{◌≡◌};
-ghost use Rattle.text.specs.Alignment.{alignmentNumber};
+ghost use Rattle.text.specs.Alignment.{alignment_number};
 
 pub mod glyph;
 pub mod head;
@@ -30,7 +30,7 @@ pub enum AmbiguousWidth {
 
 // Returns the number of an alignment in packed records and entries.
 pub fn alignment_number(alignment: Alignment) -> u32
-    ensures { result ≡ alignmentNumber alignment }
+    ensures { result ≡ alignment_number alignment }
 {
     match alignment {
         Alignment::Left => 0,

@@ -1,12 +1,12 @@
 // The lines that heads open, as slices of the records.
 ghost use Rattle.std.specs.Prelude.{◌≡◌, length};
-ghost use Rattle.text.specs.Line.{untilHead, lines_from};
+ghost use Rattle.text.specs.Line.{until_head, lines_from};
 
 use crate::head;
 
 // Counts the records before the next head: those of the line whose head is just before `after`.
 pub fn line_length(after: &[u32]) -> usize
-    ensures { result ≡ length (untilHead after.now) }
+    ensures { result ≡ length (until_head after.now) }
 {
     let mut i = 0;
     while i < after.len() {

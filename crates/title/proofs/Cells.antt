@@ -9,31 +9,31 @@ use native.Mathlib.Omega.{arith}
 use Rattle.text.specs.declared.Alignment.{Alignment}
 use Rattle.text.specs.Line.{Glyph}
 use Rattle.layout.specs.declared.Rect.{Rect}
-use Rattle.layout.specs.Rect.{rightOf, contains}
+use Rattle.layout.specs.Rect.{right_of, contains}
 use Rattle.buffer.specs.Drawing.{inside}
 use Rattle.buffer.proofs.Over.{over-outside, inside-outside}
-use Rattle.buffer.proofs.Within.{cell-outside}
-use Rattle.title.specs.Title.{titleLine, titleIn}
+use Rattle.buffer.proofs.Within.{cell_outside}
+use Rattle.title.specs.Title.{title_line, title_in}
 
 module _ (styles : List ℕ) (style : ℕ) (area : Rect) (alignment : Alignment) (glyphs : List Glyph) (column row cell : ℕ) where
   abbrev line : ℕ → ℕ
-  line = inside area (λ column row. titleLine styles alignment area.width glyphs column) column row
+  line = inside area (λ column row. title_line styles alignment area.width glyphs column) column row
 
   -- a cell outside the title's area is unchanged
-  outside-unchanged : contains area column row ≡ false → titleIn styles style area alignment glyphs column row cell ≡ cell
-  unfolding titleIn
+  outside-unchanged : contains area column row ≡ false → title_in styles style area alignment glyphs column row cell ≡ cell
+  unfolding title_in
   outside-unchanged outside = ap line (over-outside area _ column row cell outside) ∙ inside-outside area _ column row cell outside
 
-  pub nothing-drawn : area.width ≡ 0 → titleIn styles style area alignment glyphs column row cell ≡ cell
+  pub nothing-drawn : area.width ≡ 0 → title_in styles style area alignment glyphs column row cell ≡ cell
   nothing-drawn none =
       outside-unchanged
       (dite (dec_lt column area.x)
-      (λ p. cell-outside _ _ _ _ column row (inl p))
-      (λ n. let p : rightOf area ≤ column = omega (arith, n) in cell-outside _ _ _ _ column row (inr (inl p))))
+      (λ p. cell_outside _ _ _ _ column row (inl p))
+      (λ n. let p : right_of area ≤ column = omega (arith, n) in cell_outside _ _ _ _ column row (inr (inl p))))
 
-  pub other-rows : area.height ≡ 1 → (row ≡ area.y → ⊥) → titleIn styles style area alignment glyphs column row cell ≡ cell
-  other-rows high other =
+  pub other_rows : area.height ≡ 1 → (row ≡ area.y → ⊥) → title_in styles style area alignment glyphs column row cell ≡ cell
+  other_rows high other =
       outside-unchanged
       (dite (dec_lt row area.y)
-      (λ p. cell-outside _ _ _ _ column row (inr (inr (inl p))))
-      (λ n. cell-outside _ _ _ _ column row (inr (inr (inr (omega (arith, n, other)))))))
+      (λ p. cell_outside _ _ _ _ column row (inr (inr (inl p))))
+      (λ n. cell_outside _ _ _ _ column row (inr (inr (inr (omega (arith, n, other)))))))

@@ -10,65 +10,65 @@ use native.Mathlib.Nat.{add_assoc, add-suc, add-zero, suc-add, zero-add}
 use native.Mathlib.Omega.{arith}
 use borrow.Author.Tests.{le-leb, ne_eqb}
 use lib.Dec.{eqb, ltb}
-use Rattle.text.specs.Line.{Glyph, Start, startsFrom}
+use Rattle.text.specs.Line.{Glyph, Start, starts_from}
 use Rattle.buffer.specs.PartsExtra.{windowed}
 use Rattle.buffer.proofs.Within.{within-inside, within-before}
-use Rattle.title_glyphs.specs.TitleGlyphs.{isDrawn, titleGlyphOn, untilOverrun, titleGlyphsOn}
+use Rattle.title_glyphs.specs.TitleGlyphs.{is_drawn, title_glyph_on, until_overrun, title_glyphs_on}
 
 -- comparing two numbers shifted by the same amount
-compare-moved : (a m n : ℕ) → compare (a + m) (a + n) ≡ compare m n
-compare-moved zero m n = simp zero-add
-compare-moved (suc a) m n = simp (suc-add, compare.suc-suc) (compare-moved a m n)
+compare_moved : (a m n : ℕ) → compare (a + m) (a + n) ≡ compare m n
+compare_moved zero m n = simp zero-add
+compare_moved (suc a) m n = simp (suc-add, compare.suc-suc) (compare_moved a m n)
 
-eqb-moved : (a m n : ℕ) → eqb (a + m) (a + n) ≡ eqb m n
-eqb-moved a m n = rw (compare-moved a m n)
+eqb_moved : (a m n : ℕ) → eqb (a + m) (a + n) ≡ eqb m n
+eqb_moved a m n = rw (compare_moved a m n)
 
-ltb-moved : (a m n : ℕ) → ltb (a + m) (a + n) ≡ ltb m n
-ltb-moved a m n = rw (← add-suc, compare-moved a (suc m) n)
+ltb_moved : (a m n : ℕ) → ltb (a + m) (a + n) ≡ ltb m n
+ltb_moved a m n = rw (← add-suc, compare_moved a (suc m) n)
 
 abbrev from : ℕ → Glyph → Start
 from column g = record { start = column; glyph = g }
 
 module _ (styles : List ℕ) where
   -- if no column is hidden, a glyph shifts with its line
-  glyph-moved : (a column : ℕ) (g : Glyph) (i cell : ℕ) → titleGlyphOn styles 0 (from (a + column) g) (a + i) cell ≡ titleGlyphOn styles 0 (from column g) i cell
-  unfolding titleGlyphOn isDrawn
+  glyph-moved : (a column : ℕ) (g : Glyph) (i cell : ℕ) → title_glyph_on styles 0 (from (a + column) g) (a + i) cell ≡ title_glyph_on styles 0 (from column g) i cell
+  unfolding title_glyph_on is_drawn
   glyph-moved a column g i cell =
-      rw (zero-add (a + i), zero-add i, eqb-moved a i column, le-leb 0 (a + column) (omega arith), le-leb 0 column (omega arith))
+      rw (zero-add (a + i), zero-add i, eqb_moved a i column, le-leb 0 (a + column) (omega arith), le-leb 0 column (omega arith))
 
   glyphs-moved : (a end column : ℕ) (gs : List Glyph) (i cell : ℕ)
-      → titleGlyphsOn styles 0 (untilOverrun (a + end) (startsFrom (a + column) gs)) (a + i) cell ≡ titleGlyphsOn styles 0 (untilOverrun end (startsFrom column gs)) i cell
+      → title_glyphs_on styles 0 (until_overrun (a + end) (starts_from (a + column) gs)) (a + i) cell ≡ title_glyphs_on styles 0 (until_overrun end (starts_from column gs)) i cell
   glyphs-moved a end column [] i cell = refl
   glyphs-moved a end column (g ∷ gs) i cell =
-      go (ltb (a + end) (a + column + g.width)) (ltb end (column + g.width)) (rw (add_assoc a column g.width) (ltb-moved a end (column + g.width)))
+      go (ltb (a + end) (a + column + g.width)) (ltb end (column + g.width)) (rw (add_assoc a column g.width) (ltb_moved a end (column + g.width)))
       (λ c. rw (add_assoc a column g.width) (glyphs-moved a end (column + g.width) gs i c)) (glyph-moved a column g i cell)
     where
       go : (over over-moved : Bool) → over ≡ over-moved
-          → ((c : ℕ) → titleGlyphsOn styles 0 (untilOverrun (a + end) (startsFrom (a + column + g.width) gs)) (a + i) c
-          ≡ titleGlyphsOn styles 0 (untilOverrun end (startsFrom (column + g.width) gs)) i c)
-          → titleGlyphOn styles 0 (from (a + column) g) (a + i) cell ≡ titleGlyphOn styles 0 (from column g) i cell
-          → titleGlyphsOn styles 0 (cond over [] (from (a + column) g ∷ untilOverrun (a + end) (startsFrom (a + column + g.width) gs))) (a + i) cell
-          ≡ titleGlyphsOn styles 0 (cond over-moved [] (from column g ∷ untilOverrun end (startsFrom (column + g.width) gs))) i cell
+          → ((c : ℕ) → title_glyphs_on styles 0 (until_overrun (a + end) (starts_from (a + column + g.width) gs)) (a + i) c
+          ≡ title_glyphs_on styles 0 (until_overrun end (starts_from (column + g.width) gs)) i c)
+          → title_glyph_on styles 0 (from (a + column) g) (a + i) cell ≡ title_glyph_on styles 0 (from column g) i cell
+          → title_glyphs_on styles 0 (cond over [] (from (a + column) g ∷ until_overrun (a + end) (starts_from (a + column + g.width) gs))) (a + i) cell
+          ≡ title_glyphs_on styles 0 (cond over-moved [] (from column g ∷ until_overrun end (starts_from (column + g.width) gs))) i cell
       go true true e others first = refl
-      go false false e others first = others _ ∙ ap (titleGlyphsOn styles 0 (untilOverrun end (startsFrom (column + g.width) gs)) i) first
+      go false false e others first = others _ ∙ ap (title_glyphs_on styles 0 (until_overrun end (starts_from (column + g.width) gs)) i) first
       go true false e others first = absurd (let z : ◌≡◌ {A = ℕ} 0 1 = cc in omega arith)
       go false true e others first = absurd (let z : ◌≡◌ {A = ℕ} 0 1 = cc in omega arith)
 
   -- no cell before the first glyph changes
-  glyph-before : (column : ℕ) (g : Glyph) (i cell : ℕ) → i < column → titleGlyphOn styles 0 (from column g) i cell ≡ cell
-  unfolding titleGlyphOn
+  glyph-before : (column : ℕ) (g : Glyph) (i cell : ℕ) → i < column → title_glyph_on styles 0 (from column g) i cell ≡ cell
+  unfolding title_glyph_on
   glyph-before column g i cell h =
       let other : eqb (0 + i) column ≡ false = ne_eqb (0 + i) column (λ e. omega arith) in
       simp (other, and-false)
 
-  glyphs-before : (end column : ℕ) (gs : List Glyph) (i cell : ℕ) → i < column → titleGlyphsOn styles 0 (untilOverrun end (startsFrom column gs)) i cell ≡ cell
+  glyphs-before : (end column : ℕ) (gs : List Glyph) (i cell : ℕ) → i < column → title_glyphs_on styles 0 (until_overrun end (starts_from column gs)) i cell ≡ cell
   glyphs-before end column [] i cell h = refl
   glyphs-before end column (g ∷ gs) i cell h =
       go (ltb end (column + g.width)) (λ c. glyphs-before end (column + g.width) gs i c (omega arith)) (glyph-before column g i cell h)
     where
-      go : (b : Bool) → ((c : ℕ) → titleGlyphsOn styles 0 (untilOverrun end (startsFrom (column + g.width) gs)) i c ≡ c)
-          → titleGlyphOn styles 0 (from column g) i cell ≡ cell
-          → titleGlyphsOn styles 0 (cond b [] (from column g ∷ untilOverrun end (startsFrom (column + g.width) gs))) i cell ≡ cell
+      go : (b : Bool) → ((c : ℕ) → title_glyphs_on styles 0 (until_overrun end (starts_from (column + g.width) gs)) i c ≡ c)
+          → title_glyph_on styles 0 (from column g) i cell ≡ cell
+          → title_glyphs_on styles 0 (cond b [] (from column g ∷ until_overrun end (starts_from (column + g.width) gs))) i cell ≡ cell
       go true others first = refl
       go false others first = others _ ∙ first
 
@@ -76,8 +76,8 @@ module _ (styles : List ℕ) where
   module _ (gs : List Glyph) (w i cell : ℕ) (inside : i < w) where
     abbrev SliceDrawsLine : ℕ → ℕ → Type 0
     SliceDrawsLine hidden start =
-        windowed start w (titleGlyphsOn styles hidden (untilOverrun (hidden + (w - start)) (startsFrom 0 gs))) i cell
-        ≡ titleGlyphsOn styles hidden (untilOverrun (hidden + w) (startsFrom start gs)) i cell
+        windowed start w (title_glyphs_on styles hidden (until_overrun (hidden + (w - start)) (starts_from 0 gs))) i cell
+        ≡ title_glyphs_on styles hidden (until_overrun (hidden + w) (starts_from start gs)) i cell
 
     none_hidden : (start : ℕ) → start ≤ w → SliceDrawsLine 0 start
     none_hidden start low =

@@ -1,14 +1,14 @@
 // Writing of a title line on a row of cells.
 ghost use Rattle.std.specs.Prelude.{◌≡◌, length};
 ghost use Rattle.buffer.specs.Drawing.{changed};
-ghost use Rattle.title_glyphs.specs.TitleGlyphs.{titleGlyphs};
-ghost use Rattle.title.specs.Title.{lineStart, hiddenColumns, titleLine};
+ghost use Rattle.title_glyphs.specs.TitleGlyphs.{glyphs_of_title};
+ghost use Rattle.title.specs.Title.{line_start, hidden_columns, title_line};
 
 use text::{Alignment, AmbiguousWidth};
 
 // Returns the start column of a line of width t in w columns.
 fn line_start(alignment: Alignment, t: u16, w: u16) -> u16
-    ensures { result ≡ lineStart alignment t w }
+    ensures { result ≡ line_start alignment t w }
 {
     match alignment {
         Alignment::Left => 0,
@@ -19,7 +19,7 @@ fn line_start(alignment: Alignment, t: u16, w: u16) -> u16
 
 // Returns the number of hidden columns of a line of width t in w columns.
 fn hidden_columns(alignment: Alignment, t: u16, w: u16) -> u16
-    ensures { result ≡ hiddenColumns alignment t w }
+    ensures { result ≡ hidden_columns alignment t w }
 {
     match alignment {
         Alignment::Left => 0,
@@ -38,7 +38,7 @@ pub fn write_title_line(
     ambiguous: AmbiguousWidth,
 )
     requires { w ≡ length row.old }
-    ensures { let line = titleLine styles.now alignment w (titleGlyphs ambiguous glyphs.now) in
+    ensures { let line = title_line styles.now alignment w (glyphs_of_title ambiguous glyphs.now) in
         row.new ≡ changed line row.old }
 {
     let t = crate::line_width_u16(glyphs, ambiguous);

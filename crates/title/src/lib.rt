@@ -3,11 +3,11 @@
 mod glyphs;
 
 ghost use Rattle.std.specs.Prelude.{◌≡◌, length};
-ghost use Rattle.layout.specs.Rect.{rightOf};
+ghost use Rattle.layout.specs.Rect.{right_of};
 ghost use Rattle.buffer.specs.Drawing.{drawn};
 ghost use Rattle.buffer.specs.PartsExtra.{in_row};
-ghost use Rattle.title_glyphs.specs.TitleGlyphs.{titleGlyphs};
-ghost use Rattle.title.specs.Title.{titleLineWidth, titleLine, titleIn};
+ghost use Rattle.title_glyphs.specs.TitleGlyphs.{glyphs_of_title};
+ghost use Rattle.title.specs.Title.{title_line_width, title_line, title_in};
 ghost use Rattle.title.specs.FittingExtra.{TitleArea};
 
 use buffer::{Ink, Screen};
@@ -16,7 +16,7 @@ use text::{Alignment, AmbiguousWidth};
 
 // Returns the width of a title line, saturating at 65,535 (block.rs: `Block::line_width_u16`).
 pub fn line_width_u16(glyphs: &[u32], ambiguous: AmbiguousWidth) -> u16
-    ensures { result ≡ titleLineWidth (titleGlyphs ambiguous glyphs.now) }
+    ensures { result ≡ title_line_width (glyphs_of_title ambiguous glyphs.now) }
 {
     let mut width: u16 = 0;
     let mut i = 0;
@@ -38,8 +38,8 @@ fn render_title_line(
     ambiguous: AmbiguousWidth,
 )
     requires { TitleArea screen (length cells.old) area }
-    ensures { let line = titleLine styles.now alignment area.width (titleGlyphs ambiguous glyphs.now) in
-        let drawing = in_row area.x (rightOf area) area.y line in
+    ensures { let line = title_line styles.now alignment area.width (glyphs_of_title ambiguous glyphs.now) in
+        let drawing = in_row area.x (right_of area) area.y line in
         cells.new ≡ drawn screen.columns drawing cells.old }
 {
     let row = (area.y as usize) * (screen.columns as usize);
@@ -67,7 +67,7 @@ pub fn render_title(
     ambiguous: AmbiguousWidth,
 )
     requires { TitleArea screen (length cells.old) area }
-    ensures { let drawing = titleIn styles.now style area alignment (titleGlyphs ambiguous glyphs.now) in
+    ensures { let drawing = title_in styles.now style area alignment (glyphs_of_title ambiguous glyphs.now) in
         cells.new ≡ drawn screen.columns drawing cells.old }
 {
     let ink = Ink::Style(buffer::style_at(styles, style));

@@ -2,9 +2,9 @@
 
 ghost use Rattle.std.specs.Prelude.{◌≡◌, ◌+◌, ◌^◌, ◌≤◌, ◌<◌, length};
 ghost use Rattle.text.specs.Record.{width_of};
-ghost use Rattle.text.specs.Line.{glyphFrom, startsFrom};
+ghost use Rattle.text.specs.Line.{glyph_from, starts_from};
 ghost use Rattle.buffer.specs.Drawing.{changed};
-ghost use Rattle.title_glyphs.specs.TitleGlyphs.{titleGlyphs, untilOverrun, titleGlyphOn, titleGlyphsOn};
+ghost use Rattle.title_glyphs.specs.TitleGlyphs.{glyphs_of_title, until_overrun, title_glyph_on, title_glyphs_on};
 
 use buffer::Ink;
 use text::{AmbiguousWidth, glyph};
@@ -19,7 +19,7 @@ fn write_glyph(
     ambiguous: AmbiguousWidth,
 )
     requires { column + width_of ambiguous word ≤ hidden + length row.old }
-    ensures { let change = titleGlyphOn styles.now hidden (record { start = column; glyph = glyphFrom ambiguous 0 word }) in
+    ensures { let change = title_glyph_on styles.now hidden (record { start = column; glyph = glyph_from ambiguous 0 word }) in
         row.new ≡ changed change row.old }
 {
     if column < hidden {
@@ -43,8 +43,8 @@ pub fn write_glyphs(
     ambiguous: AmbiguousWidth,
 )
     requires { hidden + length row.old < 2 ^ 32 }
-    ensures { let starts = startsFrom 0 (titleGlyphs ambiguous glyphs.now) in
-        let change = titleGlyphsOn styles.now hidden (untilOverrun (hidden + length row.old) starts) in
+    ensures { let starts = starts_from 0 (glyphs_of_title ambiguous glyphs.now) in
+        let change = title_glyphs_on styles.now hidden (until_overrun (hidden + length row.old) starts) in
         row.new ≡ changed change row.old }
 {
     let end = hidden + row.len();

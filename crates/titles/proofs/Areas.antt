@@ -14,8 +14,8 @@ use Rattle.layout.specs.Rect.{is_empty}
 use Rattle.buffer.specs.declared.Screen.{Screen}
 use Rattle.title.specs.FittingExtra.{TitleArea}
 use Rattle.titles.specs.declared.Place.{Place}
-use Rattle.titles.specs.Titles.{withX, withWidth, pastTitle, centeredFrom, centerOffset}
-use Rattle.titles.specs.PlacingExtra.{centerPlace, AreaFits}
+use Rattle.titles.specs.Titles.{with_x, with_width, past_title, centered_from, center_offset}
+use Rattle.titles.specs.PlacingExtra.{center_place, AreaFits}
 
 -- a non-empty rectangle has a column
 some-columns : (r : Rect) → is_empty r ≡ false → 0 < r.width
@@ -24,8 +24,8 @@ some-columns r h =
     omega (arith, n)
 
 -- and a row, so it is non-empty with any other width above 0
-non-empty-with-width : (r : Rect) (x width : ℕ) → is_empty r ≡ false → 0 < width → is_empty (withX x (withWidth width r)) ≡ false
-non-empty-with-width r x width h k = rw (ne_eqb width 0 (λ e. omega arith)) (neither (eqb r.width 0) (eqb r.height 0) h).1
+non_empty_with_width : (r : Rect) (x width : ℕ) → is_empty r ≡ false → 0 < width → is_empty (with_x x (with_width width r)) ≡ false
+non_empty_with_width r x width h k = rw (ne_eqb width 0 (λ e. omega arith)) (neither (eqb r.width 0) (eqb r.height 0) h).1
 
 -- an area of one row with a column is non-empty
 pub one-row-some : (r : Rect) → r.height ≡ 1 → 0 < r.width → is_empty r ≡ false
@@ -39,18 +39,18 @@ pub record TestedArea (s : Screen) (cells : ℕ) (area : Rect) (empty : Bool) : 
 module _ (s : Screen) (cells : ℕ) (area : Rect) where
   -- its right edge doesn't saturate
   pub edge-within : TitleArea s cells area → area.x + area.width < 2 ^ 15
-  edge-within f = omega (arith, f.on-screen.right, f.few-columns)
+  edge-within f = omega (arith, f.on_screen.right, f.few-columns)
 
   -- columns that end within it lie on the screen
-  columns-fit : (x width : ℕ) → TitleArea s cells area → x + width ≤ area.x + area.width → TitleArea s cells (withX x (withWidth width area))
-  columns-fit x width f h =
+  columns_fit : (x width : ℕ) → TitleArea s cells area → x + width ≤ area.x + area.width → TitleArea s cells (with_x x (with_width width area))
+  columns_fit x width f h =
       record {
-        on-screen =
+        on_screen =
             record {
-              columns = f.on-screen.columns;
-              size = f.on-screen.size;
-              right = omega (arith, h, f.on-screen.right, f.few-columns);
-              bottom = f.on-screen.bottom;
+              columns = f.on_screen.columns;
+              size = f.on_screen.size;
+              right = omega (arith, h, f.on_screen.right, f.few-columns);
+              bottom = f.on_screen.bottom;
             };
         one-row = f.one-row;
         in_rows = f.in_rows;
@@ -69,30 +69,30 @@ module _ (s : Screen) (cells : ℕ) (area : Rect) where
       (λ n. omega (arith, n))
 
 -- the area remaining after a title
-pub past_fits : (s : Screen) (cells : ℕ) (area : Rect) (width : ℕ) → TitleArea s cells area → AreaFits s cells (pastTitle width area)
+pub past_fits : (s : Screen) (cells : ℕ) (area : Rect) (width : ℕ) → TitleArea s cells area → AreaFits s cells (past_title width area)
 past_fits s cells area width f h =
-    let k : 0 < (pastTitle width area).width = some-columns (pastTitle width area) h in
+    let k : 0 < (past_title width area).width = some-columns (past_title width area) h in
     let e : area.x + area.width < 2 ^ 15 = edge-within s cells area f in
-    columns-fit s cells area (pastTitle width area).x (pastTitle width area).width f (past-edge area.x area.width width e k)
+    columns_fit s cells area (past_title width area).x (past_title width area).width f (past-edge area.x area.width width e k)
   where
     past-edge : (x w t : ℕ) → x + w < 2 ^ 15 → 0 < w - held (t + 1) → held (x + held (t + 1)) + (w - held (t + 1)) ≤ x + w
     past-edge x w t e k = omega arith
 
 -- the area of the first centred title: the middle of the titles area, or all of it
-pub center-area-fits : (s : Screen) (cells : ℕ) (area : Rect) (total : ℕ) (p : Place) → AreaFits s cells area → p ≡ centerPlace area total → AreaFits s cells p.area
-unfolding centerPlace
+pub center-area-fits : (s : Screen) (cells : ℕ) (area : Rect) (total : ℕ) (p : Place) → AreaFits s cells area → p ≡ center_place area total → AreaFits s cells p.area
+unfolding center_place
 center-area-fits s cells area total p fits e = rw e (go (leb total area.width) refl)
   where
     middle : Rect
-    middle = withWidth total (centeredFrom total area)
+    middle = with_width total (centered_from total area)
 
     middle-edge : (x width : ℕ) → x + width < 2 ^ 15 → total ≤ width → held (x + (width - total) / 2) + total ≤ x + width
     middle-edge x width few h = omega arith
 
     go : (b : Bool) → leb total area.width ≡ b
-        → AreaFits s cells (cond {A = Place} b (record { area = middle; offset = 0; truncates = false }) (record { area = area; offset = centerOffset total area; truncates = true })).area
+        → AreaFits s cells (cond {A = Place} b (record { area = middle; offset = 0; truncates = false }) (record { area = area; offset = center_offset total area; truncates = true })).area
     go true e h =
         let k : total ≤ area.width = leb-true total area.width e in
-        let f : TitleArea s cells area = fits (non-empty-with-width middle area.x area.width h (omega (arith, some-columns middle h))) in
-        columns-fit s cells area middle.x total f (middle-edge area.x area.width (edge-within s cells area f) k)
+        let f : TitleArea s cells area = fits (non_empty_with_width middle area.x area.width h (omega (arith, some-columns middle h))) in
+        columns_fit s cells area middle.x total f (middle-edge area.x area.width (edge-within s cells area f) k)
     go false e h = fits h

@@ -11,79 +11,79 @@ use Rattle.block.specs.declared.Block.{Block}
 use Rattle.title.specs.FittingExtra.{TitleArea}
 use Rattle.titles.specs.declared.Place.{Place}
 use Rattle.titles.specs.declared.Group.{Group}
-use Rattle.titles.specs.Titles.{Title, titleRead, isChosen, filteredTitles, titleWidth, PlacedTitle, givenAlignment, setAlignment, titlesDrawn, withWidth, pastTitle, centeredFrom, centerOffset, spacedFrom, rightTitles}
+use Rattle.titles.specs.Titles.{Title, title_read, is_chosen, filtered_titles, title_width, PlacedTitle, given_alignment, set_alignment, titles_drawn, with_width, past_title, centered_from, center_offset, spaced_from, right_titles}
 
 -- width that the next title gets, given the width it needs
-abbrev pub placedWidth : Place → ℕ → ℕ
-placedWidth p width = min p.area.width width - p.offset
+abbrev pub placed_width : Place → ℕ → ℕ
+placed_width p width = min p.area.width width - p.offset
 
 -- alignment that the next title's line is drawn with, given its head
-abbrev pub placedAlignment : Place → ℕ → Alignment
-placedAlignment p head = cond p.truncates (setAlignment p.offset) (givenAlignment head)
+abbrev pub placed_alignment : Place → ℕ → Alignment
+placed_alignment p head = cond p.truncates (set_alignment p.offset) (given_alignment head)
 
 -- the place after a title of this width
-abbrev pub nextPlace : Place → ℕ → Place
-nextPlace p width =
-    record { area = pastTitle width p.area; offset = p.offset - width - 1; truncates = p.truncates }
+abbrev pub next_place : Place → ℕ → Place
+next_place p width =
+    record { area = past_title width p.area; offset = p.offset - width - 1; truncates = p.truncates }
 
 -- a title at a place
 abbrev pub placed_at : Place → Title → PlacedTitle
 placed_at p t =
     record {
-      area = withWidth (placedWidth p (titleWidth t)) p.area;
-      alignment = placedAlignment p t.head;
+      area = with_width (placed_width p (title_width t)) p.area;
+      alignment = placed_alignment p t.head;
       title = t;
     }
 
 -- titles placed one after another: left titles, and centred titles with or without truncation
-abbrev pub placedTitles : Place → List Title → List PlacedTitle
-placedTitles p [] = []
-placedTitles p (t ∷ ts) =
-    cond (is_empty p.area) [] (placed_at p t ∷ placedTitles (nextPlace p (placedWidth p (titleWidth t))) ts)
+abbrev pub placed_titles : Place → List Title → List PlacedTitle
+placed_titles p [] = []
+placed_titles p (t ∷ ts) =
+    cond (is_empty p.area) [] (placed_at p t ∷ placed_titles (next_place p (placed_width p (title_width t))) ts)
 
 -- place of the first centred title, given the total width: that width in the middle of the area if it fits, else the whole area
 -- with an offset of half the excess
-unfoldable pub centerPlace : Rect → ℕ → Place
-centerPlace area total =
+unfoldable pub center_place : Rect → ℕ → Place
+center_place area total =
     cond (leb total area.width)
-    (record { area = withWidth total (centeredFrom total area); offset = 0; truncates = false })
-    (record { area = area; offset = centerOffset total area; truncates = true })
+    (record { area = with_width total (centered_from total area); offset = 0; truncates = false })
+    (record { area = area; offset = center_offset total area; truncates = true })
 
 -- the remaining titles area is empty or lies on the screen
 abbrev pub AreaFits : Screen → ℕ → Rect → Type 0
 AreaFits s cells area = is_empty area ≡ false → TitleArea s cells area
 
 -- the titles of a group
-abbrev pub titlesOf : Block → Group → List Title → List Title
-titlesOf b g ts = filteredTitles b g.position g.alignment ts
+abbrev pub titles_of : Block → Group → List Title → List Title
+titles_of b g ts = filtered_titles b g.position g.alignment ts
 
 -- the line with this head and these records, of which the first has this number
 abbrev pub line_of : ℕ → ℕ → List ℕ → TextLine
 line_of number head records = record { head = head; first = number; records = records }
 
 -- the title with this head and these records
-abbrev pub titleOf : AmbiguousWidth → ℕ → List ℕ → Title
-titleOf ambiguous head records = titleRead ambiguous (line_of 0 head records)
+abbrev pub title_of : AmbiguousWidth → ℕ → List ℕ → Title
+title_of ambiguous head records = title_read ambiguous (line_of 0 head records)
 
 -- `next` is `sum` plus the spaced width of one more title, if it belongs to the group
 abbrev pub Added : Block → Group → Title → ℕ → ℕ → Type 0
-Added b g t sum next = (ts : List Title) → spacedFrom next (titlesOf b g ts) ≡ spacedFrom sum (titlesOf b g (t ∷ ts))
+Added b g t sum next = (ts : List Title) → spaced_from next (titles_of b g ts) ≡ spaced_from sum (titles_of b g (t ∷ ts))
 
 -- one more title is placed, if it belongs to the group: drawing the others from `next` completes the drawing of all from `p`
 pub record Moved (s : Screen) (styles : List ℕ) (b : Block) (g : Group) (t : Title) (p : Place) (cells : List ℕ) (next : Place) (after : List ℕ) : Type 0 where
   pub fits : AreaFits s (length after) next.area
   pub same_length : length after ≡ length cells
   pub draws : (ts : List Title)
-      → drawn s.columns (titlesDrawn styles b (placedTitles next (titlesOf b g ts))) after
-      ≡ drawn s.columns (titlesDrawn styles b (placedTitles p (titlesOf b g (t ∷ ts)))) cells
+      → drawn s.columns (titles_drawn styles b (placed_titles next (titles_of b g ts))) after
+      ≡ drawn s.columns (titles_drawn styles b (placed_titles p (titles_of b g (t ∷ ts)))) cells
 
 -- the same for right titles, the last one first
 pub record MovedBack (s : Screen) (styles : List ℕ) (b : Block) (g : Group) (t : Title) (area : Rect) (cells : List ℕ) (next : Rect) (after : List ℕ) : Type 0 where
   pub fits : AreaFits s (length after) next
   pub same_length : length after ≡ length cells
   pub draws : (ts : List Title)
-      → drawn s.columns (titlesDrawn styles b (rightTitles next ts)) after
-      ≡ drawn s.columns (titlesDrawn styles b (rightTitles area (cond (isChosen b g.position g.alignment t.head) (t ∷ ts) ts))) cells
+      → drawn s.columns (titles_drawn styles b (right_titles next ts)) after
+      ≡ drawn s.columns (titles_drawn styles b (right_titles area (cond (is_chosen b g.position g.alignment t.head) (t ∷ ts) ts))) cells
 
 -- `at` is the record number of the last head before record `end`
 pub record LastHead (titles : List ℕ) (end at : ℕ) : Type 0 where

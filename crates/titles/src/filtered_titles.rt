@@ -1,13 +1,13 @@
 // Selection of the titles of a group (block.rs: `Block::filtered_titles`).
 ghost use Rattle.std.specs.Prelude.{◌≡◌};
-ghost use Rattle.titles.specs.Titles.{sameAlignment, isChosen};
+ghost use Rattle.titles.specs.Titles.{same_alignment, is_chosen};
 
 use crate::Group;
 use block::{Block, titled};
 use text::{Alignment, head};
 
 fn is_aligned(alignment: Alignment, wanted: Alignment) -> bool
-    ensures { result ≡ sameAlignment alignment wanted }
+    ensures { result ≡ same_alignment alignment wanted }
 {
     text::alignment_number(alignment) == text::alignment_number(wanted)
 }
@@ -15,7 +15,7 @@ fn is_aligned(alignment: Alignment, wanted: Alignment) -> bool
 impl Group {
     // Whether the title with this head belongs to the group, by its given or default position and alignment.
     pub fn has_title(self, block: Block, head: u32) -> bool
-        ensures { result ≡ isChosen block self.position self.alignment head }
+        ensures { result ≡ is_chosen block self.position self.alignment head }
     {
         let default_position = block.titles_position;
         let default_alignment = block.titles_alignment;

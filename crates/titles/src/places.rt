@@ -1,7 +1,7 @@
 // Placement of titles one after another, from left to right.
 ghost use Rattle.std.specs.Prelude.{◌≡◌, ◌+◌};
 ghost use Rattle.num.specs.Held.{held};
-ghost use Rattle.titles.specs.PlacingExtra.{placedWidth, placedAlignment, nextPlace};
+ghost use Rattle.titles.specs.PlacingExtra.{placed_width, placed_alignment, next_place};
 
 use crate::Place;
 use layout::Rect;
@@ -17,7 +17,7 @@ pub fn spaced(width: u16) -> u16
 impl Place {
     // Returns the width that the next title gets, given the width it needs.
     pub fn width(self, width: u16) -> u16
-        ensures { result ≡ placedWidth self width }
+        ensures { result ≡ placed_width self width }
     {
         num::saturating_sub(num::min(self.area.width, width), self.offset)
     }
@@ -25,7 +25,7 @@ impl Place {
     // Returns the alignment of the next title: if titles are truncated, right while the offset is above 0, then left; otherwise
     // the one in its head, left if none.
     pub fn alignment(self, word: u32) -> Alignment
-        ensures { result ≡ placedAlignment self word }
+        ensures { result ≡ placed_alignment self word }
     {
         if self.truncates {
             if 0 < self.offset {
@@ -38,7 +38,7 @@ impl Place {
 
     // Returns the place after a title of this width.
     pub fn next(self, width: u16) -> Place
-        ensures { result ≡ nextPlace self width }
+        ensures { result ≡ next_place self width }
     {
         let old = self.area;
         let advance = spaced(width);

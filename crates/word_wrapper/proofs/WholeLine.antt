@@ -8,27 +8,27 @@ use native.Mathlib.Numerals.{add-one}
 use lib.Dec.{eqb}
 use lib.ListN.{length, get_or, drop, length-drop}
 use lib.Seq.{drop-cons}
-use Rattle.text.specs.Line.{Glyph, glyphFrom, numbered}
+use Rattle.text.specs.Line.{Glyph, glyph_from, numbered}
 use Rattle.wrapping.specs.declared.Run.{Run}
 use Rattle.wrapping.specs.declared.Rule.{Rule}
 use Rattle.word_wrapper.specs.declared.WordWrapper.{WordWrapper}
 use Rattle.pending.specs.declared.LastRun.TheVariants.{Emit, Nothing}
-use Rattle.pending.specs.TestsExtra.{gatherRun, lastRun}
-use Rattle.wrapping.specs.Wrapping.{Pending, emptyPending, empty, gathered, step, lastLines, atLeastOne, Wrapped, wrapFrom, wrap}
-use Rattle.wrapping.specs.RunsExtra.{emptyRun, run_of}
-use Rattle.word_wrapper.specs.StepsExtra.{newWrapper, pendingOf, closeRun, next_from, finishRun, stepRun}
-use Rattle.word_wrapper.specs.PullsExtra.{Shows, WrapperInvariant, line_of, next_of, runsFrom, runs}
+use Rattle.pending.specs.TestsExtra.{gather_run, last_run}
+use Rattle.wrapping.specs.Wrapping.{Pending, empty_pending, empty, gathered, step, last_lines, at_least_one, Wrapped, wrap_from, wrap}
+use Rattle.wrapping.specs.RunsExtra.{empty_run, run_of}
+use Rattle.word_wrapper.specs.StepsExtra.{new_wrapper, pending_of, close_run, next_from, finish_run, step_run}
+use Rattle.word_wrapper.specs.PullsExtra.{Shows, WrapperInvariant, line_of, next_of, runs_from, runs}
 use Rattle.text.proofs.Bools.{cond_cases}
-use Rattle.wrapping.proofs.ListRuns.{run-empty, empty-read}
+use Rattle.wrapping.proofs.ListRuns.{run_empty, empty-read}
 use Rattle.wrapping.proofs.LastLines.{last-lines-gathered}
-use Rattle.word_wrapper.proofs.States.{spaces-empty, gathered-agree, gathered-read}
-use Rattle.word_wrapper.proofs.Simulation.{ReadAll, step-matches}
+use Rattle.word_wrapper.proofs.States.{spaces-empty, gathered_agree, gathered-read}
+use Rattle.word_wrapper.proofs.Simulation.{ReadAll, step_matches}
 
 -- The rules' lines from a state on and, if no line was emitted before, at least one. The word wrapper emits that empty line at
--- the text line's end (`emitted` is false); the rules add it to the whole list (`atLeastOne`).
+-- the text line's end (`emitted` is false); the rules add it to the whole list (`at_least_one`).
 abbrev owed : Bool → List (List Glyph) → List (List Glyph)
 owed true lines = lines
-owed false lines = atLeastOne lines
+owed false lines = at_least_one lines
 
 owed-later : (emitted : Bool) (now later : List (List Glyph)) → owed emitted (now ++ later) ≡ now ++ owed (emitted || not (empty now)) later
 owed-later true now later = refl
@@ -38,15 +38,15 @@ owed-later false (l ∷ now) later = refl
 -- ---- the text line's end
 
 module _ (u : Rule) (records : List ℕ) (s : WordWrapper) (t : Pending) (h : Shows u records s t) where
-  finish-lines-agree : line_of (finishRun u s) ≡ map run_of (owed s.emitted (lastLines u t))
-  unfolding finishRun lastRun
-  finish-lines-agree =
+  finish_lines_agree : line_of (finish_run u s) ≡ map run_of (owed s.emitted (last_lines u t))
+  unfolding finish_run last_run
+  finish_lines_agree =
       let l : List Glyph = gathered u t in
-      let g : gatherRun u.trim (pendingOf s) ≡ run_of l = gathered-agree u records s t h in
-      rw (g, run-empty l, spaces-empty u records s t h, last-lines-gathered u t) (cases (empty l) (empty t.spaces) s.emitted l)
+      let g : gather_run u.trim (pending_of s) ≡ run_of l = gathered_agree u records s t h in
+      rw (g, run_empty l, spaces-empty u records s t h, last-lines-gathered u t) (cases (empty l) (empty t.spaces) s.emitted l)
     where
       cases : (a b c : Bool) (l : List Glyph) →
-          line_of (next_from (closeRun s) (cond a (cond b (cond c Nothing (Emit emptyRun)) (Emit emptyRun)) (Emit (run_of l))))
+          line_of (next_from (close_run s) (cond a (cond b (cond c Nothing (Emit empty_run)) (Emit empty_run)) (Emit (run_of l))))
           ≡ map run_of (owed c (cond a (cond b [] ([] ∷ [])) (l ∷ [])))
       cases true true true l = refl
       cases true true false l = refl
@@ -55,7 +55,7 @@ module _ (u : Rule) (records : List ℕ) (s : WordWrapper) (t : Pending) (h : Sh
       cases false b true l = refl
       cases false b false l = refl
 
-  last-read : ReadAll u records (lastLines u t)
+  last-read : ReadAll u records (last_lines u t)
   last-read =
       rw (last-lines-gathered u t)
       (cond_cases (ReadAll u records) (empty (gathered u t)) (cond (empty t.spaces) [] ([] ∷ [])) (gathered u t ∷ [])
@@ -74,22 +74,22 @@ read-append : (u : Rule) (records : List ℕ) (a b : List (List Glyph)) → Read
 read-append u records [] b p q = q
 read-append u records (l ∷ a) b p q = (p.0, read-append u records a b p.1 q)
 
-runs-agree : (u : Rule) (records xs : List ℕ) (s : WordWrapper) (t : Pending) → Shows u records s t → xs ≡ drop s.at records →
-    let ls = (wrapFrom u t (numbered u.ambiguous s.at xs)).lines in
-    (runsFrom u records s xs ≡ map run_of (owed s.emitted ls)) × ReadAll u records ls
-runs-agree u records [] s t h e = (finish-lines-agree u records s t h, last-read u records s t h)
-runs-agree u records (x ∷ xs) s t h e =
+runs_agree : (u : Rule) (records xs : List ℕ) (s : WordWrapper) (t : Pending) → Shows u records s t → xs ≡ drop s.at records →
+    let ls = (wrap_from u t (numbered u.ambiguous s.at xs)).lines in
+    (runs_from u records s xs ≡ map run_of (owed s.emitted ls)) × ReadAll u records ls
+runs_agree u records [] s t h e = (finish_lines_agree u records s t h, last-read u records s t h)
+runs_agree u records (x ∷ xs) s t h e =
     let d = drop_head s.at records x xs e in
-    let m = step-matches u records s t h d.0 in
-    let n = next_of (stepRun u records s (get_or records s.at 0)) in
-    let r = step u t (glyphFrom u.ambiguous s.at (get_or records s.at 0)) in
-    let i = runs-agree u records xs n r.pending m.shows (rw m.follows.at d.2) in
+    let m = step_matches u records s t h d.0 in
+    let n = next_of (step_run u records s (get_or records s.at 0)) in
+    let r = step u t (glyph_from u.ambiguous s.at (get_or records s.at 0)) in
+    let i = runs_agree u records xs n r.pending m.shows (rw m.follows.at d.2) in
     let i' = rw (m.follows.at, m.follows.emitted, add-one) at i in
     rw d.1 (rw (owed-later s.emitted r.lines, map-append run_of, m.lines, i'.0), read-append u records r.lines _ m.read i'.1)
 
 -- ---- from the start of the text line
 
-start-shows : (u : Rule) (records : List ℕ) → Shows u records (newWrapper u) emptyPending
+start-shows : (u : Rule) (records : List ℕ) → Shows u records (new_wrapper u) empty_pending
 start-shows u records =
     record {
       left = [];
@@ -102,18 +102,18 @@ start-shows u records =
       within = omega arith;
     }
 
-pub start-sound : (u : Rule) (records : List ℕ) → WrapperInvariant u records (newWrapper u)
-start-sound u records = record { pending = emptyPending; shows = start-shows u records }
+pub start-sound : (u : Rule) (records : List ℕ) → WrapperInvariant u records (new_wrapper u)
+start-sound u records = record { pending = empty_pending; shows = start-shows u records }
 
-pub start-runs : (u : Rule) (records : List ℕ) → runs u records (newWrapper u) ≡ map run_of (wrap u (numbered u.ambiguous 0 records)).lines
+pub start-runs : (u : Rule) (records : List ℕ) → runs u records (new_wrapper u) ≡ map run_of (wrap u (numbered u.ambiguous 0 records)).lines
 unfolding runs wrap
-start-runs u records = both (eqb u.limit 0) _ _ (runs-agree u records records (newWrapper u) emptyPending (start-shows u records) refl).0
+start-runs u records = both (eqb u.limit 0) _ _ (runs_agree u records records (new_wrapper u) empty_pending (start-shows u records) refl).0
   where
     both : (b : Bool) (rs : List Run) (w : Wrapped) → rs ≡ map run_of w.lines → cond (not b) rs [] ≡ map run_of (cond b (record { lines = []; dropped = [] }) w).lines
     both true rs w e = refl
     both false rs w e = e
 
-one-read : (u : Rule) (records : List ℕ) (ls : List (List Glyph)) → ReadAll u records ls → ReadAll u records (atLeastOne ls)
+one-read : (u : Rule) (records : List ℕ) (ls : List (List Glyph)) → ReadAll u records ls → ReadAll u records (at_least_one ls)
 one-read u records [] r = (empty-read u records, tt)
 one-read u records (l ∷ ls) r = r
 
@@ -122,4 +122,4 @@ unfolding wrap
 wrap-read u records =
     cond_cases (λ (w : Wrapped). ReadAll u records w.lines) (eqb u.limit 0) _ _
     (λ _. tt)
-    (λ _. one-read u records (wrapFrom u emptyPending (numbered u.ambiguous 0 records)).lines (runs-agree u records records (newWrapper u) emptyPending (start-shows u records) refl).1)
+    (λ _. one-read u records (wrap_from u empty_pending (numbered u.ambiguous 0 records)).lines (runs_agree u records records (new_wrapper u) empty_pending (start-shows u records) refl).1)

@@ -8,9 +8,9 @@ use Rattle.word_wrapper.specs.declared.Stepped.{Stepped}
 use Rattle.word_wrapper.specs.declared.Stepped.TheVariants.{Emitted, Continued}
 use Rattle.word_wrapper.specs.declared.NextRun.{NextRun}
 use Rattle.word_wrapper.specs.declared.NextRun.TheVariants.{OneRun, Done}
-use Rattle.wrapping.specs.Wrapping.{Pending, notOverWide}
+use Rattle.wrapping.specs.Wrapping.{Pending, not_over_wide}
 use Rattle.wrapping.specs.RunsExtra.{run_of, Spans}
-use Rattle.word_wrapper.specs.StepsExtra.{stepRun, finishRun}
+use Rattle.word_wrapper.specs.StepsExtra.{step_run, finish_run}
 
 -- Invariant: row, spaces and word are the runs of three consecutive lists at the end of the glyphs read so far, over-wide ones
 -- left out. The glyphs before them, `left`, were emitted or dropped.
@@ -20,7 +20,7 @@ pub record Shows (u : Rule) (records : List ℕ) (s : WordWrapper) (t : Pending)
   pub is-spaces : s.spaces ≡ run_of t.spaces
   pub is_word : s.word ≡ run_of t.word
   pub is-solid : s.solid ≡ t.solid
-  pub split : notOverWide u (numbered u.ambiguous 0 (take s.at records)) ≡ left ++ (t.row ++ (t.spaces ++ t.word))
+  pub split : not_over_wide u (numbered u.ambiguous 0 (take s.at records)) ≡ left ++ (t.row ++ (t.spaces ++ t.word))
   pub wordless : t.solid ≡ false → t.word ≡ []
   pub within : s.at ≤ length records
 
@@ -32,21 +32,21 @@ abbrev pub line_of : NextRun → List Run
 line_of (OneRun line s) = line ∷ []
 line_of Done = []
 
-abbrev pub emittedOf : Stepped → List Run
-emittedOf (Emitted s line) = line ∷ []
-emittedOf (Continued s) = []
+abbrev pub emitted_of : Stepped → List Run
+emitted_of (Emitted s line) = line ∷ []
+emitted_of (Continued s) = []
 
 abbrev pub next_of : Stepped → WordWrapper
 next_of (Emitted s line) = s
 next_of (Continued s) = s
 
 -- remaining lines of a state, given the remaining records
-abbrev pub runsFrom : Rule → List ℕ → WordWrapper → List ℕ → List Run
-runsFrom u records s [] = line_of (finishRun u s)
-runsFrom u records s (r ∷ rs) = emittedOf (stepRun u records s r) ++ runsFrom u records (next_of (stepRun u records s r)) rs
+abbrev pub runs_from : Rule → List ℕ → WordWrapper → List ℕ → List Run
+runs_from u records s [] = line_of (finish_run u s)
+runs_from u records s (r ∷ rs) = emitted_of (step_run u records s r) ++ runs_from u records (next_of (step_run u records s r)) rs
 
 unfoldable pub runs : Rule → List ℕ → WordWrapper → List Run
-runs u records s = cond s.live (runsFrom u records s (drop s.at records)) []
+runs u records s = cond s.live (runs_from u records s (drop s.at records)) []
 
 -- the line that `next_line` returns, and the lines remaining after it
 unfoldable pub pulled : Rule → List ℕ → NextRun → List Run

@@ -1,54 +1,54 @@
 -- Not in the papers: what each method of the word wrapper computes on runs of records. The rules, on lists of glyphs, are in
 -- `Wrapping` (crate `wrapping`); the laws in proofs/ show that the two agree.
 use Rattle.std.specs.Prelude.{ℕ, ◌+◌, ◌-◌, Bool, true, false, cond, not, ◌&&◌, List, eqb, ltb}
-use Rattle.text.specs.Record.{width_of, whitespaceOf}
+use Rattle.text.specs.Record.{width_of, whitespace_of}
 use Rattle.wrapping.specs.declared.Rule.{Rule}
 use Rattle.word_wrapper.specs.declared.WordWrapper.{WordWrapper}
 use Rattle.word_wrapper.specs.declared.Stepped.{Stepped}
 use Rattle.word_wrapper.specs.declared.Stepped.TheVariants.{Emitted, Continued}
 use Rattle.word_wrapper.specs.declared.NextRun.{NextRun}
 use Rattle.word_wrapper.specs.declared.NextRun.TheVariants.{OneRun, Done}
-use Rattle.wrapping.specs.RunsExtra.{emptyRun, pushRun, dropRun}
+use Rattle.wrapping.specs.RunsExtra.{empty_run, push_run, drop_run}
 use Rattle.pending.specs.declared.Pending.{Pending}
 use Rattle.pending.specs.declared.LastRun.{LastRun}
 use Rattle.pending.specs.declared.LastRun.TheVariants.{Emit, Nothing}
-use Rattle.pending.specs.TestsExtra.{gatherRun, joins, fullRun, lastRun}
+use Rattle.pending.specs.TestsExtra.{gather_run, joins, full_run, last_run}
 
-abbrev pub newWrapper : Rule → WordWrapper
-newWrapper u =
+abbrev pub new_wrapper : Rule → WordWrapper
+new_wrapper u =
     record {
-      row = emptyRun;
-      spaces = emptyRun;
-      word = emptyRun;
+      row = empty_run;
+      spaces = empty_run;
+      word = empty_run;
       solid = false;
       emitted = false;
       live = not (eqb u.limit 0);
       at = 0;
     }
 
-abbrev pub pendingOf : WordWrapper → Pending
-pendingOf s = record { row = s.row; spaces = s.spaces; word = s.word; solid = s.solid }
+abbrev pub pending_of : WordWrapper → Pending
+pending_of s = record { row = s.row; spaces = s.spaces; word = s.word; solid = s.solid }
 
-unfoldable pub joinRun : Bool → WordWrapper → WordWrapper
-joinRun trim s =
+unfoldable pub join_run : Bool → WordWrapper → WordWrapper
+join_run trim s =
     record {
-      row = gatherRun trim (pendingOf s);
-      spaces = emptyRun;
-      word = emptyRun;
+      row = gather_run trim (pending_of s);
+      spaces = empty_run;
+      word = empty_run;
       solid = s.solid;
       emitted = s.emitted;
       live = s.live;
       at = s.at;
     }
 
-unfoldable pub joinIfDueRun : Rule → WordWrapper → ℕ → Bool → WordWrapper
-joinIfDueRun u s w space = cond (joins u (pendingOf s) w space) (joinRun u.trim s) s
+unfoldable pub join_if_due_run : Rule → WordWrapper → ℕ → Bool → WordWrapper
+join_if_due_run u s w space = cond (joins u (pending_of s) w space) (join_run u.trim s) s
 
-unfoldable pub emitRowRun : Rule → List ℕ → WordWrapper → WordWrapper
-emitRowRun u records s =
+unfoldable pub emit_row_run : Rule → List ℕ → WordWrapper → WordWrapper
+emit_row_run u records s =
     record {
-      row = emptyRun;
-      spaces = dropRun u records s.spaces (u.limit - s.row.width);
+      row = empty_run;
+      spaces = drop_run u records s.spaces (u.limit - s.row.width);
       word = s.word;
       solid = s.solid;
       emitted = true;
@@ -56,8 +56,8 @@ emitRowRun u records s =
       at = s.at;
     }
 
-unfoldable pub skipGlyphRun : WordWrapper → WordWrapper
-skipGlyphRun s =
+unfoldable pub skip_glyph_run : WordWrapper → WordWrapper
+skip_glyph_run s =
     record {
       row = s.row;
       spaces = s.spaces;
@@ -68,12 +68,12 @@ skipGlyphRun s =
       at = s.at + 1;
     }
 
-unfoldable pub appendGlyphRun : WordWrapper → ℕ → Bool → WordWrapper
-appendGlyphRun s w space =
+unfoldable pub append_glyph_run : WordWrapper → ℕ → Bool → WordWrapper
+append_glyph_run s w space =
     cond space
     (record {
       row = s.row;
-      spaces = pushRun s.spaces s.at w;
+      spaces = push_run s.spaces s.at w;
       word = s.word;
       solid = false;
       emitted = s.emitted;
@@ -83,7 +83,7 @@ appendGlyphRun s w space =
     (record {
       row = s.row;
       spaces = s.spaces;
-      word = pushRun s.word s.at w;
+      word = push_run s.word s.at w;
       solid = true;
       emitted = s.emitted;
       live = s.live;
@@ -91,21 +91,21 @@ appendGlyphRun s w space =
     })
 
 -- after an emit: a whitespace glyph is dropped if spaces is now empty
-unfoldable pub appendOrDropRun : WordWrapper → ℕ → Bool → WordWrapper
-appendOrDropRun s w space = cond (space && eqb s.spaces.end 0) (skipGlyphRun s) (appendGlyphRun s w space)
+unfoldable pub append_or_drop_run : WordWrapper → ℕ → Bool → WordWrapper
+append_or_drop_run s w space = cond (space && eqb s.spaces.end 0) (skip_glyph_run s) (append_glyph_run s w space)
 
-unfoldable pub emitOrAppendRun : Rule → List ℕ → WordWrapper → ℕ → Bool → Stepped
-emitOrAppendRun u records s w space =
-    cond (fullRun u (pendingOf s) w) (Emitted (appendOrDropRun (emitRowRun u records s) w space) s.row) (Continued (appendGlyphRun s w space))
+unfoldable pub emit_or_append_run : Rule → List ℕ → WordWrapper → ℕ → Bool → Stepped
+emit_or_append_run u records s w space =
+    cond (full_run u (pending_of s) w) (Emitted (append_or_drop_run (emit_row_run u records s) w space) s.row) (Continued (append_glyph_run s w space))
 
 -- steps 1 to 4 for the glyph of the record r
-unfoldable pub stepRun : Rule → List ℕ → WordWrapper → ℕ → Stepped
-stepRun u records s r =
-    cond (ltb u.limit (width_of u.ambiguous r)) (Continued (skipGlyphRun s))
-    (emitOrAppendRun u records (joinIfDueRun u s (width_of u.ambiguous r) (whitespaceOf r)) (width_of u.ambiguous r) (whitespaceOf r))
+unfoldable pub step_run : Rule → List ℕ → WordWrapper → ℕ → Stepped
+step_run u records s r =
+    cond (ltb u.limit (width_of u.ambiguous r)) (Continued (skip_glyph_run s))
+    (emit_or_append_run u records (join_if_due_run u s (width_of u.ambiguous r) (whitespace_of r)) (width_of u.ambiguous r) (whitespace_of r))
 
-unfoldable pub closeRun : WordWrapper → WordWrapper
-closeRun s =
+unfoldable pub close_run : WordWrapper → WordWrapper
+close_run s =
     record {
       row = s.row;
       spaces = s.spaces;
@@ -121,5 +121,5 @@ abbrev pub next_from : WordWrapper → LastRun → NextRun
 next_from s (Emit line) = OneRun line s
 next_from s Nothing = Done
 
-unfoldable pub finishRun : Rule → WordWrapper → NextRun
-finishRun u s = next_from (closeRun s) (lastRun u.trim s.emitted (pendingOf s))
+unfoldable pub finish_run : Rule → WordWrapper → NextRun
+finish_run u s = next_from (close_run s) (last_run u.trim s.emitted (pending_of s))

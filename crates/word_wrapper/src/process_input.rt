@@ -1,9 +1,9 @@
 // Methods of the word wrapper: each takes the state and returns the next one.
 ghost use Rattle.std.specs.Prelude.{◌≡◌, ◌+◌, ◌-◌, ◌^◌, ◌≤◌, ◌<◌, length, get_or};
 ghost use Rattle.text.specs.Line.{FewRecords};
-ghost use Rattle.wrapping.specs.RunsExtra.{run_of, glyphsIn};
-ghost use Rattle.word_wrapper.specs.StepsExtra.{newWrapper, pendingOf, joinRun, joinIfDueRun, emitRowRun, skipGlyphRun, appendGlyphRun};
-ghost use Rattle.word_wrapper.specs.StepsExtra.{appendOrDropRun, emitOrAppendRun, stepRun, closeRun, finishRun};
+ghost use Rattle.wrapping.specs.RunsExtra.{run_of, glyphs_in};
+ghost use Rattle.word_wrapper.specs.StepsExtra.{new_wrapper, pending_of, join_run, join_if_due_run, emit_row_run, skip_glyph_run, append_glyph_run};
+ghost use Rattle.word_wrapper.specs.StepsExtra.{append_or_drop_run, emit_or_append_run, step_run, close_run, finish_run};
 ghost use Rattle.word_wrapper.specs.PullsExtra.{WrapperInvariant, PulledRun};
 
 use crate::{NextRun, Stepped, WordWrapper};
@@ -15,7 +15,7 @@ use wrapping::{GlyphWidth, Rule, Run};
 impl WordWrapper {
     // Returns the state before a text line's first glyph; limit 0 gives no line (reflow.rs: `WordWrapper::new`).
     pub fn new(rule: Rule) -> WordWrapper
-        ensures { result ≡ newWrapper rule }
+        ensures { result ≡ new_wrapper rule }
     {
         let none = Run::empty();
         WordWrapper {
@@ -31,7 +31,7 @@ impl WordWrapper {
 
     // Returns the pending part of the state.
     fn pending(self) -> Pending
-        ensures { result ≡ pendingOf self }
+        ensures { result ≡ pending_of self }
     {
         let row = self.row;
         let spaces = self.spaces;
@@ -48,7 +48,7 @@ impl WordWrapper {
     // Joins spaces and word to row.
     fn join(self, trim: bool) -> WordWrapper
         requires { self.row.width + self.spaces.width + self.word.width < 2 ^ 32 }
-        ensures { result ≡ joinRun trim self }
+        ensures { result ≡ join_run trim self }
     {
         let row = self.pending().gather(trim);
         let none = Run::empty();
@@ -62,7 +62,7 @@ impl WordWrapper {
     // Step 2: joins spaces and word to row if the glyph requires it.
     fn join_if_due(self, rule: Rule, w: usize, space: bool) -> WordWrapper
         requires { self.row.width + self.spaces.width + self.word.width + w < 2 ^ 32 }
-        ensures { result ≡ joinIfDueRun rule self w space }
+        ensures { result ≡ join_if_due_run rule self w space }
     {
         if self.pending().must_join(rule, w, space) {
             return self.join(rule.trim);
@@ -72,8 +72,8 @@ impl WordWrapper {
 
     // Step 3 after row is emitted: empties row and drops spaces while they fit in its remaining width.
     fn emit_row(self, rule: Rule, records: &[u32]) -> WordWrapper
-        requires { (self.spaces.end ≤ length records.now) × (self.spaces ≡ run_of (glyphsIn rule records.now self.spaces)) }
-        ensures { result ≡ emitRowRun rule records.now self }
+        requires { (self.spaces.end ≤ length records.now) × (self.spaces ≡ run_of (glyphs_in rule records.now self.spaces)) }
+        ensures { result ≡ emit_row_run rule records.now self }
     {
         let row = self.row;
         let spaces = self.spaces;
@@ -90,7 +90,7 @@ impl WordWrapper {
     // Skips the glyph.
     fn skip_glyph(self) -> WordWrapper
         requires { self.at + 1 < 2 ^ 64 }
-        ensures { result ≡ skipGlyphRun self }
+        ensures { result ≡ skip_glyph_run self }
     {
         let mut next = self;
         next.at = self.at + 1;
@@ -100,7 +100,7 @@ impl WordWrapper {
     // Step 4: appends the glyph to spaces or word.
     fn append_glyph(self, w: usize, space: bool) -> WordWrapper
         requires { (self.row.width + self.spaces.width + self.word.width + w < 2 ^ 32) × (self.at + 1 < 2 ^ 64) }
-        ensures { result ≡ appendGlyphRun self w space }
+        ensures { result ≡ append_glyph_run self w space }
     {
         let at = self.at;
         let mut next = self;
@@ -122,7 +122,7 @@ impl WordWrapper {
     // After an emit: drops a whitespace glyph if spaces is now empty, else appends the glyph.
     fn append_or_drop(self, w: usize, space: bool) -> WordWrapper
         requires { (self.row.width + self.spaces.width + self.word.width + w < 2 ^ 32) × (self.at + 1 < 2 ^ 64) }
-        ensures { result ≡ appendOrDropRun self w space }
+        ensures { result ≡ append_or_drop_run self w space }
     {
         if space {
             if self.spaces.end == 0 {
@@ -137,7 +137,7 @@ impl WordWrapper {
     fn emit_or_append(self, rule: Rule, records: &[u32], w: usize, space: bool) -> Stepped
         requires wrapper_invariant { WrapperInvariant rule records.now self }
         requires few_records { FewRecords records.now × (self.at < length records.now) × (w < 8) }
-        ensures { result ≡ emitOrAppendRun rule records.now self w space }
+        ensures { result ≡ emit_or_append_run rule records.now self w space }
     {
         let row = self.row;
         if self.pending().is_full(rule, w) {
@@ -152,7 +152,7 @@ impl WordWrapper {
     fn step(self, rule: Rule, records: &[u32]) -> Stepped
         requires wrapper_invariant { WrapperInvariant rule records.now self }
         requires few_records { FewRecords records.now × (self.at < length records.now) }
-        ensures { result ≡ stepRun rule records.now self (get_or records.now self.at 0) }
+        ensures { result ≡ step_run rule records.now self (get_or records.now self.at 0) }
     {
         let at = self.at;
         let record = records[at];
@@ -166,7 +166,7 @@ impl WordWrapper {
 
     // Returns the state with no line remaining.
     pub fn close(self) -> WordWrapper
-        ensures { result ≡ closeRun self }
+        ensures { result ≡ close_run self }
     {
         let mut next = self;
         next.live = false;
@@ -176,7 +176,7 @@ impl WordWrapper {
     // Ends the text line: returns its last line, if one remains (reflow.rs: the end of `WordWrapper::process_input`).
     fn finish(self, rule: Rule) -> NextRun
         requires { self.row.width + self.spaces.width + self.word.width < 2 ^ 32 }
-        ensures { result ≡ finishRun rule self }
+        ensures { result ≡ finish_run rule self }
     {
         match self.pending().last_line(rule.trim, self.emitted) {
             LastRun::Emit(line) => NextRun::OneRun(line, self.close()),

@@ -5,34 +5,34 @@ use mathlib.Core.Bool.{Bool, true, false, cond, true≢false}
 use native.Mathlib.Omega.{arith}
 use borrow.Author.Tests.{ltb-true, ltb-false, lt-ltb, le-ltb}
 use lib.Dec.{ltb}
-use Rattle.text.specs.Record.{widthCodeOf, width_of}
-use Rattle.text.proofs.Reading.{width-plain, width-most}
+use Rattle.text.specs.Record.{width_code_of, width_of}
+use Rattle.text.proofs.Reading.{width_plain, width-most}
 use Rattle.wrapping.specs.declared.Rule.{Rule}
 use Rattle.wrapping.specs.declared.GlyphWidth.{GlyphWidth}
 use Rattle.wrapping.specs.declared.GlyphWidth.TheVariants.{Fits, OverWide}
-use Rattle.wrapping.specs.RunsExtra.{fittingOf}
+use Rattle.wrapping.specs.RunsExtra.{fitting_of}
 
-pub plain-limit : (limit : ℕ) → limit < 6 → limit ≡ min limit 6
-plain-limit limit h = omega arith
+pub plain_limit : (limit : ℕ) → limit < 6 → limit ≡ min limit 6
+plain_limit limit h = omega arith
 
-pub plain-most : (limit : ℕ) → 6 ≤ limit → 6 ≡ min limit 6
-plain-most limit h = omega arith
+pub plain_most : (limit : ℕ) → 6 ≤ limit → 6 ≡ min limit 6
+plain_most limit h = omega arith
 
 module _ (u : Rule) (r : ℕ) where
-  pub fitting-fits : (w : ℕ) → w ≡ width_of u.ambiguous r → w ≤ u.limit → Fits w ≡ fittingOf u r
-  unfolding fittingOf
+  pub fitting-fits : (w : ℕ) → w ≡ width_of u.ambiguous r → w ≤ u.limit → Fits w ≡ fitting_of u r
+  unfolding fitting_of
   fitting-fits w e h = rw (← e, le-ltb u.limit w h)
 
   -- a code that is a width within the limit
-  pub fitting-plain : (code plain : ℕ) → code ≡ widthCodeOf r → plain ≡ min u.limit 6 → code ≤ plain → Fits code ≡ fittingOf u r
-  fitting-plain code plain e p h =
-      fitting-fits code (width-plain u.ambiguous code r e (λ (seven : code ≡ 7). omega (arith, p))) (omega (arith, p))
+  pub fitting_plain : (code plain : ℕ) → code ≡ width_code_of r → plain ≡ min u.limit 6 → code ≤ plain → Fits code ≡ fitting_of u r
+  fitting_plain code plain e p h =
+      fitting-fits code (width_plain u.ambiguous code r e (λ (seven : code ≡ 7). omega (arith, p))) (omega (arith, p))
 
-  pub fitting-over : (w : ℕ) → w ≡ width_of u.ambiguous r → u.limit < w → OverWide ≡ fittingOf u r
-  unfolding fittingOf
+  pub fitting-over : (w : ℕ) → w ≡ width_of u.ambiguous r → u.limit < w → OverWide ≡ fitting_of u r
+  unfolding fitting_of
   fitting-over w e h = rw (← e, lt-ltb u.limit w h)
 
-pub ruleset fittings = (plain-limit, plain-most, fitting-plain, fitting-over, fitting-fits)
+pub ruleset fittings = (plain_limit, plain_most, fitting_plain, fitting-over, fitting-fits)
 
 -- ---- what the answer tells
 
@@ -44,10 +44,10 @@ abbrev cells_in : GlyphWidth → ℕ
 cells_in (Fits w) = w
 cells_in OverWide = 0
 
-module _ (u : Rule) (r : ℕ) (f : GlyphWidth) (e : f ≡ fittingOf u r) where
+module _ (u : Rule) (r : ℕ) (f : GlyphWidth) (e : f ≡ fitting_of u r) where
   module _ (w : ℕ) (k : f ≡ Fits w) where
     fits_width : (w ≡ width_of u.ambiguous r) × (w ≤ u.limit)
-    unfolding fittingOf
+    unfolding fitting_of
     fits_width = go (ltb u.limit (width_of u.ambiguous r)) refl (sym k ∙ e)
       where
         go : (b : Bool) → ltb u.limit (width_of u.ambiguous r) ≡ b → Fits w ≡ cond b OverWide (Fits (width_of u.ambiguous r))
@@ -57,8 +57,8 @@ module _ (u : Rule) (r : ℕ) (f : GlyphWidth) (e : f ≡ fittingOf u r) where
             let is : w ≡ width_of u.ambiguous r = ap cells_in q in
             (is, omega (arith, is, ltb-false u.limit (width_of u.ambiguous r) t))
 
-    pub fits-read-as : w ≡ width_of u.ambiguous r
-    fits-read-as = fits_width.0
+    pub fits-read_as : w ≡ width_of u.ambiguous r
+    fits-read_as = fits_width.0
 
     pub fits-limit : w ≤ u.limit
     fits-limit = fits_width.1
@@ -67,7 +67,7 @@ module _ (u : Rule) (r : ℕ) (f : GlyphWidth) (e : f ≡ fittingOf u r) where
     fits-most = omega (arith, fits_width.0, width-most u.ambiguous r)
 
   pub over-limit : f ≡ OverWide → u.limit < width_of u.ambiguous r
-  unfolding fittingOf
+  unfolding fitting_of
   over-limit k = go (ltb u.limit (width_of u.ambiguous r)) refl (sym k ∙ e)
     where
       go : (b : Bool) → ltb u.limit (width_of u.ambiguous r) ≡ b → OverWide ≡ cond b OverWide (Fits (width_of u.ambiguous r)) → u.limit < width_of u.ambiguous r

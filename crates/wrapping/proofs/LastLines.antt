@@ -4,10 +4,10 @@ use mathlib.Core.Bool.{Bool, true, false, cond, not, ◌&&◌, ◌||◌}
 use mathlib.Core.List.{List, [], ◌∷◌, ◌++◌}
 use Rattle.text.specs.Line.{Glyph}
 use Rattle.wrapping.specs.declared.Rule.{Rule}
-use Rattle.wrapping.specs.Wrapping.{Pending, empty, takesSpaces, gathered, lastLines}
+use Rattle.wrapping.specs.Wrapping.{Pending, empty, takes_spaces, gathered, last_lines}
 
-pub last-lines-gathered : (u : Rule) (t : Pending) → lastLines u t ≡ cond (empty (gathered u t)) (cond (empty t.spaces) [] ([] ∷ [])) (gathered u t ∷ [])
-unfolding lastLines gathered takesSpaces
+pub last-lines-gathered : (u : Rule) (t : Pending) → last_lines u t ≡ cond (empty (gathered u t)) (cond (empty t.spaces) [] ([] ∷ [])) (gathered u t ∷ [])
+unfolding last_lines gathered takes_spaces
 last-lines-gathered u t = cases u.trim t.row t.spaces t.word
   where
     cases : (trim : Bool) (row spaces word : List Glyph) →

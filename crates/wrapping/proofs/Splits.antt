@@ -9,7 +9,7 @@ use lib.ListN.{length, drop}
 use Rattle.text.specs.declared.AmbiguousWidth.{AmbiguousWidth}
 use Rattle.text.specs.Line.{Glyph, numbered}
 use Rattle.wrapping.specs.declared.Rule.{Rule}
-use Rattle.wrapping.specs.Wrapping.{Pending, empty, overWide, takesSpaces, gathered, unjoined, fitting, afterFitting, notOverWide}
+use Rattle.wrapping.specs.Wrapping.{Pending, empty, is_over_wide, takes_spaces, gathered, unjoined, fitting, after_fitting, not_over_wide}
 
 pub numbered-append : (a : AmbiguousWidth) (i : ℕ) (xs ys : List ℕ) → numbered a i (xs ++ ys) ≡ numbered a i xs ++ numbered a (i + length xs) ys
 numbered-append a i [] ys = let n : i + 0 ≡ i = omega arith in rw n
@@ -17,9 +17,9 @@ numbered-append a i (x ∷ xs) ys =
     let n : i + suc (length xs) ≡ suc i + length xs = omega arith in
     rw (n, numbered-append a (suc i) xs ys)
 
-pub narrow-append : (u : Rule) (a b : List Glyph) → notOverWide u (a ++ b) ≡ notOverWide u a ++ notOverWide u b
+pub narrow-append : (u : Rule) (a b : List Glyph) → not_over_wide u (a ++ b) ≡ not_over_wide u a ++ not_over_wide u b
 narrow-append u [] b = refl
-narrow-append u (g ∷ a) b = both (overWide u g) _ (notOverWide u a) (notOverWide u b) (narrow-append u a b)
+narrow-append u (g ∷ a) b = both (is_over_wide u g) _ (not_over_wide u a) (not_over_wide u b) (narrow-append u a b)
   where
     both : (o : Bool) (x y z : List Glyph) → x ≡ y ++ z → cond o x (g ∷ x) ≡ cond o y (g ∷ y) ++ z
     both true x y z e = e
@@ -27,7 +27,7 @@ narrow-append u (g ∷ a) b = both (overWide u g) _ (notOverWide u a) (notOverWi
 
 -- a join drops `unjoined` and keeps `gathered`
 pub gathered-split : (u : Rule) (t : Pending) → t.row ++ (t.spaces ++ t.word) ≡ unjoined u t ++ gathered u t
-unfolding gathered unjoined takesSpaces
+unfolding gathered unjoined takes_spaces
 gathered-split u t = both u.trim t.row
   where
     both : (trim : Bool) (row : List Glyph) → row ++ (t.spaces ++ t.word)
@@ -36,8 +36,8 @@ gathered-split u t = both u.trim t.row
     both false [] = refl
     both trim (g ∷ row) = simp append_assoc
 
--- step 3 drops `fitting` and keeps `afterFitting`
-pub fitting-split : (room : ℕ) (l : List Glyph) → l ≡ fitting room l ++ afterFitting room l
+-- step 3 drops `fitting` and keeps `after_fitting`
+pub fitting-split : (room : ℕ) (l : List Glyph) → l ≡ fitting room l ++ after_fitting room l
 fitting-split room [] = refl
 fitting-split room (g ∷ l) = both (leb g.width room) (fitting (room - g.width) l) (fitting-split (room - g.width) l)
   where

@@ -5,7 +5,7 @@ use mathlib.Core.Bool.{Bool, true, false, cond, ◌&&◌, and-eq-true_iff}
 use mathlib.Core.List.{List, [], ◌∷◌, ◌++◌, append-nil}
 use Rattle.text.specs.Line.{Glyph, total}
 use Rattle.wrapping.specs.declared.Rule.{Rule}
-use Rattle.wrapping.specs.Wrapping.{Pending, Step, silent, empty, overWide, mustJoin, joined, unjoined, full, drops, fitting, emptied, appended, ◌then◌, joinStep, emitStep, appendStep, step}
+use Rattle.wrapping.specs.Wrapping.{Pending, Step, silent, empty, is_over_wide, must_join, joined, unjoined, full, drops, fitting, emptied, appended, ◌then◌, join_step, emit_step, append_step, step}
 use Rattle.text.proofs.Bools.{cond_cases}
 
 -- step 4 appends a glyph to spaces or word
@@ -27,7 +27,7 @@ drops-whitespace s g d = ((and-eq-true_iff g.whitespace _).0 d).0
 
 -- steps 3 and 4
 abbrev pub filled : Rule → Pending → Glyph → Step
-filled u s g = (emitStep u g then appendStep g) s
+filled u s g = (emit_step u g then append_step g) s
 
 -- row is emitted; dropped are the spaces that fit and `more`
 abbrev pub emits : Rule → Pending → List Glyph → Pending → Bool → Step
@@ -46,7 +46,7 @@ module _ (u : Rule) (s : Pending) (g : Glyph) (P : Step → Type 0) where
       → (full u s g ≡ true → drops (emptied u s) g ≡ false → P (emits u s [] (appended (emptied u s) g) false))
       → (full u s g ≡ false → P (silent (appended s g)))
       → P (filled u s g)
-  unfolding ◌then◌ emitStep appendStep
+  unfolding ◌then◌ emit_step append_step
   filled-ways drop emit append = cond_cases (λ (r : Step). P (onward r)) (full u s g) _ _ (λ e. go e (drops (emptied u s) g) refl) append
     where
       onward : Step → Step
@@ -59,13 +59,13 @@ module _ (u : Rule) (s : Pending) (g : Glyph) (P : Step → Type 0) where
       go e false d = rw (append-nil (fitting (u.limit - total s.row) s.spaces ++ [])) (emit e d)
 
   pub step-ways :
-      (overWide u g ≡ true → P (silent s))
-      → (overWide u g ≡ false → mustJoin u s g ≡ true → P (joining u s g))
-      → (overWide u g ≡ false → mustJoin u s g ≡ false → P (filled u s g))
+      (is_over_wide u g ≡ true → P (silent s))
+      → (is_over_wide u g ≡ false → must_join u s g ≡ true → P (joining u s g))
+      → (is_over_wide u g ≡ false → must_join u s g ≡ false → P (filled u s g))
       → P (step u s g)
-  unfolding step joinStep ◌then◌
+  unfolding step join_step ◌then◌
   step-ways skip join fill =
-      cond_cases P (overWide u g) _ _ skip (λ o. cond_cases (λ (r : Step). P (onward r)) (mustJoin u s g) _ _ (join o) (fill o))
+      cond_cases P (is_over_wide u g) _ _ skip (λ o. cond_cases (λ (r : Step). P (onward r)) (must_join u s g) _ _ (join o) (fill o))
     where
       onward : Step → Step
       onward r =

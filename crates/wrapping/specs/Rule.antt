@@ -3,5 +3,5 @@ use Rattle.std.specs.Prelude.{ℕ, Bool}
 use Rattle.text.specs.declared.AmbiguousWidth.{AmbiguousWidth}
 use Rattle.wrapping.specs.declared.Rule.{Rule}
 
-abbrev pub ruleOf : AmbiguousWidth → ℕ → Bool → Rule
-ruleOf ambiguous limit trim = record { limit = limit; trim = trim; ambiguous = ambiguous }
+abbrev pub rule_of : AmbiguousWidth → ℕ → Bool → Rule
+rule_of ambiguous limit trim = record { limit = limit; trim = trim; ambiguous = ambiguous }

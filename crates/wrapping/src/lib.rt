@@ -3,7 +3,7 @@ mod runs;
 
 ghost use Rattle.std.specs.Prelude.{◌≡◌, ◌≤◌, min};
 ghost use Rattle.text.specs.Record.{width_of};
-ghost use Rattle.wrapping.specs.RunsExtra.{fittingOf};
+ghost use Rattle.wrapping.specs.RunsExtra.{fitting_of};
 
 use text::glyph::WIDEST;
 use text::{AmbiguousWidth, glyph};
@@ -45,7 +45,7 @@ impl Rule {
     // Returns the width of a glyph as the rule reads it, or that it is over-wide. Most codes are widths within the limit; the setting
     // is read only for the others.
     pub fn fitting(self, word: u32) -> GlyphWidth
-        ensures { result ≡ fittingOf self word }
+        ensures { result ≡ fitting_of self word }
     {
         let code = glyph::width_code(word) as usize;
         if code <= self.widest_plain() {

@@ -1,12 +1,12 @@
 // Methods of runs of records.
 ghost use Rattle.std.specs.Prelude.{◌≡◌, ◌+◌, ◌^◌, ◌≤◌, ◌<◌, length};
-ghost use Rattle.wrapping.specs.RunsExtra.{emptyRun, appendRun, pushRun, run_of, glyphsIn, dropRun};
+ghost use Rattle.wrapping.specs.RunsExtra.{empty_run, append_run, push_run, run_of, glyphs_in, drop_run};
 
 use crate::{Rule, Run};
 
 impl Run {
     pub fn empty() -> Run
-        ensures { result ≡ emptyRun }
+        ensures { result ≡ empty_run }
     {
         Run {
             first: 0,
@@ -18,7 +18,7 @@ impl Run {
     // Appends the other run to this one.
     pub fn append(self, other: Run) -> Run
         requires { self.width + other.width < 2 ^ 32 }
-        ensures { result ≡ appendRun self other }
+        ensures { result ≡ append_run self other }
     {
         if self.end == 0 {
             return other;
@@ -36,7 +36,7 @@ impl Run {
     // Appends the record at `at`, of width w.
     pub fn push(self, at: usize, w: usize) -> Run
         requires { (self.width + w < 2 ^ 32) × (at + 1 < 2 ^ 64) }
-        ensures { result ≡ pushRun self at w }
+        ensures { result ≡ push_run self at w }
     {
         let width = self.width + w;
         let end = at + 1;
@@ -56,8 +56,8 @@ impl Run {
 
     // Drops glyphs from the front while each fits in `room` less those dropped, and returns the remaining run.
     pub fn after_fitting(self, records: &[u32], rule: Rule, room: usize) -> Run
-        requires { (self.end ≤ length records.now) × (self ≡ run_of (glyphsIn rule records.now self)) }
-        ensures { result ≡ dropRun rule records.now self room }
+        requires { (self.end ≤ length records.now) × (self ≡ run_of (glyphs_in rule records.now self)) }
+        ensures { result ≡ drop_run rule records.now self room }
     {
         let end = self.end;
         let mut i = self.first;

@@ -16,5 +16,5 @@ same_length c = search rules
 returns : tie.Need-returns
 returns c = search (written-cons, rules)
 
-pub put-2-spec : {M : Type 1} → statement M
-put-2-spec = tie.close (tie.spec put-requires put-requires-2 same_length returns)
+pub put_2_spec : {M : Type 1} → statement M
+put_2_spec = tie.close (tie.spec put-requires put-requires-2 same_length returns)

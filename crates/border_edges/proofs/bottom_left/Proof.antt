@@ -12,5 +12,5 @@ both-requires c κs = search rules
 returns : tie.Need-returns
 returns c = rw (c.both.ensures, c.before.last_row.ensures)
 
-pub bottom-left-spec : {M : Type 1} → statement M
-bottom-left-spec = tie.close (tie.spec last-row-requires both-requires returns)
+pub bottom_left_spec : {M : Type 1} → statement M
+bottom_left_spec = tie.close (tie.spec last-row-requires both-requires returns)

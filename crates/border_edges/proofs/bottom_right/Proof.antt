@@ -15,5 +15,5 @@ both-requires c κs = search rules
 returns : tie.Need-returns
 returns c = rw (c.both.ensures, c.before.last_row.ensures, c.before.before.last-column.ensures)
 
-pub bottom-right-spec : {M : Type 1} → statement M
-bottom-right-spec = tie.close (tie.spec last-column-requires last-row-requires both-requires returns)
+pub bottom_right_spec : {M : Type 1} → statement M
+bottom_right_spec = tie.close (tie.spec last-column-requires last-row-requires both-requires returns)

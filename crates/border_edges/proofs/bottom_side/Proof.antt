@@ -9,5 +9,5 @@ last-row-requires c κs = search rules
 returns : tie.Need-returns
 returns c = rw c.last_row.ensures
 
-pub bottom-side-spec : {M : Type 1} → statement M
-bottom-side-spec = tie.close (tie.spec last-row-requires returns)
+pub bottom_side_spec : {M : Type 1} → statement M
+bottom_side_spec = tie.close (tie.spec last-row-requires returns)

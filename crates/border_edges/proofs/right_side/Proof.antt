@@ -9,5 +9,5 @@ last-column-requires c κs = search rules
 returns : tie.Need-returns
 returns c = rw c.last-column.ensures
 
-pub right-side-spec : {M : Type 1} → statement M
-right-side-spec = tie.close (tie.spec last-column-requires returns)
+pub right_side_spec : {M : Type 1} → statement M
+right_side_spec = tie.close (tie.spec last-column-requires returns)

@@ -9,5 +9,5 @@ both-requires c κs = search rules
 returns : tie.Need-returns
 returns c = rw c.both.ensures
 
-pub top-left-spec : {M : Type 1} → statement M
-top-left-spec = tie.close (tie.spec both-requires returns)
+pub top_left_spec : {M : Type 1} → statement M
+top_left_spec = tie.close (tie.spec both-requires returns)

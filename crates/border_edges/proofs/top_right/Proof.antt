@@ -12,5 +12,5 @@ both-requires c κs = search rules
 returns : tie.Need-returns
 returns c = rw (c.both.ensures, c.before.last-column.ensures)
 
-pub top-right-spec : {M : Type 1} → statement M
-top-right-spec = tie.close (tie.spec last-column-requires both-requires returns)
+pub top_right_spec : {M : Type 1} → statement M
+top_right_spec = tie.close (tie.spec last-column-requires both-requires returns)

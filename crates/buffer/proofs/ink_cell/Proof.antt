@@ -34,8 +34,8 @@ returns-2 c = search inks
 returns-3 : tie.Need-returns-3
 returns-3 c = search inks
 
-pub ink-cell-spec : {M : Type 1} → statement M
-ink-cell-spec =
+pub ink_cell_spec : {M : Type 1} → statement M
+ink_cell_spec =
     tie.close
     (tie.spec
     enum-known-ink

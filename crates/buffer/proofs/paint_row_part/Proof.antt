@@ -37,8 +37,8 @@ same_length c = search rules
 returns : tie.Need-returns
 returns c = search row-borrowed
 
-pub paint-row-part-spec : {M : Type 1} → statement M
-paint-row-part-spec =
+pub paint_row_part_spec : {M : Type 1} → statement M
+paint_row_part_spec =
     tie.close
     (tie.spec
     mul-start

@@ -16,5 +16,5 @@ returns c = search rules
 returns-2 : tie.Need-returns-2
 returns-2 c = search get_or-eq_default
 
-pub style-at-spec : {M : Type 1} → statement M
-style-at-spec = tie.close (tie.spec mul-result shared-slice-read-result returns returns-2)
+pub style_at_spec : {M : Type 1} → statement M
+style_at_spec = tie.close (tie.spec mul-result shared-slice-read-result returns returns-2)

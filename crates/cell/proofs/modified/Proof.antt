@@ -12,5 +12,5 @@ sub-result c = search rules
 returns : tie.Need-returns
 returns c = (refl, lt_of_le_of_lt (and_le_l _ _) (or_lt 9 _ _ c.requires.0 c.requires.1))
 
-pub modified-spec : {M : Type 1} → statement M
-modified-spec = tie.close (tie.spec sub-result returns)
+pub modified_spec : {M : Type 1} → statement M
+modified_spec = tie.close (tie.spec sub-result returns)

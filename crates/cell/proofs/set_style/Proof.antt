@@ -28,8 +28,8 @@ returns c =
       foreground.before.before.before.foreground-given.ensures,
     )
 
-pub set-style-spec : {M : Type 1} → statement M
-set-style-spec =
+pub set_style_spec : {M : Type 1} → statement M
+set_style_spec =
     tie.close
     (tie.spec
     (search rules)

@@ -10,6 +10,6 @@ returns c = search style-numbers
 returns-2 : tie.Need-returns-2
 returns-2 c = search style-numbers
 
-pub style-numbers-wrong-spec : {M : Type 1} → statement M
-style-numbers-wrong-spec =
+pub style_numbers_wrong_spec : {M : Type 1} → statement M
+style_numbers_wrong_spec =
     tie.close (tie.spec (λ c κs. search rules) returns (λ c κs. search rules) returns-2)

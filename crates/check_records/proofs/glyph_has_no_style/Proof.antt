@@ -19,6 +19,6 @@ cast-result c = search rules
 returns-2 : tie.Need-returns-2
 returns-2 c = search glyphs-styled
 
-pub glyph-has-no-style-spec : {M : Type 1} → statement M
-glyph-has-no-style-spec =
+pub glyph_has_no_style_spec : {M : Type 1} → statement M
+glyph_has_no_style_spec =
     tie.close (tie.spec is-head-requires returns style-requires cast-result returns-2)

@@ -22,7 +22,7 @@ returns-2 c = search heads
 returns-3 : tie.Need-returns-3
 returns-3 c = search heads
 
-pub head-wrong-spec : {M : Type 1} → statement M
-head-wrong-spec =
+pub head_wrong_spec : {M : Type 1} → statement M
+head_wrong_spec =
     tie.close
     (tie.spec is-head-requires zeros-requires position-requires returns returns-2 returns-3)

@@ -16,6 +16,6 @@ is-head-requires c κs = search rules
 returns-2 : tie.Need-returns-2
 returns-2 c = search opening
 
-pub opens-without-head-spec : {M : Type 1} → statement M
-opens-without-head-spec =
+pub opens_without_head_spec : {M : Type 1} → statement M
+opens_without_head_spec =
     tie.close (tie.spec returns shared-slice-read-is-head is-head-requires returns-2)

@@ -19,6 +19,6 @@ returns-2 c = search titled
 returns-3 : tie.Need-returns-3
 returns-3 c = search titled
 
-pub title-wrong-spec : {M : Type 1} → statement M
-title-wrong-spec =
+pub title_wrong_spec : {M : Type 1} → statement M
+title_wrong_spec =
     tie.close (tie.spec returns position-requires zeros-requires returns-2 returns-3)

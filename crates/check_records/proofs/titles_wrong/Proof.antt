@@ -16,6 +16,6 @@ any-title-wrong-requires c κs = search (rules, scanned)
 returns-2 : tie.Need-returns-2
 returns-2 c = search scanned
 
-pub titles-wrong-spec : {M : Type 1} → statement M
-titles-wrong-spec =
+pub titles_wrong_spec : {M : Type 1} → statement M
+titles_wrong_spec =
     tie.close (tie.spec opens-without-head-requires returns any-title-wrong-requires returns-2)

@@ -15,5 +15,5 @@ div-result c = search rules
 returns : tie.Need-returns
 returns c = search rules
 
-pub page-count-spec : {M : Type 1} → statement M
-page-count-spec = tie.close (tie.spec sub-result add-result div-result returns)
+pub page_count_spec : {M : Type 1} → statement M
+page_count_spec = tie.close (tie.spec sub-result add-result div-result returns)

@@ -1,5 +1,5 @@
 -- `draw_block::draw_block` meets its contract.
-use Rattle.draw_block.specs.Call.{drawingOf}
+use Rattle.draw_block.specs.Call.{drawing_of}
 use Rattle.draw_block.proofs.Answers.{block_refused, block-drawn, few-columns, few-rows, drawable}
 use borrow.Author.Rules.{rules}
 use Rattle.draw_block.proofs.draw_block.Statement.{statement}
@@ -18,12 +18,12 @@ render-requires : tie.Need-render-requires
 render-requires c κs = drawable _ _ c.before.before.before.draw-block-verdict.ensures (search rules)
 
 returns-2 : tie.Need-returns-2
-unfolding drawingOf
+unfolding drawing_of
 returns-2 c =
     block-drawn _ _ c.before.before.before.before.before.before.draw-block-verdict.ensures (search rules) _ c.before.before.render.ensures
 
-pub draw-block-spec : {M : Type 1} → statement M
-draw-block-spec =
+pub draw_block_spec : {M : Type 1} → statement M
+draw_block_spec =
     tie.close
     (tie.spec
     (λ c κs. search rules)

@@ -1,32 +1,32 @@
 -- `draw_block::draw_block_verdict` meets its contract.
 use Rattle.refuse.proofs.Calls.{causes}
-use Rattle.draw_block.specs.Call.{causesOf, verdictOf}
+use Rattle.draw_block.specs.Call.{causes_of, verdict_of}
 use borrow.Author.Rules.{rules}
 use Rattle.draw_block.proofs.draw_block_verdict.Statement.{statement}
 use Rattle.draw_block.proofs.draw_block_verdict.Tie as tie
 
 returns : tie.Need-returns
-unfolding verdictOf causesOf
+unfolding verdict_of causes_of
 returns c = search causes
 
 returns-2 : tie.Need-returns-2
-unfolding verdictOf causesOf
+unfolding verdict_of causes_of
 returns-2 c = search causes
 
 returns-3 : tie.Need-returns-3
-unfolding verdictOf causesOf
+unfolding verdict_of causes_of
 returns-3 c = search causes
 
 returns-4 : tie.Need-returns-4
-unfolding verdictOf causesOf
+unfolding verdict_of causes_of
 returns-4 c = search causes
 
 returns-5 : tie.Need-returns-5
-unfolding verdictOf causesOf
+unfolding verdict_of causes_of
 returns-5 c = search causes
 
-pub draw-block-verdict-spec : {M : Type 1} → statement M
-draw-block-verdict-spec =
+pub draw_block_verdict_spec : {M : Type 1} → statement M
+draw_block_verdict_spec =
     tie.close
     (tie.spec
     (λ c κs. search rules)

@@ -1,5 +1,5 @@
 -- `draw_frame::draw_frame` meets its contract.
-use Rattle.draw_frame.specs.Call.{drawingOf, innerIn}
+use Rattle.draw_frame.specs.Call.{drawing_of, inner_in}
 use Rattle.draw_frame.proofs.Answers.{frame_refused, frame-drawn, few-columns, few-rows, drawable}
 use borrow.Author.Rules.{rules}
 use Rattle.draw_frame.proofs.draw_frame.Statement.{statement}
@@ -18,13 +18,13 @@ render-frame-requires : tie.Need-render-frame-requires
 render-frame-requires c κs = drawable _ _ c.before.before.before.draw-frame-verdict.ensures (search rules)
 
 returns-2 : tie.Need-returns-2
-unfolding drawingOf innerIn
+unfolding drawing_of inner_in
 returns-2 c =
     let framed = c.before.before.before in
     frame-drawn _ _ framed.before.before.before.before.draw-frame-verdict.ensures (search rules) _ _ c.inner-area.ensures framed.render-frame.ensures
 
-pub draw-frame-spec : {M : Type 1} → statement M
-draw-frame-spec =
+pub draw_frame_spec : {M : Type 1} → statement M
+draw_frame_spec =
     tie.close
     (tie.spec
     (λ c κs. search rules)

@@ -4,8 +4,8 @@ use borrow.Author.Rules.{rules}
 use Rattle.draw_text.proofs.style_numbers_wrong.Statement.{statement}
 use Rattle.draw_text.proofs.style_numbers_wrong.Tie as tie
 
-pub style-numbers-wrong-spec : {M : Type 1} → statement M
-style-numbers-wrong-spec =
+pub style_numbers_wrong_spec : {M : Type 1} → statement M
+style_numbers_wrong_spec =
     tie.close
     (tie.spec
     (λ c. search rules)

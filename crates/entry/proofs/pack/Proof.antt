@@ -1,6 +1,6 @@
 -- `entry::pack` meets its contract.
 use Rattle.text.proofs.Resolving.{alignment-small}
-use Rattle.entry.specs.Entry.{entryPacked, entryMarked}
+use Rattle.entry.specs.Entry.{entry_packed, entry_marked}
 use native.Mathlib.Omega.{arith}
 use borrow.Author.Rules.{rules}
 use Rattle.entry.proofs.pack.Statement.{statement}
@@ -15,11 +15,11 @@ add-result-4 c =
     omega (arith, c.mark-number.ensures, alignment-small called.alignment-number.result called.before.args.line.alignment called.alignment-number.ensures)
 
 returns : tie.Need-returns
-unfolding entryPacked entryMarked
+unfolding entry_packed entry_marked
 returns c = rw (c.before.alignment-number.ensures, c.mark-number.ensures.0)
 
-pub pack-spec : {M : Type 1} → statement M
-pack-spec =
+pub pack_spec : {M : Type 1} → statement M
+pack_spec =
     tie.close
     (tie.spec
     (search rules)

@@ -13,5 +13,5 @@ returns-2 c = search named
 returns-3 : tie.Need-returns-3
 returns-3 c = search named
 
-pub alignment-named-spec : {M : Type 1} → statement M
-alignment-named-spec = tie.close (tie.spec returns returns-2 returns-3)
+pub alignment_named_spec : {M : Type 1} → statement M
+alignment_named_spec = tie.close (tie.spec returns returns-2 returns-3)

@@ -16,5 +16,5 @@ returns c = search boths
 returns-2 : tie.Need-returns-2
 returns-2 c = search boths
 
-pub all-known-spec : {M : Type 1} → statement M
-all-known-spec = tie.close (tie.spec is-known-requires is-known-requires-2 returns returns-2)
+pub all_known_spec : {M : Type 1} → statement M
+all_known_spec = tie.close (tie.spec is-known-requires is-known-requires-2 returns returns-2)

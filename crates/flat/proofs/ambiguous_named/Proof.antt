@@ -9,5 +9,5 @@ returns c = search named
 returns-2 : tie.Need-returns-2
 returns-2 c = search named
 
-pub ambiguous-named-spec : {M : Type 1} → statement M
-ambiguous-named-spec = tie.close (tie.spec returns returns-2)
+pub ambiguous_named_spec : {M : Type 1} → statement M
+ambiguous_named_spec = tie.close (tie.spec returns returns-2)

@@ -16,6 +16,6 @@ returns c = search boths
 returns-2 : tie.Need-returns-2
 returns-2 c = search boths
 
-pub block-and-reading-known-spec : {M : Type 1} → statement M
-block-and-reading-known-spec =
+pub block_and_reading_known_spec : {M : Type 1} → statement M
+block_and_reading_known_spec =
     tie.close (tie.spec is-known-requires ambiguous-known-requires returns returns-2)

@@ -13,5 +13,5 @@ returns c = search boths
 returns-2 : tie.Need-returns-2
 returns-2 c = search boths
 
-pub list-known-spec : {M : Type 1} → statement M
-list-known-spec = tie.close (tie.spec tally-known-requires returns returns-2)
+pub list_known_spec : {M : Type 1} → statement M
+list_known_spec = tie.close (tie.spec tally-known-requires returns returns-2)

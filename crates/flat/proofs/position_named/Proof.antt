@@ -10,5 +10,5 @@ returns c = search named
 returns-2 : tie.Need-returns-2
 returns-2 c = search named
 
-pub position-named-spec : {M : Type 1} → statement M
-position-named-spec = tie.close (tie.spec returns returns-2)
+pub position_named_spec : {M : Type 1} → statement M
+position_named_spec = tie.close (tie.spec returns returns-2)

@@ -13,5 +13,5 @@ returns c = search boths
 returns-2 : tie.Need-returns-2
 returns-2 c = search boths
 
-pub tally-known-spec : {M : Type 1} → statement M
-tally-known-spec = tie.close (tie.spec ambiguous-known-requires returns returns-2)
+pub tally_known_spec : {M : Type 1} → statement M
+tally_known_spec = tie.close (tie.spec ambiguous-known-requires returns returns-2)

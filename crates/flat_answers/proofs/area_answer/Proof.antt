@@ -19,6 +19,6 @@ returns c = search flattened
 returns-2 : tie.Need-returns-2
 returns-2 c = search flattened
 
-pub area-answer-spec : {M : Type 1} → statement M
-area-answer-spec =
+pub area_answer_spec : {M : Type 1} → statement M
+area_answer_spec =
     tie.close (tie.spec enum-known-inner enum-known-inner-2 number-requires returns returns-2)

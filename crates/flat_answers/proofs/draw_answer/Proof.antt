@@ -19,6 +19,6 @@ returns c = search flattened
 returns-2 : tie.Need-returns-2
 returns-2 c = search flattened
 
-pub draw-answer-spec : {M : Type 1} → statement M
-draw-answer-spec =
+pub draw_answer_spec : {M : Type 1} → statement M
+draw_answer_spec =
     tie.close (tie.spec enum-known-drawn enum-known-drawn-2 number-requires returns returns-2)

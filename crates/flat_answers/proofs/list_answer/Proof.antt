@@ -19,6 +19,6 @@ returns c = search flattened
 returns-2 : tie.Need-returns-2
 returns-2 c = search flattened
 
-pub list-answer-spec : {M : Type 1} → statement M
-list-answer-spec =
+pub list_answer_spec : {M : Type 1} → statement M
+list_answer_spec =
     tie.close (tie.spec enum-known-listed enum-known-listed-2 number-requires returns returns-2)

@@ -19,7 +19,7 @@ returns c = search flattened
 returns-2 : tie.Need-returns-2
 returns-2 c = search flattened
 
-pub measure-answer-spec : {M : Type 1} → statement M
-measure-answer-spec =
+pub measure_answer_spec : {M : Type 1} → statement M
+measure_answer_spec =
     tie.close
     (tie.spec enum-known-measured enum-known-measured-2 number-requires returns returns-2)

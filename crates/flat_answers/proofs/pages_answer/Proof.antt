@@ -19,7 +19,7 @@ returns c = search flattened
 returns-2 : tie.Need-returns-2
 returns-2 c = search flattened
 
-pub pages-answer-spec : {M : Type 1} → statement M
-pages-answer-spec =
+pub pages_answer_spec : {M : Type 1} → statement M
+pages_answer_spec =
     tie.close
     (tie.spec enum-known-counted enum-known-counted-2 number-requires returns returns-2)

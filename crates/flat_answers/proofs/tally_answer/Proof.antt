@@ -19,6 +19,6 @@ returns c = search flattened
 returns-2 : tie.Need-returns-2
 returns-2 c = search flattened
 
-pub tally-answer-spec : {M : Type 1} → statement M
-tally-answer-spec =
+pub tally_answer_spec : {M : Type 1} → statement M
+tally_answer_spec =
     tie.close (tie.spec enum-known-tallied enum-known-tallied-2 number-requires returns returns-2)

@@ -10,8 +10,8 @@ returns c = search answers
 returns-2 : tie.Need-returns-2
 returns-2 c = search answers
 
-pub inner-spec : {M : Type 1} → statement M
-inner-spec =
+pub inner_spec : {M : Type 1} → statement M
+inner_spec =
     tie.close
     (tie.spec
     (λ c κs. search rules)

@@ -22,5 +22,5 @@ returns-2 c = search (rules, moving)
 returns-3 : tie.Need-returns-3
 returns-3 c = search (rules, moving)
 
-pub move-by-spec : {M : Type 1} → statement M
-move-by-spec = tie.close (tie.spec bias-requires add-sum returns cast-result returns-2 returns-3)
+pub move_by_spec : {M : Type 1} → statement M
+move_by_spec = tie.close (tie.spec bias-requires add-sum returns cast-result returns-2 returns-3)

@@ -28,8 +28,8 @@ returns-2 c = search pulling-lines
 returns-3 : tie.Need-returns-3
 returns-3 c = search pulling-lines
 
-pub next-line-spec : {M : Type 1} → statement M
-next-line-spec =
+pub next_line_spec : {M : Type 1} → statement M
+next_line_spec =
     tie.close
     (tie.spec
     enum_told

@@ -16,5 +16,5 @@ add-t6 c = search rules
 returns-2 : tie.Need-returns-2
 returns-2 c = search composed-some
 
-pub wrapped-line-spec : {M : Type 1} → statement M
-wrapped-line-spec = tie.close (tie.spec returns add-t5 add-t6 returns-2)
+pub wrapped_line_spec : {M : Type 1} → statement M
+wrapped_line_spec = tie.close (tie.spec returns add-t5 add-t6 returns-2)

@@ -25,5 +25,5 @@ returns-3 : tie.Need-returns-3
 unfolding offset_of
 returns-3 c = search rules
 
-pub horizontal-offset-spec : {M : Type 1} → statement M
-horizontal-offset-spec = tie.close (tie.spec enum_told enum-told-2 enum-told-3 returns returns-2 returns-3)
+pub horizontal_offset_spec : {M : Type 1} → statement M
+horizontal_offset_spec = tie.close (tie.spec enum_told enum-told-2 enum-told-3 returns returns-2 returns-3)

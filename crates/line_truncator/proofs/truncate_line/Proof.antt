@@ -15,5 +15,5 @@ shown-run-requires c κs = search rules
 returns : tie.Need-returns
 returns c = rw (c.shown-run.ensures, c.before.horizontal-offset.ensures)
 
-pub truncate-line-spec : {M : Type 1} → statement M
-truncate-line-spec = tie.close (tie.spec horizontal-offset-requires cast-taken shown-run-requires returns)
+pub truncate_line_spec : {M : Type 1} → statement M
+truncate_line_spec = tie.close (tie.spec horizontal-offset-requires cast-taken shown-run-requires returns)

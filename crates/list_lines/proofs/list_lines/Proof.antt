@@ -1,7 +1,7 @@
 -- `list_lines::list_lines` meets its contract.
 use Rattle.refuse.proofs.Accepted.{lines-sound, lines-limit}
-use Rattle.list_lines.specs.Call.{lines_of, markedLinesOf}
-use Rattle.list_lines.proofs.Answers.{list-refused, list-short, list-room, list_written}
+use Rattle.list_lines.specs.Call.{lines_of, marked_lines_of}
+use Rattle.list_lines.proofs.Answers.{list_refused, list-short, list-room, list_written}
 use native.Mathlib.Omega.{arith}
 use borrow.Author.Rules.{rules}
 use Rattle.list_lines.proofs.list_lines.Statement.{statement}
@@ -14,7 +14,7 @@ enum-known-why : tie.Need-enum-known-why
 enum-known-why c = search rules
 
 returns : tie.Need-returns
-returns c = list-refused _ _ c.before.before.before.line-verdict.ensures _ (search rules)
+returns c = list_refused _ _ c.before.before.before.line-verdict.ensures _ (search rules)
 
 enum_told : tie.Need-enum-told
 enum_told c = search rules
@@ -43,12 +43,12 @@ same_length : tie.Need-same-length
 same_length c = search rules
 
 returns-3 : tie.Need-returns-3
-unfolding lines_of markedLinesOf
+unfolding lines_of marked_lines_of
 returns-3 c =
     list_written _ _ c.before.before.before.before.before.before.before.before.before.line-verdict.ensures (search rules) _ c.before.before.before.before.before.before.count-lines.ensures _ c.before.before.before.before.before.list-too-short.ensures c.before.before.before.before.if1.false _ c.before.before.write-lines.ensures
 
-pub list-lines-spec : {M : Type 1} → statement M
-list-lines-spec =
+pub list_lines_spec : {M : Type 1} → statement M
+list_lines_spec =
     tie.close
     (tie.spec
     line-verdict-requires

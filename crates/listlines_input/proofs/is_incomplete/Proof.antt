@@ -13,5 +13,5 @@ sub-result c = search rules
 returns-2 : tie.Need-returns-2
 returns-2 c = search tests
 
-pub is-incomplete-spec : {M : Type 1} → statement M
-is-incomplete-spec = tie.close (tie.spec returns sub-result returns-2)
+pub is_incomplete_spec : {M : Type 1} → statement M
+is_incomplete_spec = tie.close (tie.spec returns sub-result returns-2)

@@ -37,8 +37,8 @@ same_length c = search (parsing, rules)
 returns-4 : tie.Need-returns-4
 returns-4 c = search (parsing, rules)
 
-pub parse-spec : {M : Type 1} → statement M
-parse-spec =
+pub parse_spec : {M : Type 1} → statement M
+parse_spec =
     tie.close
     (tie.spec
     is-incomplete-requires

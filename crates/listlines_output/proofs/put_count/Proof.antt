@@ -19,7 +19,7 @@ same_length c = search rules
 returns : tie.Need-returns
 returns c = search (count-written, rules)
 
-pub put-count-spec : {M : Type 1} → statement M
-put-count-spec =
+pub put_count_spec : {M : Type 1} → statement M
+put_count_spec =
     tie.close
     (tie.spec slice-aggregate-put-all put-all-requires put-number-requires same_length returns)

@@ -1,5 +1,5 @@
 -- `listlines_output::put_decimal` meets its contract.
-use Rattle.listlines_output.proofs.Texts.{digits-room, decimal-written}
+use Rattle.listlines_output.proofs.Texts.{digits_room, decimal-written}
 use borrow.Author.Rules.{rules}
 use Rattle.listlines_output.proofs.put_decimal.Statement.{statement}
 use Rattle.listlines_output.proofs.put_decimal.Tie as tie
@@ -16,7 +16,7 @@ slice-aggregate-put-all c = search rules
 put-all-requires : tie.Need-put-all-requires
 put-all-requires c κs =
     let written = c.before.before.decimal.ensures in
-    digits-room _ _ _ written.1.0 written.1.1 _ _ (search rules) (search rules)
+    digits_room _ _ _ written.1.0 written.1.1 _ _ (search rules) (search rules)
 
 same_length : tie.Need-same-length
 same_length c = search rules
@@ -26,8 +26,8 @@ returns c =
     let written = c.before.before.before.before.before.decimal.ensures in
     decimal-written _ _ _ written.1.0 written.1.1 _ _ _ _ (search rules) (search rules)
 
-pub put-decimal-spec : {M : Type 1} → statement M
-put-decimal-spec =
+pub put_decimal_spec : {M : Type 1} → statement M
+put_decimal_spec =
     tie.close
     (tie.spec
     decimal-requires

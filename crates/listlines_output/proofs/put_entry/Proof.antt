@@ -51,8 +51,8 @@ returns c =
       omega (arith, first.put-number.ensures.1, second.put-number2.ensures.1, third.put-number3.ensures.1, fourth.put-number4.ensures.1, fifth.put-number5.ensures.1),
     )
 
-pub put-entry-spec : {M : Type 1} → statement M
-put-entry-spec =
+pub put_entry_spec : {M : Type 1} → statement M
+put_entry_spec =
     tie.close
     (tie.spec
     first-requires

@@ -16,5 +16,5 @@ same_length c = search rules
 returns : tie.Need-returns
 returns c = search (lines-written, rules)
 
-pub put-lines-spec : {M : Type 1} → statement M
-put-lines-spec = tie.close (tie.spec put-entries-requires put-count-requires same_length returns)
+pub put_lines_spec : {M : Type 1} → statement M
+put_lines_spec = tie.close (tie.spec put-entries-requires put-count-requires same_length returns)

@@ -19,7 +19,7 @@ same_length c = search rules
 returns : tie.Need-returns
 returns c = search (refused-written, rules)
 
-pub put-refused-spec : {M : Type 1} → statement M
-put-refused-spec =
+pub put_refused_spec : {M : Type 1} → statement M
+put_refused_spec =
     tie.close
     (tie.spec slice-aggregate-put-all put-all-requires put-number-requires same_length returns)

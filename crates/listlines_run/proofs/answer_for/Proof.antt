@@ -19,6 +19,6 @@ returns c = search answering
 returns-2 : tie.Need-returns-2
 returns-2 c = search answering
 
-pub answer-for-spec : {M : Type 1} → statement M
-answer-for-spec =
+pub answer_for_spec : {M : Type 1} → statement M
+answer_for_spec =
     tie.close (tie.spec enum-known-listed enum-known-listed-2 number-requires returns returns-2)

@@ -1,5 +1,5 @@
 -- `listlines_run::answer_to` meets its contract.
-use Rattle.listlines_run.proofs.Answering.{answering, answer-own, answer-listed}
+use Rattle.listlines_run.proofs.Answering.{answering, answer_own, answer_listed}
 use borrow.Author.Rules.{rules}
 use Rattle.listlines_run.proofs.answer_to.Statement.{statement}
 use Rattle.listlines_run.proofs.answer_to.Tie as tie
@@ -29,7 +29,7 @@ same_length : tie.Need-same-length
 same_length c = search rules
 
 returns : tie.Need-returns
-returns c = answer-own _ _ c.before.before.before.before.before.parse.ensures.0 _ _ (search rules)
+returns c = answer_own _ _ c.before.before.before.before.before.parse.ensures.0 _ _ (search rules)
 
 same-length-2 : tie.Need-same-length-2
 same-length-2 c = search rules
@@ -41,10 +41,10 @@ returns-2 : tie.Need-returns-2
 returns-2 c =
     let listed = c.before.before.before in
     let parsed = listed.before.before.before.before.before.before.before.before in
-    answer-listed _ _ parsed.parse.ensures.0 _ _ _ listed.before.before.before.before.limit.given.1 _ _ _ parsed.parse.ensures.1 _ _ _ c.answer-for.ensures listed.list-lines.ensures.0 listed.list-lines.ensures.1
+    answer_listed _ _ parsed.parse.ensures.0 _ _ _ listed.before.before.before.before.limit.given.1 _ _ _ parsed.parse.ensures.1 _ _ _ c.answer-for.ensures listed.list-lines.ensures.0 listed.list-lines.ensures.1
 
-pub answer-to-spec : {M : Type 1} → statement M
-answer-to-spec =
+pub answer_to_spec : {M : Type 1} → statement M
+answer_to_spec =
     tie.close
     (tie.spec
     parse-requires

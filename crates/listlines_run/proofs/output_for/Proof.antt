@@ -1,5 +1,5 @@
 -- `listlines_run::output_for` meets its contract.
-use Rattle.listlines_run.proofs.Printing.{output-refusal, output-lines, refusal-done, lines-done, taken-length}
+use Rattle.listlines_run.proofs.Printing.{output_refusal, output-lines, refusal_done, lines-done, taken-length}
 use native.Mathlib.Omega.{arith}
 use borrow.Author.Rules.{rules}
 use Rattle.listlines_run.proofs.output_for.Statement.{statement}
@@ -14,7 +14,7 @@ enum-known-number c = search rules
 put-refused-requires : tie.Need-put-refused-requires
 put-refused-requires c κs =
     let called = c.before.before.before.before.before.before.before.before in
-    let printed = output-refusal _ _ called.before.before.before.before.before.before.before.requires.0.1 _ called.answer-to.ensures.0 _ c.before.before.number.given.1 in
+    let printed = output_refusal _ _ called.before.before.before.before.before.before.before.requires.0.1 _ called.answer-to.ensures.0 _ c.before.before.number.given.1 in
     (printed.low, search rules)
 
 enum-known-count : tie.Need-enum-known-count
@@ -49,8 +49,8 @@ same-length-3 c = search rules
 returns : tie.Need-returns
 returns c =
     let called = c.before.before.before.before.before.before.before.before.before.before.before in
-    let printed = output-refusal _ _ called.before.before.before.before.before.before.before.requires.0.1 _ called.answer-to.ensures.0 _ c.before.before.before.before.before.number.given.1 in
-    refusal-done _ _ _ _ _ printed c.before.before.Put-refused.ensures
+    let printed = output_refusal _ _ called.before.before.before.before.before.before.before.requires.0.1 _ called.answer-to.ensures.0 _ c.before.before.before.before.before.number.given.1 in
+    refusal_done _ _ _ _ _ printed c.before.before.Put-refused.ensures
 
 same-length-4 : tie.Need-same-length-4
 same-length-4 c = search rules
@@ -67,8 +67,8 @@ returns-2 c =
     let printed = output-lines _ _ called.before.before.before.before.before.before.before.requires.0.1 _ called.answer-to.ensures.0 _ called.answer-to.ensures.1 _ c.before.before.before.before.before.before.count.given.1 in
     lines-done _ _ _ _ _ _ printed c.before.before.put-lines.ensures
 
-pub output-for-spec : {M : Type 1} → statement M
-output-for-spec =
+pub output_for_spec : {M : Type 1} → statement M
+output_for_spec =
     tie.close
     (tie.spec
     answer-to-requires

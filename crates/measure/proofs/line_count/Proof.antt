@@ -1,6 +1,6 @@
 -- `measure::line_count` meets its contract.
 use Rattle.measure_text.proofs.Lines.{count_none, count-sum}
-use Rattle.measure.proofs.Answers.{count-refused, count-answered, count-sound}
+use Rattle.measure.proofs.Answers.{count_refused, count-answered, count-sound}
 use Rattle.measure.proofs.Lines.{count_fits, count-sum-fits}
 use borrow.Author.Rules.{rules}
 use Rattle.measure.proofs.line_count.Statement.{statement}
@@ -14,7 +14,7 @@ enum-known-why c = search rules
 
 returns : tie.Need-returns
 returns c =
-    count-refused _ _ c.before.before.before.line-count-verdict.ensures _ (search rules)
+    count_refused _ _ c.before.before.before.line-count-verdict.ensures _ (search rules)
 
 enum_told : tie.Need-enum-told
 enum_told c = search rules
@@ -52,8 +52,8 @@ returns-3 c =
     let checked = c.before.before.before.before.before.before in
     count-answered _ _ checked.line-count-verdict.ensures (search rules) _ (search count-sum)
 
-pub line-count-spec : {M : Type 1} → statement M
-line-count-spec =
+pub line_count_spec : {M : Type 1} → statement M
+line_count_spec =
     tie.close
     (tie.spec
     line-count-verdict-requires

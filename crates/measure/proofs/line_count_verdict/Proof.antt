@@ -7,19 +7,19 @@ use Rattle.measure.proofs.line_count_verdict.Statement.{statement}
 use Rattle.measure.proofs.line_count_verdict.Tie as tie
 
 returns : tie.Need-returns
-unfolding count.verdictOf count.causesOf width.verdictOf
+unfolding count.verdict_of count.causes_of width.verdict_of
 returns c = search causes
 
 returns-2 : tie.Need-returns-2
-unfolding count.verdictOf count.causesOf width.verdictOf
+unfolding count.verdict_of count.causes_of width.verdict_of
 returns-2 c = search causes
 
 returns-3 : tie.Need-returns-3
-unfolding count.verdictOf count.causesOf width.verdictOf
+unfolding count.verdict_of count.causes_of width.verdict_of
 returns-3 c = search causes
 
-pub line-count-verdict-spec : {M : Type 1} → statement M
-line-count-verdict-spec =
+pub line_count_verdict_spec : {M : Type 1} → statement M
+line_count_verdict_spec =
     tie.close
     (tie.spec
     (λ c κs. search rules)

@@ -1,6 +1,6 @@
 -- `measure::line_width` meets its contract.
 use Rattle.measure_text.proofs.Lines.{width-sum}
-use Rattle.measure.proofs.Answers.{width-refused, width-answered, width-sound}
+use Rattle.measure.proofs.Answers.{width_refused, width-answered, width-sound}
 use Rattle.measure.proofs.Lines.{width-sum-fits}
 use borrow.Author.Rules.{rules}
 use Rattle.measure.proofs.line_width.Statement.{statement}
@@ -14,7 +14,7 @@ enum-known-why c = search rules
 
 returns : tie.Need-returns
 returns c =
-    width-refused _ _ c.before.before.before.line-width-verdict.ensures _ (search rules)
+    width_refused _ _ c.before.before.before.line-width-verdict.ensures _ (search rules)
 
 enum_told : tie.Need-enum-told
 enum_told c = search rules
@@ -42,8 +42,8 @@ returns-2 c =
     let checked = c.before.before.before.before.before in
     width-answered _ _ checked.line-width-verdict.ensures (search rules) _ (search width-sum)
 
-pub line-width-spec : {M : Type 1} → statement M
-line-width-spec =
+pub line_width_spec : {M : Type 1} → statement M
+line_width_spec =
     tie.close
     (tie.spec
     line-width-verdict-requires

@@ -1,20 +1,20 @@
 -- `measure::line_width_verdict` meets its contract.
 use Rattle.refuse.proofs.Calls.{causes}
-use Rattle.measure.specs.LineWidth.{causesOf, verdictOf}
+use Rattle.measure.specs.LineWidth.{causes_of, verdict_of}
 use borrow.Author.Rules.{rules}
 use Rattle.measure.proofs.line_width_verdict.Statement.{statement}
 use Rattle.measure.proofs.line_width_verdict.Tie as tie
 
 returns : tie.Need-returns
-unfolding verdictOf causesOf
+unfolding verdict_of causes_of
 returns c = search causes
 
 returns-2 : tie.Need-returns-2
-unfolding verdictOf causesOf
+unfolding verdict_of causes_of
 returns-2 c = search causes
 
-pub line-width-verdict-spec : {M : Type 1} → statement M
-line-width-verdict-spec =
+pub line_width_verdict_spec : {M : Type 1} → statement M
+line_width_verdict_spec =
     tie.close
     (tie.spec
     (λ c κs. search rules)

@@ -1,5 +1,5 @@
 -- `notice_c::notice_draw_block` meets its contract.
-use Rattle.notice_c.proofs.Known.{answered-unknown, answered-known}
+use Rattle.notice_c.proofs.Known.{answered_unknown, answered-known}
 use borrow.Author.Rules.{rules}
 use Rattle.notice_c.proofs.notice_draw_block.Statement.{statement}
 use Rattle.notice_c.proofs.notice_draw_block.Tie as tie
@@ -8,7 +8,7 @@ block-and-reading-known-requires : tie.Need-block-and-reading-known-requires
 block-and-reading-known-requires c κs = search rules
 
 returns : tie.Need-returns
-returns c = (answered-unknown _ _ c.before.block-and-reading-known.ensures _ _ c.if1.true, answered-unknown _ _ c.before.block-and-reading-known.ensures _ _ c.if1.true)
+returns c = (answered_unknown _ _ c.before.block-and-reading-known.ensures _ _ c.if1.true, answered_unknown _ _ c.before.block-and-reading-known.ensures _ _ c.if1.true)
 
 ambiguous-named-requires : tie.Need-ambiguous-named-requires
 ambiguous-named-requires c κs = search rules
@@ -39,8 +39,8 @@ returns-2 c =
       answered-known _ _ known _ _ test _ (rw (reading, settings, c.before.before.before.before.area.ensures) at call.1),
     )
 
-pub notice-draw-block-spec : {M : Type 1} → statement M
-notice-draw-block-spec =
+pub notice_draw_block_spec : {M : Type 1} → statement M
+notice_draw_block_spec =
     tie.close
     (tie.spec
     block-and-reading-known-requires

@@ -1,5 +1,5 @@
 -- `notice_c::notice_draw_text` meets its contract.
-use Rattle.notice_c.proofs.Known.{answered-unknown, answered-known}
+use Rattle.notice_c.proofs.Known.{answered_unknown, answered-known}
 use borrow.Author.Rules.{rules}
 use Rattle.notice_c.proofs.notice_draw_text.Statement.{statement}
 use Rattle.notice_c.proofs.notice_draw_text.Tie as tie
@@ -8,7 +8,7 @@ is-known-requires : tie.Need-is-known-requires
 is-known-requires c κs = search rules
 
 returns : tie.Need-returns
-returns c = (answered-unknown _ _ c.before.is_Known.ensures _ _ c.if1.true, answered-unknown _ _ c.before.is_Known.ensures _ _ c.if1.true)
+returns c = (answered_unknown _ _ c.before.is_Known.ensures _ _ c.if1.true, answered_unknown _ _ c.before.is_Known.ensures _ _ c.if1.true)
 
 text-settings-requires : tie.Need-text-settings-requires
 text-settings-requires c κs = search rules
@@ -36,8 +36,8 @@ returns-2 c =
       answered-known _ _ known _ _ test _ (rw (settings, area) at call.1),
     )
 
-pub notice-draw-text-spec : {M : Type 1} → statement M
-notice-draw-text-spec =
+pub notice_draw_text_spec : {M : Type 1} → statement M
+notice_draw_text_spec =
     tie.close
     (tie.spec
     is-known-requires

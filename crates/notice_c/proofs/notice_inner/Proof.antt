@@ -1,5 +1,5 @@
 -- `notice_c::notice_inner` meets its contract.
-use Rattle.notice_c.proofs.Known.{answered-unknown, answered-known}
+use Rattle.notice_c.proofs.Known.{answered_unknown, answered-known}
 use borrow.Author.Rules.{rules}
 use Rattle.notice_c.proofs.notice_inner.Statement.{statement}
 use Rattle.notice_c.proofs.notice_inner.Tie as tie
@@ -8,7 +8,7 @@ is-known-requires : tie.Need-is-known-requires
 is-known-requires c κs = search rules
 
 returns : tie.Need-returns
-returns c = answered-unknown _ _ c.before.is_Known.ensures _ _ c.if1.true
+returns c = answered_unknown _ _ c.before.is_Known.ensures _ _ c.if1.true
 
 block-requires : tie.Need-block-requires
 block-requires c κs = search rules
@@ -25,8 +25,8 @@ area-answer-requires c κs = search rules
 returns-2 : tie.Need-returns-2
 returns-2 c = answered-known _ _ c.before.before.before.before.before.is_Known.ensures _ _ c.before.before.before.before.if1.false _ (rw (c.before.inner.ensures, c.before.before.before.block.ensures, c.before.before.area.ensures) at c.area-answer.ensures)
 
-pub notice-inner-spec : {M : Type 1} → statement M
-notice-inner-spec =
+pub notice_inner_spec : {M : Type 1} → statement M
+notice_inner_spec =
     tie.close
     (tie.spec
     is-known-requires

@@ -1,5 +1,5 @@
 -- `notice_c::notice_line_count` meets its contract.
-use Rattle.notice_c.proofs.Known.{answered-unknown, answered-known}
+use Rattle.notice_c.proofs.Known.{answered_unknown, answered-known}
 use borrow.Author.Rules.{rules}
 use Rattle.notice_c.proofs.notice_line_count.Statement.{statement}
 use Rattle.notice_c.proofs.notice_line_count.Tie as tie
@@ -8,7 +8,7 @@ all-known-requires : tie.Need-all-known-requires
 all-known-requires c κs = search rules
 
 returns : tie.Need-returns
-returns c = answered-unknown _ _ c.before.all_known.ensures _ _ c.if1.true
+returns c = answered_unknown _ _ c.before.all_known.ensures _ _ c.if1.true
 
 named-wrap-requires : tie.Need-named-wrap-requires
 named-wrap-requires c κs = search rules
@@ -31,8 +31,8 @@ returns-2 c =
     answered-known _ _ named.before.before.before.all_known.ensures _ _ named.before.before.if1.false _
     (rw (c.before.line-count.ensures, c.before.before.block.ensures, named.ambiguous-named.ensures, named.before.named-wrap.ensures) at c.measure-answer.ensures)
 
-pub notice-line-count-spec : {M : Type 1} → statement M
-notice-line-count-spec =
+pub notice_line_count_spec : {M : Type 1} → statement M
+notice_line_count_spec =
     tie.close
     (tie.spec
     all-known-requires

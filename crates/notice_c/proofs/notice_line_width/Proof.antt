@@ -1,5 +1,5 @@
 -- `notice_c::notice_line_width` meets its contract.
-use Rattle.notice_c.proofs.Known.{answered-unknown, answered-known}
+use Rattle.notice_c.proofs.Known.{answered_unknown, answered-known}
 use borrow.Author.Rules.{rules}
 use Rattle.notice_c.proofs.notice_line_width.Statement.{statement}
 use Rattle.notice_c.proofs.notice_line_width.Tie as tie
@@ -8,7 +8,7 @@ block-and-reading-known-requires : tie.Need-block-and-reading-known-requires
 block-and-reading-known-requires c κs = search rules
 
 returns : tie.Need-returns
-returns c = answered-unknown _ _ c.before.block-and-reading-known.ensures _ _ c.if1.true
+returns c = answered_unknown _ _ c.before.block-and-reading-known.ensures _ _ c.if1.true
 
 ambiguous-named-requires : tie.Need-ambiguous-named-requires
 ambiguous-named-requires c κs = search rules
@@ -26,8 +26,8 @@ returns-2 : tie.Need-returns-2
 returns-2 c = answered-known _ _ c.before.before.before.before.before.block-and-reading-known.ensures _ _ c.before.before.before.before.if1.false _
     (rw (c.before.line-width.ensures, c.before.before.block.ensures, c.before.before.before.ambiguous-named.ensures) at c.measure-answer.ensures)
 
-pub notice-line-width-spec : {M : Type 1} → statement M
-notice-line-width-spec =
+pub notice_line_width_spec : {M : Type 1} → statement M
+notice_line_width_spec =
     tie.close
     (tie.spec
     block-and-reading-known-requires

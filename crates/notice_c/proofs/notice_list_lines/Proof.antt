@@ -1,5 +1,5 @@
 -- `notice_c::notice_list_lines` meets its contract.
-use Rattle.notice_c.proofs.Known.{answered-unknown, answered-known}
+use Rattle.notice_c.proofs.Known.{answered_unknown, answered-known}
 use borrow.Author.Rules.{rules}
 use Rattle.notice_c.proofs.notice_list_lines.Statement.{statement}
 use Rattle.notice_c.proofs.notice_list_lines.Tie as tie
@@ -8,7 +8,7 @@ list-known-requires : tie.Need-list-known-requires
 list-known-requires c κs = search rules
 
 returns : tie.Need-returns
-returns c = (answered-unknown _ _ c.before.list-known.ensures _ _ c.if1.true, answered-unknown _ _ c.before.list-known.ensures _ _ c.if1.true)
+returns c = (answered_unknown _ _ c.before.list-known.ensures _ _ c.if1.true, answered_unknown _ _ c.before.list-known.ensures _ _ c.if1.true)
 
 ambiguous-named-requires : tie.Need-ambiguous-named-requires
 ambiguous-named-requires c κs = search rules
@@ -36,8 +36,8 @@ returns-2 c =
       answered-known _ _ known _ _ test _ (rw (reading, default) at call.1),
     )
 
-pub notice-list-lines-spec : {M : Type 1} → statement M
-notice-list-lines-spec =
+pub notice_list_lines_spec : {M : Type 1} → statement M
+notice_list_lines_spec =
     tie.close
     (tie.spec
     list-known-requires

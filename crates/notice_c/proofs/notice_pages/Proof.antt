@@ -1,5 +1,5 @@
 -- `notice_c::notice_pages` meets its contract.
-use Rattle.notice_c.proofs.Known.{answered-unknown, answered-known}
+use Rattle.notice_c.proofs.Known.{answered_unknown, answered-known}
 use borrow.Author.Rules.{rules}
 use Rattle.notice_c.proofs.notice_pages.Statement.{statement}
 use Rattle.notice_c.proofs.notice_pages.Tie as tie
@@ -8,7 +8,7 @@ all-known-requires : tie.Need-all-known-requires
 all-known-requires c κs = search rules
 
 returns : tie.Need-returns
-returns c = answered-unknown _ _ c.before.all_known.ensures _ _ c.if1.true
+returns c = answered_unknown _ _ c.before.all_known.ensures _ _ c.if1.true
 
 notice-requires : tie.Need-notice-requires
 notice-requires c κs = search rules
@@ -30,8 +30,8 @@ returns-2 c =
     let area = c.before.before.area.ensures in
     answered-known _ _ known _ _ test _ (rw (c.before.pages.ensures, settings, area) at c.pages-answer.ensures)
 
-pub notice-pages-spec : {M : Type 1} → statement M
-notice-pages-spec =
+pub notice_pages_spec : {M : Type 1} → statement M
+notice_pages_spec =
     tie.close
     (tie.spec
     all-known-requires

@@ -1,5 +1,5 @@
 -- `notice_c::notice_tally` meets its contract.
-use Rattle.notice_c.proofs.Known.{answered-unknown, answered-known}
+use Rattle.notice_c.proofs.Known.{answered_unknown, answered-known}
 use borrow.Author.Rules.{rules}
 use Rattle.notice_c.proofs.notice_tally.Statement.{statement}
 use Rattle.notice_c.proofs.notice_tally.Tie as tie
@@ -8,7 +8,7 @@ tally-known-requires : tie.Need-tally-known-requires
 tally-known-requires c κs = search rules
 
 returns : tie.Need-returns
-returns c = answered-unknown _ _ c.before.tally-known.ensures _ _ c.if1.true
+returns c = answered_unknown _ _ c.before.tally-known.ensures _ _ c.if1.true
 
 ambiguous-named-requires : tie.Need-ambiguous-named-requires
 ambiguous-named-requires c κs = search rules
@@ -24,6 +24,6 @@ returns-2 c =
     answered-known _ _ c.before.before.before.before.tally-known.ensures _ _ c.before.before.before.if1.false _
     (rw (c.before.tally.ensures, c.before.before.ambiguous-named.ensures) at c.tally-answer.ensures)
 
-pub notice-tally-spec : {M : Type 1} → statement M
-notice-tally-spec =
+pub notice_tally_spec : {M : Type 1} → statement M
+notice_tally_spec =
     tie.close (tie.spec tally-known-requires returns ambiguous-named-requires tally-requires tally-answer-requires returns-2)

@@ -27,6 +27,6 @@ returns c =
       first.before.right.ensures,
     )
 
-pub above-spec : {M : Type 1} → statement M
-above-spec =
+pub above_spec : {M : Type 1} → statement M
+above_spec =
     tie.close (tie.spec right-requires bottom-requires min-requires rect-between-requires returns)

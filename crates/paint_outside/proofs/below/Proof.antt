@@ -31,8 +31,8 @@ returns c =
       first.before.before.bottom.ensures,
     )
 
-pub below-spec : {M : Type 1} → statement M
-below-spec =
+pub below_spec : {M : Type 1} → statement M
+below_spec =
     tie.close
     (tie.spec
     bottom-requires

@@ -39,8 +39,8 @@ returns c =
       first.before.before.before.max.ensures,
     )
 
-pub left-of-spec : {M : Type 1} → statement M
-left-of-spec =
+pub left_of_spec : {M : Type 1} → statement M
+left_of_spec =
     tie.close
     (tie.spec
     max-requires

@@ -23,8 +23,8 @@ same_length c = search rules
 returns : tie.Need-returns
 returns c = search painted
 
-pub paint-other-rows-spec : {M : Type 1} → statement M
-paint-other-rows-spec =
+pub paint_other_rows_spec : {M : Type 1} → statement M
+paint_other_rows_spec =
     tie.close
     (tie.spec
     above-requires

@@ -16,6 +16,6 @@ same_length c = search rules
 returns : tie.Need-returns
 returns c = search painted
 
-pub paint-outside-spec : {M : Type 1} → statement M
-paint-outside-spec =
+pub paint_outside_spec : {M : Type 1} → statement M
+paint_outside_spec =
     tie.close (tie.spec paint-other-rows-requires paint-same-rows-requires same_length returns)

@@ -23,8 +23,8 @@ same_length c = search rules
 returns : tie.Need-returns
 returns c = search painted
 
-pub paint-same-rows-spec : {M : Type 1} → statement M
-paint-same-rows-spec =
+pub paint_same_rows_spec : {M : Type 1} → statement M
+paint_same_rows_spec =
     tie.close
     (tie.spec
     left-of-requires

@@ -12,5 +12,5 @@ saturating-sub-requires-2 c κs = search rules
 returns : tie.Need-returns
 returns c = rw (c.saturating-sub2.ensures, c.before.saturating-sub.ensures)
 
-pub rect-between-spec : {M : Type 1} → statement M
-rect-between-spec = tie.close (tie.spec saturating-sub-requires saturating-sub-requires-2 returns)
+pub rect_between_spec : {M : Type 1} → statement M
+rect_between_spec = tie.close (tie.spec saturating-sub-requires saturating-sub-requires-2 returns)

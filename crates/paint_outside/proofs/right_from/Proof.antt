@@ -1,5 +1,5 @@
 -- `paint_outside::right_from` meets its contract.
-use Rattle.paint_outside.specs.AroundExtra.{rightFrom}
+use Rattle.paint_outside.specs.AroundExtra.{right_from}
 use borrow.Author.Rules.{rules}
 use Rattle.paint_outside.proofs.right_from.Statement.{statement}
 use Rattle.paint_outside.proofs.right_from.Tie as tie
@@ -29,7 +29,7 @@ rect-between-requires : tie.Need-rect-between-requires
 rect-between-requires c κs = search rules
 
 returns : tie.Need-returns
-unfolding rightFrom
+unfolding right_from
 returns c =
     let first = c.before.before.before.before in
     rw (
@@ -43,8 +43,8 @@ returns c =
       first.before.before.before.max.ensures,
     )
 
-pub right-from-spec : {M : Type 1} → statement M
-right-from-spec =
+pub right_from_spec : {M : Type 1} → statement M
+right_from_spec =
     tie.close
     (tie.spec
     max-requires

@@ -1,5 +1,5 @@
 -- `paragraph::inner_area` meets its contract.
-use Rattle.paragraph.proofs.Frames.{inner-of-met}
+use Rattle.paragraph.proofs.Frames.{inner_of_met}
 use borrow.Author.Rules.{rules}
 use Rattle.paragraph.proofs.inner_area.Statement.{statement}
 use Rattle.paragraph.proofs.inner_area.Tie as tie
@@ -14,7 +14,7 @@ inner-requires : tie.Need-inner-requires
 inner-requires c κs = search rules
 
 returns : tie.Need-returns
-returns c = search inner-of-met
+returns c = search inner_of_met
 
-pub inner-area-spec : {M : Type 1} → statement M
-inner-area-spec = tie.close (tie.spec area-requires intersection-requires inner-requires returns)
+pub inner_area_spec : {M : Type 1} → statement M
+inner_area_spec = tie.close (tie.spec area-requires intersection-requires inner-requires returns)

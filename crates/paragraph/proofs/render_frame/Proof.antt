@@ -26,8 +26,8 @@ same_length c = search rules
 returns-2 : tie.Need-returns-2
 returns-2 c = search frame-laws
 
-pub render-frame-spec : {M : Type 1} → statement M
-render-frame-spec =
+pub render_frame_spec : {M : Type 1} → statement M
+render_frame_spec =
     tie.close
     (tie.spec
     area-requires

@@ -27,8 +27,8 @@ same_length c = search rules
 returns-2 : tie.Need-returns-2
 returns-2 c = (search inside-laws, search inside-laws)
 
-pub render-paragraph-spec : {M : Type 1} → statement M
-render-paragraph-spec =
+pub render_paragraph_spec : {M : Type 1} → statement M
+render_paragraph_spec =
     tie.close
     (tie.spec
     area-requires

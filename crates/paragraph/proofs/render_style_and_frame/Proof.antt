@@ -19,7 +19,7 @@ same_length c = search rules
 returns : tie.Need-returns
 returns c = search frame-laws
 
-pub render-style-and-frame-spec : {M : Type 1} → statement M
-render-style-and-frame-spec =
+pub render_style_and_frame_spec : {M : Type 1} → statement M
+render_style_and_frame_spec =
     tie.close
     (tie.spec style-at-requires paint-area-requires render-frame-requires same_length returns)

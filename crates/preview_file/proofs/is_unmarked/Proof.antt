@@ -13,5 +13,5 @@ number-4-requires c κs = search rules
 returns-2 : tie.Need-returns-2
 returns-2 c = search (marks, rules)
 
-pub is-unmarked-spec : {M : Type 1} → statement M
-is-unmarked-spec = tie.close (tie.spec returns number-4-requires returns-2)
+pub is_unmarked_spec : {M : Type 1} → statement M
+is_unmarked_spec = tie.close (tie.spec returns number-4-requires returns-2)

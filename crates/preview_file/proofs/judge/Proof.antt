@@ -40,8 +40,8 @@ returns-5 c = search (judging, rules)
 returns-6 : tie.Need-returns-6
 returns-6 c = search (judging, rules)
 
-pub judge-spec : {M : Type 1} → statement M
-judge-spec =
+pub judge_spec : {M : Type 1} → statement M
+judge_spec =
     tie.close
     (tie.spec
     returns

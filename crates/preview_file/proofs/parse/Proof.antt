@@ -25,8 +25,8 @@ judge-requires c κs = search rules
 returns-4 : tie.Need-returns-4
 returns-4 c = search (parsing, rules)
 
-pub parse-spec : {M : Type 1} → statement M
-parse-spec =
+pub parse_spec : {M : Type 1} → statement M
+parse_spec =
     tie.close
     (tie.spec
     returns

@@ -36,8 +36,8 @@ same-length-3 c = search rules
 returns : tie.Need-returns
 returns c = search rules
 
-pub store-all-spec : {M : Type 1} → statement M
-store-all-spec =
+pub store_all_spec : {M : Type 1} → statement M
+store_all_spec =
     tie.close
     (tie.spec
     mul-titles-at

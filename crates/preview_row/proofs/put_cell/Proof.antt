@@ -22,8 +22,8 @@ same_length c = search rules
 returns : tie.Need-returns
 returns c = search (parts, rules)
 
-pub put-cell-spec : {M : Type 1} → statement M
-put-cell-spec =
+pub put_cell_spec : {M : Type 1} → statement M
+put_cell_spec =
     tie.close
     (tie.spec
     appearance-requires

@@ -19,5 +19,5 @@ returns-2 c = search (changes, rules)
 returns-3 : tie.Need-returns-3
 returns-3 c = search (changes, rules)
 
-pub put-change-spec : {M : Type 1} → statement M
-put-change-spec = tie.close (tie.spec returns put-style-requires same_length returns-2 returns-3)
+pub put_change_spec : {M : Type 1} → statement M
+put_change_spec = tie.close (tie.spec returns put-style-requires same_length returns-2 returns-3)

@@ -16,5 +16,5 @@ same_length c = search rules
 returns : tie.Need-returns
 returns c = search (parts, rules)
 
-pub put-row-spec : {M : Type 1} → statement M
-put-row-spec = tie.close (tie.spec put-cells-requires put-end-requires same_length returns)
+pub put_row_spec : {M : Type 1} → statement M
+put_row_spec = tie.close (tie.spec put-cells-requires put-end-requires same_length returns)

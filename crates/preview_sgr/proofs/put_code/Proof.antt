@@ -19,5 +19,5 @@ returns c = search (choices, rules)
 returns-2 : tie.Need-returns-2
 returns-2 c = search (choices, rules)
 
-pub put-code-spec : {M : Type 1} → statement M
-put-code-spec = tie.close (tie.spec add-put-2 put-2-requires same_length returns returns-2)
+pub put_code_spec : {M : Type 1} → statement M
+put_code_spec = tie.close (tie.spec add-put-2 put-2-requires same_length returns returns-2)

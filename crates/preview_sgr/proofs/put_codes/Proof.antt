@@ -5,39 +5,39 @@ use borrow.Author.Rules.{rules}
 use Rattle.preview_sgr.proofs.put_codes.Statement.{statement}
 use Rattle.preview_sgr.proofs.put_codes.Tie as tie
 
-abbrev invariant-loop : tie.invariant-loop
-invariant-loop buffer₀ at modifiers next₀ bits₀ number₀ buffer next bits number = Coding buffer₀ at modifiers buffer next bits number
+abbrev invariant_loop : tie.invariant_loop
+invariant_loop buffer₀ at modifiers next₀ bits₀ number₀ buffer next bits number = Coding buffer₀ at modifiers buffer next bits number
 
-abbrev decreases-loop : tie.decreases-loop
-decreases-loop buffer₀ at modifiers next₀ bits₀ number₀ buffer next bits number = 10 - number
+abbrev decreases_loop : tie.decreases_loop
+decreases_loop buffer₀ at modifiers next₀ bits₀ number₀ buffer next bits number = 10 - number
 
-loop-holds : tie.Need-loop-init invariant-loop decreases-loop
+loop-holds : tie.Need-loop-init invariant_loop decreases_loop
 loop-holds c = search (coding, rules)
 
-put-code-requires : tie.Need-put-code-requires invariant-loop decreases-loop
+put-code-requires : tie.Need-put-code-requires invariant_loop decreases_loop
 put-code-requires c κs = search (coding, rules)
 
-add-number : tie.Need-overflow-add-number invariant-loop decreases-loop
+add-number : tie.Need-overflow-add-number invariant_loop decreases_loop
 add-number c = search (coding, rules)
 
-loop-less : tie.Need-loop-smaller invariant-loop decreases-loop
+loop-less : tie.Need-loop-smaller invariant_loop decreases_loop
 loop-less c = search (coding, rules)
 
-loop-again : tie.Need-loop-preserved invariant-loop decreases-loop
+loop-again : tie.Need-loop-preserved invariant_loop decreases_loop
 loop-again c = search (coding, rules)
 
-same_length : tie.Need-same-length invariant-loop decreases-loop
+same_length : tie.Need-same-length invariant_loop decreases_loop
 same_length c = search (coding, rules)
 
-returns : tie.Need-returns invariant-loop decreases-loop
+returns : tie.Need-returns invariant_loop decreases_loop
 returns c = search (coding, rules)
 
-pub put-codes-spec : {M : Type 1} → statement M
-put-codes-spec =
+pub put_codes_spec : {M : Type 1} → statement M
+put_codes_spec =
     tie.close
     (tie.spec
-    invariant-loop
-    decreases-loop
+    invariant_loop
+    decreases_loop
     loop-holds
     put-code-requires
     add-number

@@ -22,8 +22,8 @@ same_length c = search rules
 returns-2 : tie.Need-returns-2
 returns-2 c = search (choices, rules)
 
-pub put-colour-spec : {M : Type 1} → statement M
-put-colour-spec =
+pub put_colour_spec : {M : Type 1} → statement M
+put_colour_spec =
     tie.close
     (tie.spec
     returns

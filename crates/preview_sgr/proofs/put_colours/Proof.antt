@@ -7,8 +7,8 @@ use Rattle.preview_sgr.proofs.put_colours.Tie as tie
 returns : tie.Need-returns
 returns c = search (background-written, colours-written, rules)
 
-pub put-colours-spec : {M : Type 1} → statement M
-put-colours-spec =
+pub put_colours_spec : {M : Type 1} → statement M
+put_colours_spec =
     tie.close
     (tie.spec
     (search rules)

@@ -7,8 +7,8 @@ use Rattle.preview_sgr.proofs.put_style.Tie as tie
 returns : tie.Need-returns
 returns c = search (modifiers-written, style-written, rules)
 
-pub put-style-spec : {M : Type 1} → statement M
-put-style-spec =
+pub put_style_spec : {M : Type 1} → statement M
+put_style_spec =
     tie.close
     (tie.spec
     (search rules)

@@ -30,8 +30,8 @@ returns c =
     let placed = c.before.before.before.before.before.before.before.before.before.before in
     drawn-notice placed.before.before.before.before.before.before.before.args.opening _ _ _ _ _ _ _ _ placed.before.area.ensures placed.notice-at.ensures c.before.before.before.before.before.before.fill.ensures _ _ c.before.before.draw-both.ensures
 
-pub draw-spec : {M : Type 1} → statement M
-draw-spec =
+pub draw_spec : {M : Type 1} → statement M
+draw_spec =
     tie.close
     (tie.spec
     area-requires

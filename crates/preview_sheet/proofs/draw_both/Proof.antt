@@ -13,8 +13,8 @@ returns-2 c =
     let framed = laid.before.before.before.before.before.before.before.before in
     text-laid _ _ _ framed.draw-frame.ensures _ _ (search rules) laid.before.before.text-settings.ensures _ _ laid.draw-text.ensures
 
-pub draw-both-spec : {M : Type 1} → statement M
-draw-both-spec =
+pub draw_both_spec : {M : Type 1} → statement M
+draw_both_spec =
     tie.close
     (tie.spec
     (λ c κs. search rules)

@@ -28,8 +28,8 @@ returns c = search (sheets, rules)
 returns-2 : tie.Need-returns-2
 returns-2 c = search (sheets, rules)
 
-pub lines-in-spec : {M : Type 1} → statement M
-lines-in-spec =
+pub lines_in_spec : {M : Type 1} → statement M
+lines_in_spec =
     tie.close
     (tie.spec
     slice-aggregate-line-count

@@ -37,8 +37,8 @@ returns c = search (sheets, rules)
 returns-2 : tie.Need-returns-2
 returns-2 c = search (sheets, rules)
 
-pub measured-spec : {M : Type 1} → statement M
-measured-spec =
+pub measured_spec : {M : Type 1} → statement M
+measured_spec =
     tie.close
     (tie.spec
     met-requires

@@ -16,5 +16,5 @@ intersection-requires c κs = search rules
 returns : tie.Need-returns
 returns c = search (sheets, rules)
 
-pub met-spec : {M : Type 1} → statement M
-met-spec = tie.close (tie.spec area-requires area-requires-2 intersection-requires returns)
+pub met_spec : {M : Type 1} → statement M
+met_spec = tie.close (tie.spec area-requires area-requires-2 intersection-requires returns)

@@ -10,5 +10,5 @@ notice-requires c κs = search rules
 returns : tie.Need-returns
 returns c = search (sheets, rules)
 
-pub notice-at-spec : {M : Type 1} → statement M
-notice-at-spec = tie.close (tie.spec notice-requires returns)
+pub notice_at_spec : {M : Type 1} → statement M
+notice_at_spec = tie.close (tie.spec notice-requires returns)

@@ -9,5 +9,5 @@ returns c = search readings
 returns-2 : tie.Need-returns-2
 returns-2 c = search readings
 
-pub read-as-spec : {M : Type 1} → statement M
-read-as-spec = tie.close (tie.spec returns returns-2)
+pub read_as_spec : {M : Type 1} → statement M
+read_as_spec = tie.close (tie.spec returns returns-2)

@@ -9,5 +9,5 @@ widened-block-requires c κs = search rules
 returns : tie.Need-returns
 returns c = cc
 
-pub widened-spec : {M : Type 1} → statement M
-widened-spec = tie.close (tie.spec widened-block-requires returns)
+pub widened_spec : {M : Type 1} → statement M
+widened_spec = tie.close (tie.spec widened-block-requires returns)

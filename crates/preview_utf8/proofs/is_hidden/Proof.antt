@@ -22,7 +22,7 @@ returns-3 c = search (tests, rules)
 returns-4 : tie.Need-returns-4
 returns-4 c = search (tests, rules)
 
-pub is-hidden-spec : {M : Type 1} → statement M
-is-hidden-spec =
+pub is_hidden_spec : {M : Type 1} → statement M
+is_hidden_spec =
     tie.close
     (tie.spec returns is-in-range-requires returns-2 is-in-range-requires-2 returns-3 returns-4)

@@ -10,5 +10,5 @@ returns c = search (tests, rules)
 returns-2 : tie.Need-returns-2
 returns-2 c = search (tests, rules)
 
-pub is-in-range-spec : {M : Type 1} → statement M
-is-in-range-spec = tie.close (tie.spec returns returns-2)
+pub is_in_range_spec : {M : Type 1} → statement M
+is_in_range_spec = tie.close (tie.spec returns returns-2)

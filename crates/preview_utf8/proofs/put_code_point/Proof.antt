@@ -85,8 +85,8 @@ same-length-4 c = search rules
 returns-4 : tie.Need-returns-4
 returns-4 c = search (encoding, rules)
 
-pub put-code-point-spec : {M : Type 1} → statement M
-put-code-point-spec =
+pub put_code_point_spec : {M : Type 1} → statement M
+put_code_point_spec =
     tie.close
     (tie.spec
     cast-put

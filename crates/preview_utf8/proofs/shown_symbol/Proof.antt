@@ -13,5 +13,5 @@ returns c = search (tests, rules)
 returns-2 : tie.Need-returns-2
 returns-2 c = search (tests, rules)
 
-pub shown-symbol-spec : {M : Type 1} → statement M
-shown-symbol-spec = tie.close (tie.spec is-hidden-requires returns returns-2)
+pub shown_symbol_spec : {M : Type 1} → statement M
+shown_symbol_spec = tie.close (tie.spec is-hidden-requires returns returns-2)

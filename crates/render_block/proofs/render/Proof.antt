@@ -25,8 +25,8 @@ same_length c = search rules
 returns-2 : tie.Need-returns-2
 returns-2 c = search frames
 
-pub render-spec : {M : Type 1} → statement M
-render-spec =
+pub render_spec : {M : Type 1} → statement M
+render_spec =
     tie.close
     (tie.spec
     area-requires

@@ -16,5 +16,5 @@ same_length c = search rules
 returns : tie.Need-returns
 returns c = search frames
 
-pub render-borders-and-titles-spec : {M : Type 1} → statement M
-render-borders-and-titles-spec = tie.close (tie.spec render-borders-requires render-titles-requires same_length returns)
+pub render_borders_and_titles_spec : {M : Type 1} → statement M
+render_borders_and_titles_spec = tie.close (tie.spec render-borders-requires render-titles-requires same_length returns)

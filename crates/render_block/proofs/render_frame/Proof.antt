@@ -23,8 +23,8 @@ same_length c = search rules
 returns : tie.Need-returns
 returns c = search frames
 
-pub render-frame-spec : {M : Type 1} → statement M
-render-frame-spec =
+pub render_frame_spec : {M : Type 1} → statement M
+render_frame_spec =
     tie.close
     (tie.spec
     style-at-requires

@@ -16,6 +16,6 @@ same_length c = search rules
 returns : tie.Need-returns
 returns c = search (first_then, last-drawn)
 
-pub render-borders-spec : {M : Type 1} → statement M
-render-borders-spec =
+pub render_borders_spec : {M : Type 1} → statement M
+render_borders_spec =
     tie.close (tie.spec render-sides-requires render-corners-requires same_length returns)

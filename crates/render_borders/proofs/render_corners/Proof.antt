@@ -52,8 +52,8 @@ returns : tie.Need-returns
 unfolding corners
 returns c = search edges-in-order
 
-pub render-corners-spec : {M : Type 1} → statement M
-render-corners-spec =
+pub render_corners_spec : {M : Type 1} → statement M
+render_corners_spec =
     tie.close
     (tie.spec
     bottom-right-requires

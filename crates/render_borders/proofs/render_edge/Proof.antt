@@ -22,6 +22,6 @@ returns c = search borders
 returns-2 : tie.Need-returns-2
 returns-2 c = search borders
 
-pub render-edge-spec : {M : Type 1} → statement M
-render-edge-spec =
+pub render_edge_spec : {M : Type 1} → statement M
+render_edge_spec =
     tie.close (tie.spec cast-symbol style-at-requires paint-area-requires same_length returns returns-2)

@@ -52,8 +52,8 @@ returns : tie.Need-returns
 unfolding sides
 returns c = search edges-in-order
 
-pub render-sides-spec : {M : Type 1} → statement M
-render-sides-spec =
+pub render_sides_spec : {M : Type 1} → statement M
+render_sides_spec =
     tie.close
     (tie.spec
     left-side-requires

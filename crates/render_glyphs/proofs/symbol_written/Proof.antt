@@ -27,5 +27,5 @@ returns-3 c = search rules
 returns-4 : tie.Need-returns-4
 returns-4 c = search rules
 
-pub symbol-written-spec : {M : Type 1} → statement M
-symbol-written-spec = tie.close (tie.spec enum_told enum-told-2 enum-told-3 enum-told-4 returns returns-2 returns-3 returns-4)
+pub symbol_written_spec : {M : Type 1} → statement M
+symbol_written_spec = tie.close (tie.spec enum_told enum-told-2 enum-told-3 enum-told-4 returns returns-2 returns-3 returns-4)

@@ -1,5 +1,5 @@
 -- `render_glyphs::write_cell` meets its contract.
-use Rattle.render_glyphs.proofs.OneGlyph.{cell-written}
+use Rattle.render_glyphs.proofs.OneGlyph.{cell_written}
 use borrow.Author.Rules.{rules}
 use Rattle.render_glyphs.proofs.write_cell.Statement.{statement}
 use Rattle.render_glyphs.proofs.write_cell.Tie as tie
@@ -32,10 +32,10 @@ same_length : tie.Need-same-length
 same_length c = search rules
 
 returns : tie.Need-returns
-returns c = search cell-written
+returns c = search cell_written
 
-pub write-cell-spec : {M : Type 1} → statement M
-write-cell-spec =
+pub write_cell_spec : {M : Type 1} → statement M
+write_cell_spec =
     tie.close
     (tie.spec
     style-at-requires

@@ -1,5 +1,5 @@
 -- `render_glyphs::write_glyph` meets its contract.
-use Rattle.render_glyphs.proofs.OneGlyph.{glyph-unwritten, glyph-written, written-starts}
+use Rattle.render_glyphs.proofs.OneGlyph.{glyph_unwritten, glyph-written, written-starts}
 use borrow.Author.Rules.{rules}
 use Rattle.render_glyphs.proofs.write_glyph.Statement.{statement}
 use Rattle.render_glyphs.proofs.write_glyph.Tie as tie
@@ -32,10 +32,10 @@ returns : tie.Need-returns
 returns c = (search rules, search glyph-written)
 
 returns-2 : tie.Need-returns-2
-returns-2 c = (search rules, search glyph-unwritten)
+returns-2 c = (search rules, search glyph_unwritten)
 
-pub write-glyph-spec : {M : Type 1} → statement M
-write-glyph-spec =
+pub write_glyph_spec : {M : Type 1} → statement M
+write_glyph_spec =
     tie.close
     (tie.spec
     of-glyph-requires

@@ -22,8 +22,8 @@ returns c = search summing
 returns-2 : tie.Need-returns-2
 returns-2 c = search summing
 
-pub add-spaced-spec : {M : Type 1} → statement M
-add-spaced-spec =
+pub add_spaced_spec : {M : Type 1} → statement M
+add_spaced_spec =
     tie.close
     (tie.spec
     has-title-requires

@@ -16,5 +16,5 @@ sub-t8 c = search rules
 returns-2 : tie.Need-returns-2
 returns-2 c = search center-places
 
-pub center-place-spec : {M : Type 1} → statement M
-center-place-spec = tie.close (tie.spec saturating-add-requires returns sub-t8 returns-2)
+pub center_place_spec : {M : Type 1} → statement M
+center_place_spec = tie.close (tie.spec saturating-add-requires returns sub-t8 returns-2)

@@ -23,8 +23,8 @@ same_length c = search rules
 returns : tie.Need-returns
 returns c = search center-drawn
 
-pub render-center-titles-spec : {M : Type 1} → statement M
-render-center-titles-spec =
+pub render_center_titles_spec : {M : Type 1} → statement M
+render_center_titles_spec =
     tie.close
     (tie.spec
     spaced-width-requires

@@ -13,5 +13,5 @@ same_length c = search rules
 returns : tie.Need-returns
 returns c = search left-drawn
 
-pub render-left-titles-spec : {M : Type 1} → statement M
-render-left-titles-spec = tie.close (tie.spec render-titles-forward-requires same_length returns)
+pub render_left_titles_spec : {M : Type 1} → statement M
+render_left_titles_spec = tie.close (tie.spec render-titles-forward-requires same_length returns)

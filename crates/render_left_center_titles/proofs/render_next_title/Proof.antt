@@ -26,8 +26,8 @@ returns-2 c = search moves
 returns-3 : tie.Need-returns-3
 returns-3 c = search moves
 
-pub render-next-title-spec : {M : Type 1} → statement M
-render-next-title-spec =
+pub render_next_title_spec : {M : Type 1} → statement M
+render_next_title_spec =
     tie.close
     (tie.spec
     is-empty-requires

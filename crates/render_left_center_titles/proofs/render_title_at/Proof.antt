@@ -25,8 +25,8 @@ same_length c = search rules
 returns : tie.Need-returns
 returns c = (search placed, search placed)
 
-pub render-title-at-spec : {M : Type 1} → statement M
-render-title-at-spec =
+pub render_title_at_spec : {M : Type 1} → statement M
+render_title_at_spec =
     tie.close
     (tie.spec
     line-width-u16-requires

@@ -28,8 +28,8 @@ returns-2 c = (search offsets, search rules)
 returns-3 : tie.Need-returns-3
 returns-3 c = (search offsets, search rules)
 
-pub get-line-offset-spec : {M : Type 1} → statement M
-get-line-offset-spec =
+pub get_line_offset_spec : {M : Type 1} → statement M
+get_line_offset_spec =
     tie.close
     (tie.spec
     enum_told

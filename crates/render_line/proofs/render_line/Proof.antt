@@ -1,6 +1,6 @@
 -- `render_line::render_line` meets its contract.
 use native.Mathlib.Omega.{arith}
-use Rattle.render_line.proofs.RowDrawn.{width-of-glyphs, row-end, row-drawn, row-placed, row-clipped}
+use Rattle.render_line.proofs.RowDrawn.{width_of_glyphs, row-end, row-drawn, row-placed, row-clipped}
 use borrow.Author.Rules.{rules}
 use Rattle.render_line.proofs.render_line.Statement.{statement}
 use Rattle.render_line.proofs.render_line.Tie as tie
@@ -55,7 +55,7 @@ part-write-line-end c =
     omega (arith, row-end _ _ _ given.1 _ given.0.2)
 
 write-line-requires : tie.Need-write-line-requires
-write-line-requires c κs = (search rules, search width-of-glyphs)
+write-line-requires c κs = (search rules, search width_of_glyphs)
 
 same_length : tie.Need-same-length
 same_length c = search rules
@@ -63,8 +63,8 @@ same_length c = search rules
 returns : tie.Need-returns
 returns c = (search row-drawn, (search row-placed, search row-clipped))
 
-pub render-line-spec : {M : Type 1} → statement M
-render-line-spec =
+pub render_line_spec : {M : Type 1} → statement M
+render_line_spec =
     tie.close
     (tie.spec
     cast-start-of-row

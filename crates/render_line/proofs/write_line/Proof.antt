@@ -1,5 +1,5 @@
 -- `render_line::write_line` meets its contract.
-use Rattle.render_line.proofs.LineDrawn.{LineWritten, lineCall, line-drawn, line-placed, line-clipped}
+use Rattle.render_line.proofs.LineDrawn.{LineWritten, line_call, line-drawn, line-placed, line-clipped}
 use borrow.Author.Rules.{rules}
 use Rattle.render_line.proofs.write_line.Statement.{statement}
 use Rattle.render_line.proofs.write_line.Tie as tie
@@ -41,12 +41,12 @@ returns : tie.Need-returns
 returns c =
     let given = c.before.before.before.before.before.before.before.before.before.requires in
     let start = c.before.before.before.before.before.get-line-offset.ensures in
-    let w : LineWritten (lineCall _ _ _ _ _ _) _ _ _
+    let w : LineWritten (line_call _ _ _ _ _ _) _ _ _
     = record { ordered = given.0.0; within = given.0.1; width = given.1; offset = start.0; low = start.1; wrote = c.before.before.write-glyphs.ensures } in
     (line-drawn _ _ _ _ w, (line-placed _ _ _ _ w, line-clipped _ _ _ _ w))
 
-pub write-line-spec : {M : Type 1} → statement M
-write-line-spec =
+pub write_line_spec : {M : Type 1} → statement M
+write_line_spec =
     tie.close
     (tie.spec
     get-line-offset-requires

@@ -13,5 +13,5 @@ saturating-sub-requires-2 c κs = search rules
 returns : tie.Need-returns
 returns c = search at-right-end
 
-pub before-title-spec : {M : Type 1} → statement M
-before-title-spec = tie.close (tie.spec saturating-sub-requires saturating-sub-requires-2 returns)
+pub before_title_spec : {M : Type 1} → statement M
+before_title_spec = tie.close (tie.spec saturating-sub-requires saturating-sub-requires-2 returns)

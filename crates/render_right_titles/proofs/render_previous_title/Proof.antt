@@ -25,8 +25,8 @@ returns-2 c = search moved_back
 returns-3 : tie.Need-returns-3
 returns-3 c = search moved_back
 
-pub render-previous-title-spec : {M : Type 1} → statement M
-render-previous-title-spec =
+pub render_previous_title_spec : {M : Type 1} → statement M
+render_previous_title_spec =
     tie.close
     (tie.spec
     is-empty-requires

@@ -12,5 +12,5 @@ same_length c = search rules
 returns : tie.Need-returns
 returns c = search rules
 
-pub render-right-titles-spec : {M : Type 1} → statement M
-render-right-titles-spec = tie.close (tie.spec render-titles-backward-requires same_length returns)
+pub render_right_titles_spec : {M : Type 1} → statement M
+render_right_titles_spec = tie.close (tie.spec render-titles-backward-requires same_length returns)

@@ -25,8 +25,8 @@ same_length c = search rules
 returns : tie.Need-returns
 returns c = (search at-right-end, search at-right-end)
 
-pub render-title-before-spec : {M : Type 1} → statement M
-render-title-before-spec =
+pub render_title_before_spec : {M : Type 1} → statement M
+render_title_before_spec =
     tie.close
     (tie.spec
     line-width-u16-requires

@@ -19,6 +19,6 @@ min-requires c κs = search rules
 returns : tie.Need-returns
 returns c = search at-right-end
 
-pub right-part-spec : {M : Type 1} → statement M
-right-part-spec =
+pub right_part_spec : {M : Type 1} → statement M
+right_part_spec =
     tie.close (tie.spec right-requires saturating-sub-requires max-requires min-requires returns)

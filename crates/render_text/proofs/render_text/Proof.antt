@@ -22,8 +22,8 @@ same_length c = search rules
 returns : tie.Need-returns
 returns c = (search lines-laws, search lines-laws)
 
-pub render-text-spec : {M : Type 1} → statement M
-render-text-spec =
+pub render_text_spec : {M : Type 1} → statement M
+render_text_spec =
     tie.close
     (tie.spec
     style-at-requires

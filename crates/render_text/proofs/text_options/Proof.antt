@@ -19,5 +19,5 @@ returns c = search settings
 returns-2 : tie.Need-returns-2
 returns-2 c = search settings
 
-pub text-options-spec : {M : Type 1} → statement M
-text-options-spec = tie.close (tie.spec enum-known-wrap enum-known-wrap-2 cast-t15 returns returns-2)
+pub text_options_spec : {M : Type 1} → statement M
+text_options_spec = tie.close (tie.spec enum-known-wrap enum-known-wrap-2 cast-t15 returns returns-2)

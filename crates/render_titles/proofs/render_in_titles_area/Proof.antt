@@ -25,7 +25,7 @@ same_length c = search rules
 returns : tie.Need-returns
 returns c = search positions
 
-pub render-in-titles-area-spec : {M : Type 1} → statement M
-render-in-titles-area-spec =
+pub render_in_titles_area_spec : {M : Type 1} → statement M
+render_in_titles_area_spec =
     tie.close
     (tie.spec render-left-titles-requires render-center-titles-requires render-right-titles-requires same_length returns)

@@ -16,6 +16,6 @@ same_length c = search rules
 returns : tie.Need-returns
 returns c = search positions
 
-pub render-title-position-spec : {M : Type 1} → statement M
-render-title-position-spec =
+pub render_title_position_spec : {M : Type 1} → statement M
+render_title_position_spec =
     tie.close (tie.spec titles-area-requires render-in-titles-area-requires same_length returns)

@@ -16,6 +16,6 @@ same_length c = search rules
 returns : tie.Need-returns
 returns c = search positions
 
-pub render-titles-spec : {M : Type 1} → statement M
-render-titles-spec =
+pub render_titles_spec : {M : Type 1} → statement M
+render_titles_spec =
     tie.close (tie.spec render-title-position-requires render-title-position-requires-2 same_length returns)

@@ -25,8 +25,8 @@ saturating-sub-requires-2 c κs = search rules
 returns : tie.Need-returns
 returns c = search titles-areas
 
-pub titles-area-spec : {M : Type 1} → statement M
-titles-area-spec =
+pub titles_area_spec : {M : Type 1} → statement M
+titles_area_spec =
     tie.close
     (tie.spec
     cells-taken-requires

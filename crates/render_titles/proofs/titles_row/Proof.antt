@@ -22,7 +22,7 @@ returns c = search rules
 returns-2 : tie.Need-returns-2
 returns-2 c = search titles-areas
 
-pub titles-row-spec : {M : Type 1} → statement M
-titles-row-spec =
+pub titles_row_spec : {M : Type 1} → statement M
+titles_row_spec =
     tie.close
     (tie.spec enum_told enum-told-2 bottom-requires saturating-sub-requires returns returns-2)

@@ -25,8 +25,8 @@ same_length c = search rules
 returns-2 : tie.Need-returns-2
 returns-2 c = search effects
 
-pub apply-effect-spec : {M : Type 1} → statement M
-apply-effect-spec =
+pub apply_effect_spec : {M : Type 1} → statement M
+apply_effect_spec =
     tie.close
     (tie.spec
     enum-known-effect

@@ -34,8 +34,8 @@ same_length c = search rules
 returns-3 : tie.Need-returns-3
 returns-3 c = search shadows
 
-pub render-shadow-spec : {M : Type 1} → statement M
-render-shadow-spec =
+pub render_shadow_spec : {M : Type 1} → statement M
+render_shadow_spec =
     tie.close
     (tie.spec
     enum-known-shadow

@@ -16,6 +16,6 @@ same_length c = search rules
 returns : tie.Need-returns
 returns c = search effects
 
-pub render-shadow-cells-spec : {M : Type 1} → statement M
-render-shadow-cells-spec =
+pub render_shadow_cells_spec : {M : Type 1} → statement M
+render_shadow_cells_spec =
     tie.close (tie.spec paint-outside-requires apply-effect-requires same_length returns)

@@ -19,5 +19,5 @@ returns c =
     rw (c.intersection.ensures, c.before.area.ensures, c.before.before.offset.ensures)
     (simp (to_z-of_z start.ranges.x, to_z-of_z start.ranges.y))
 
-pub shadow-area-spec : {M : Type 1} → statement M
-shadow-area-spec = tie.close (tie.spec offset-requires area-requires intersection-requires returns)
+pub shadow_area_spec : {M : Type 1} → statement M
+shadow_area_spec = tie.close (tie.spec offset-requires area-requires intersection-requires returns)

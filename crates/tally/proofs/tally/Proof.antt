@@ -1,6 +1,6 @@
 -- `tally::tally` meets its contract.
 use Rattle.refuse.proofs.Accepted.{lines-sound}
-use Rattle.tally.proofs.Answers.{tally-refused, tally-counted}
+use Rattle.tally.proofs.Answers.{tally_refused, tally_counted}
 use borrow.Author.Rules.{rules}
 use Rattle.tally.proofs.tally.Statement.{statement}
 use Rattle.tally.proofs.tally.Tie as tie
@@ -12,7 +12,7 @@ enum-known-why : tie.Need-enum-known-why
 enum-known-why c = search rules
 
 returns : tie.Need-returns
-returns c = tally-refused _ _ c.before.before.before.line-verdict.ensures _ (search rules)
+returns c = tally_refused _ _ c.before.before.before.line-verdict.ensures _ (search rules)
 
 enum_told : tie.Need-enum-told
 enum_told c = search rules
@@ -23,10 +23,10 @@ text-counts-requires c κs =
     (right.few, right.opens)
 
 returns-2 : tie.Need-returns-2
-returns-2 c = tally-counted _ _ c.before.before.before.line-verdict.ensures (search rules) _ c.text-counts.ensures
+returns-2 c = tally_counted _ _ c.before.before.before.line-verdict.ensures (search rules) _ c.text-counts.ensures
 
-pub tally-spec : {M : Type 1} → statement M
-tally-spec =
+pub tally_spec : {M : Type 1} → statement M
+tally_spec =
     tie.close
     (tie.spec
     line-verdict-requires

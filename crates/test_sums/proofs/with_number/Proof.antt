@@ -11,5 +11,5 @@ returns : tie.Need-returns
 unfolding with_number
 returns c = cc
 
-pub with-number-spec : {M : Type 1} → statement M
-with-number-spec = tie.close (tie.spec step-requires returns)
+pub with_number_spec : {M : Type 1} → statement M
+with_number_spec = tie.close (tie.spec step-requires returns)

@@ -6,48 +6,48 @@ use borrow.Author.Rules.{rules}
 use Rattle.title.proofs.line_width_u16.Statement.{statement}
 use Rattle.title.proofs.line_width_u16.Tie as tie
 
-abbrev invariant-loop : tie.invariant-loop
-invariant-loop glyphs ambiguous width₀ i₀ width i = AddingWidths ambiguous glyphs width i
+abbrev invariant_loop : tie.invariant_loop
+invariant_loop glyphs ambiguous width₀ i₀ width i = AddingWidths ambiguous glyphs width i
 
-abbrev decreases-loop : tie.decreases-loop
-decreases-loop glyphs ambiguous width₀ i₀ width i = length glyphs - i
+abbrev decreases_loop : tie.decreases_loop
+decreases_loop glyphs ambiguous width₀ i₀ width i = length glyphs - i
 
-loop-holds : tie.Need-loop-init invariant-loop decreases-loop
+loop-holds : tie.Need-loop-init invariant_loop decreases_loop
 loop-holds c = search adding
 
-mul-width : tie.Need-overflow-mul-width invariant-loop decreases-loop
+mul-width : tie.Need-overflow-mul-width invariant_loop decreases_loop
 mul-width c = search rules
 
-shared-slice-read-width : tie.Need-shared-slice-read-width invariant-loop decreases-loop
+shared-slice-read-width : tie.Need-shared-slice-read-width invariant_loop decreases_loop
 shared-slice-read-width c = search rules
 
-width-requires : tie.Need-width-requires invariant-loop decreases-loop
+width-requires : tie.Need-width-requires invariant_loop decreases_loop
 width-requires c κs = search rules
 
-cast-saturating-add : tie.Need-overflow-cast-saturating-add invariant-loop decreases-loop
+cast-saturating-add : tie.Need-overflow-cast-saturating-add invariant_loop decreases_loop
 cast-saturating-add c = search rules
 
-saturating-add-requires : tie.Need-saturating-add-requires invariant-loop decreases-loop
+saturating-add-requires : tie.Need-saturating-add-requires invariant_loop decreases_loop
 saturating-add-requires c κs = search rules
 
-add-i : tie.Need-overflow-add-i invariant-loop decreases-loop
+add-i : tie.Need-overflow-add-i invariant_loop decreases_loop
 add-i c = search rules
 
-loop-less : tie.Need-loop-smaller invariant-loop decreases-loop
+loop-less : tie.Need-loop-smaller invariant_loop decreases_loop
 loop-less c = search rules
 
-loop-again : tie.Need-loop-preserved invariant-loop decreases-loop
+loop-again : tie.Need-loop-preserved invariant_loop decreases_loop
 loop-again c = search adding
 
-returns : tie.Need-returns invariant-loop decreases-loop
+returns : tie.Need-returns invariant_loop decreases_loop
 returns c = search adding
 
-pub line-width-u16-spec : {M : Type 1} → statement M
-line-width-u16-spec =
+pub line_width_u16_spec : {M : Type 1} → statement M
+line_width_u16_spec =
     tie.close
     (tie.spec
-    invariant-loop
-    decreases-loop
+    invariant_loop
+    decreases_loop
     loop-holds
     mul-width
     shared-slice-read-width

@@ -19,7 +19,7 @@ same_length c = search rules
 returns : tie.Need-returns
 returns c = search title-drawn
 
-pub render-title-spec : {M : Type 1} → statement M
-render-title-spec =
+pub render_title_spec : {M : Type 1} → statement M
+render_title_spec =
     tie.close
     (tie.spec style-at-requires paint-area-requires render-title-line-requires same_length returns)

@@ -50,8 +50,8 @@ same_length c = search rules
 returns : tie.Need-returns
 returns c = search line-drawn
 
-pub render-title-line-spec : {M : Type 1} → statement M
-render-title-line-spec =
+pub render_title_line_spec : {M : Type 1} → statement M
+render_title_line_spec =
     tie.close
     (tie.spec
     cast-row

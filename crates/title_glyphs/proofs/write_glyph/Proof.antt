@@ -49,8 +49,8 @@ same_length c = search rules
 returns-3 : tie.Need-returns-3
 returns-3 c = search one-glyph
 
-pub write-glyph-spec : {M : Type 1} → statement M
-write-glyph-spec =
+pub write_glyph_spec : {M : Type 1} → statement M
+write_glyph_spec =
     tie.close
     (tie.spec
     returns

@@ -1,5 +1,5 @@
 -- `block::Block::horizontal_space` meets its contract.
-use Rattle.block.specs.Inner.{horizontalSpace}
+use Rattle.block.specs.Inner.{horizontal_space}
 use borrow.Author.Rules.{rules}
 use Rattle.block.proofs.Block.horizontal_space.Statement.{statement}
 use Rattle.block.proofs.Block.horizontal_space.Tie as tie
@@ -8,8 +8,8 @@ space-requires : tie.Need-space-requires
 space-requires c κs = search rules
 
 returns : tie.Need-returns
-unfolding horizontalSpace
+unfolding horizontal_space
 returns c = search rules
 
-pub horizontal-space-spec : {M : Type 1} → statement M
-horizontal-space-spec = tie.close (tie.spec space-requires returns)
+pub horizontal_space_spec : {M : Type 1} → statement M
+horizontal_space_spec = tie.close (tie.spec space-requires returns)

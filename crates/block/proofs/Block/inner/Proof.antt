@@ -45,8 +45,8 @@ returns c =
       present.before.present-at-top.ensures,
     )
 
-pub inner-spec : {M : Type 1} → statement M
-inner-spec =
+pub inner_spec : {M : Type 1} → statement M
+inner_spec =
     tie.close
     (tie.spec
     present-at-top-requires

@@ -13,5 +13,5 @@ has-title-at-position-requires c κs = search rules
 returns-2 : tie.Need-returns-2
 returns-2 c = search either
 
-pub present-at-top-spec : {M : Type 1} → statement M
-present-at-top-spec = tie.close (tie.spec returns has-title-at-position-requires returns-2)
+pub present_at_top_spec : {M : Type 1} → statement M
+present_at_top_spec = tie.close (tie.spec returns has-title-at-position-requires returns-2)

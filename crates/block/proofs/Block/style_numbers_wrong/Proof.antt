@@ -19,8 +19,8 @@ shadow-style-wrong-requires c κs = search rules
 returns-2 : tie.Need-returns-2
 returns-2 c = search block-styles
 
-pub style-numbers-wrong-spec : {M : Type 1} → statement M
-style-numbers-wrong-spec =
+pub style_numbers_wrong_spec : {M : Type 1} → statement M
+style_numbers_wrong_spec =
     tie.close
     (tie.spec
     slice-aggregate-style-numbers-wrong

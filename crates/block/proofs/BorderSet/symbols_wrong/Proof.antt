@@ -1,5 +1,5 @@
 -- `block::BorderSet::symbols_wrong` meets its contract.
-use Rattle.block.specs.Causes.{borderSymbols}
+use Rattle.block.specs.Causes.{border_symbols}
 use borrow.Author.Rules.{rules}
 use Rattle.block.proofs.BorderSet.symbols_wrong.Statement.{statement}
 use Rattle.block.proofs.BorderSet.symbols_wrong.Tie as tie
@@ -11,9 +11,9 @@ symbols-wrong-requires : tie.Need-symbols-wrong-requires
 symbols-wrong-requires c κs = search rules
 
 returns : tie.Need-returns
-unfolding borderSymbols
+unfolding border_symbols
 returns c = search rules
 
-pub symbols-wrong-spec : {M : Type 1} → statement M
-symbols-wrong-spec =
+pub symbols_wrong_spec : {M : Type 1} → statement M
+symbols_wrong_spec =
     tie.close (tie.spec slice-aggregate-symbols-wrong symbols-wrong-requires returns)

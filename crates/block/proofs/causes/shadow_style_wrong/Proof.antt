@@ -22,8 +22,8 @@ style-numbers-wrong-requires c κs = search rules
 returns-2 : tie.Need-returns-2
 returns-2 c = search shadows
 
-pub shadow-style-wrong-spec : {M : Type 1} → statement M
-shadow-style-wrong-spec =
+pub shadow_style_wrong_spec : {M : Type 1} → statement M
+shadow_style_wrong_spec =
     tie.close
     (tie.spec
     enum-known-shadow

@@ -31,8 +31,8 @@ symbols-wrong-requires c κs = search rules
 returns-3 : tie.Need-returns-3
 returns-3 c = search shadows
 
-pub shadow-symbol-wrong-spec : {M : Type 1} → statement M
-shadow-symbol-wrong-spec =
+pub shadow_symbol_wrong_spec : {M : Type 1} → statement M
+shadow_symbol_wrong_spec =
     tie.close
     (tie.spec
     enum-known-shadow

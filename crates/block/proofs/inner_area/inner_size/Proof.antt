@@ -34,8 +34,8 @@ returns c =
       bare.before.cells-taken.ensures,
     )
 
-pub inner-size-spec : {M : Type 1} → statement M
-inner-size-spec =
+pub inner_size_spec : {M : Type 1} → statement M
+inner_size_spec =
     tie.close
     (tie.spec
     cells-taken-requires

@@ -21,8 +21,8 @@ saturating-add-requires-3 c κs = search rules
 returns-2 : tie.Need-returns-2
 returns-2 c = rw (c.saturating-add3.ensures, c.before.if1.false)
 
-pub inner-start-spec : {M : Type 1} → statement M
-inner-start-spec =
+pub inner_start_spec : {M : Type 1} → statement M
+inner_start_spec =
     tie.close
     (tie.spec
     saturating-add-requires

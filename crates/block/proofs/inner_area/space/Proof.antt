@@ -18,8 +18,8 @@ saturating-add-requires-2 c κs = search rules
 returns : tie.Need-returns
 returns c = rw (c.saturating-add2.ensures, c.before.cells-taken2.ensures, c.before.before.saturating-add.ensures, c.before.before.before.cells-taken.ensures)
 
-pub space-spec : {M : Type 1} → statement M
-space-spec =
+pub space_spec : {M : Type 1} → statement M
+space_spec =
     tie.close
     (tie.spec
     cells-taken-requires

@@ -22,6 +22,6 @@ returns c = search rules
 returns-2 : tie.Need-returns-2
 returns-2 c = search bottom-not-top
 
-pub is-at-spec : {M : Type 1} → statement M
-is-at-spec =
+pub is_at_spec : {M : Type 1} → statement M
+is_at_spec =
     tie.close (tie.spec enum_told is-top-requires enum-told-2 is-top-requires-2 returns returns-2)

@@ -22,7 +22,7 @@ mul-result c = record { fits = search (rules, screens) }
 returns-3 : tie.Need-returns-3
 returns-3 c = search screens
 
-pub screen-wrong-spec : {M : Type 1} → statement M
-screen-wrong-spec =
+pub screen_wrong_spec : {M : Type 1} → statement M
+screen_wrong_spec =
     tie.close
     (tie.spec is-one-to-requires returns is-one-to-requires-2 returns-2 mul-result returns-3)

@@ -9,5 +9,5 @@ zeros-requires c κs = search rules
 returns : tie.Need-returns
 returns c = cc
 
-pub has-zeros-set-spec : {M : Type 1} → statement M
-has-zeros-set-spec = tie.close (tie.spec zeros-requires returns)
+pub has_zeros_set_spec : {M : Type 1} → statement M
+has_zeros_set_spec = tie.close (tie.spec zeros-requires returns)

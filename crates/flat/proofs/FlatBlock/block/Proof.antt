@@ -3,7 +3,7 @@ use mathlib.Core.Path.{◌≡◌}
 use mir.Facts.{to_z-of_z}
 use mir.Syntax.{w32}
 use mir.Val.{of_z, to_z}
-use Rattle.flat.specs.FlatExtra.{blockFrom}
+use Rattle.flat.specs.FlatExtra.{block_from}
 use Rattle.flat.proofs.Named.{block-from}
 use borrow.Author.Rules.{rules}
 use Rattle.flat.proofs.FlatBlock.block.Statement.{statement}
@@ -22,7 +22,7 @@ shadow-named-requires : tie.Need-shadow-named-requires
 shadow-named-requires c κs = search rules
 
 returns : tie.Need-returns
-unfolding blockFrom
+unfolding block_from
 returns c =
     let told = c.before.struct-told2.given in
     let block = c.before.before.before.before.before.before.args.self in

@@ -25,8 +25,8 @@ returns-2 c = search known
 returns-3 : tie.Need-returns-3
 returns-3 c = search known
 
-pub is-known-spec : {M : Type 1} → statement M
-is-known-spec =
+pub is_known_spec : {M : Type 1} → statement M
+is_known_spec =
     tie.close
     (tie.spec
     slice-aggregate-any-unnamed

@@ -19,6 +19,6 @@ ambiguous-known-requires c κs = search rules
 returns-2 : tie.Need-returns-2
 returns-2 c = search texts
 
-pub is-known-spec : {M : Type 1} → statement M
-is-known-spec =
+pub is_known_spec : {M : Type 1} → statement M
+is_known_spec =
     tie.close (tie.spec slice-aggregate-any-unnamed any-unnamed-requires returns ambiguous-known-requires returns-2)

@@ -10,5 +10,5 @@ returns c = search texts
 returns-2 : tie.Need-returns-2
 returns-2 c = search texts
 
-pub named-wrap-spec : {M : Type 1} → statement M
-named-wrap-spec = tie.close (tie.spec returns returns-2)
+pub named_wrap_spec : {M : Type 1} → statement M
+named_wrap_spec = tie.close (tie.spec returns returns-2)

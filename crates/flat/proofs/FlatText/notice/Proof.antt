@@ -20,6 +20,6 @@ returns : tie.Need-returns
 returns c = notice-from _ _ _ _ _ _ c.block.ensures c.before.before.before.alignment-named.ensures c.before.before.named-wrap.ensures
     c.before.ambiguous-named.ensures
 
-pub notice-spec : {M : Type 1} → statement M
-notice-spec =
+pub notice_spec : {M : Type 1} → statement M
+notice_spec =
     tie.close (tie.spec alignment-named-requires named-wrap-requires ambiguous-named-requires block-requires returns)

@@ -7,5 +7,5 @@ use Rattle.flat.proofs.FlatText.text_settings.Tie as tie
 returns : tie.Need-returns
 returns c = settings-from _ _ _ _ c.before.before.alignment-named.ensures c.before.named-wrap.ensures c.ambiguous-named.ensures
 
-pub text-settings-spec : {M : Type 1} → statement M
-text-settings-spec = tie.close (tie.spec (λ c κs. search rules) (λ c κs. search rules) (λ c κs. search rules) returns)
+pub text_settings_spec : {M : Type 1} → statement M
+text_settings_spec = tie.close (tie.spec (λ c κs. search rules) (λ c κs. search rules) (λ c κs. search rules) returns)

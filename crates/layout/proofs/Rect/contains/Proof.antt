@@ -22,8 +22,8 @@ returns c = search containing
 returns-2 : tie.Need-returns-2
 returns-2 c = search containing
 
-pub contains-spec : {M : Type 1} → statement M
-contains-spec =
+pub contains_spec : {M : Type 1} → statement M
+contains_spec =
     tie.close
     (tie.spec
     right-requires

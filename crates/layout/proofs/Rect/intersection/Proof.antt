@@ -36,8 +36,8 @@ saturating-sub-requires-2 c κs = search rules
 returns : tie.Need-returns
 returns c = cc
 
-pub intersection-spec : {M : Type 1} → statement M
-intersection-spec =
+pub intersection_spec : {M : Type 1} → statement M
+intersection_spec =
     tie.close
     (tie.spec
     max-requires

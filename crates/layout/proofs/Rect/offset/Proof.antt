@@ -21,6 +21,6 @@ returns c =
     let start = c.before.before.before.before in
     cc (to_z-of_z start.ranges.x, to_z-of_z start.ranges.y)
 
-pub offset-spec : {M : Type 1} → statement M
-offset-spec =
+pub offset_spec : {M : Type 1} → statement M
+offset_spec =
     tie.close (tie.spec sub-move-by move-by-requires sub-move-by-2 move-by-requires-2 returns)

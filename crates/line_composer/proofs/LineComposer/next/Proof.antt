@@ -7,60 +7,60 @@ use borrow.Author.Rules.{rules}
 use Rattle.line_composer.proofs.LineComposer.next.Statement.{statement}
 use Rattle.line_composer.proofs.LineComposer.next.Tie as tie
 
-abbrev invariant-loop : tie.invariant-loop
-invariant-loop rule default text composer₀ composer = Composing rule default text composer₀ composer
+abbrev invariant_loop : tie.invariant_loop
+invariant_loop rule default text composer₀ composer = Composing rule default text composer₀ composer
 
-abbrev decreases-loop : tie.decreases-loop
-decreases-loop rule default text composer₀ composer = length text - composer.to
+abbrev decreases_loop : tie.decreases_loop
+decreases_loop rule default text composer₀ composer = length text - composer.to
 
-loop-holds : tie.Need-loop-init invariant-loop decreases-loop
+loop-holds : tie.Need-loop-init invariant_loop decreases_loop
 loop-holds c = search composing
 
-mul-next-line : tie.Need-overflow-mul-next-line invariant-loop decreases-loop
+mul-next-line : tie.Need-overflow-mul-next-line invariant_loop decreases_loop
 mul-next-line c = omega arith
 
-sub-next-line : tie.Need-overflow-sub-next-line invariant-loop decreases-loop
+sub-next-line : tie.Need-overflow-sub-next-line invariant_loop decreases_loop
 sub-next-line c = omega arith
 
-part-next-line-start : tie.Need-slice-bounds-next-line-start invariant-loop decreases-loop
+part-next-line-start : tie.Need-slice-bounds-next-line-start invariant_loop decreases_loop
 part-next-line-start c = omega arith
 
-part-next-line-end : tie.Need-slice-bounds-next-line-end invariant-loop decreases-loop
+part-next-line-end : tie.Need-slice-bounds-next-line-end invariant_loop decreases_loop
 part-next-line-end c = omega arith
 
-next-line-requires : tie.Need-next-line-requires invariant-loop decreases-loop
+next-line-requires : tie.Need-next-line-requires invariant_loop decreases_loop
 next-line-requires c κs = (search rules, search part-short)
 
-enum-known-run : tie.Need-enum-known-run invariant-loop decreases-loop
+enum-known-run : tie.Need-enum-known-run invariant_loop decreases_loop
 enum-known-run c = search rules
 
-enum_told : tie.Need-enum-told invariant-loop decreases-loop
+enum_told : tie.Need-enum-told invariant_loop decreases_loop
 enum_told c = search rules
 
-returns : tie.Need-returns invariant-loop decreases-loop
+returns : tie.Need-returns invariant_loop decreases_loop
 returns c = search composing
 
-open-requires : tie.Need-open-requires invariant-loop decreases-loop
+open-requires : tie.Need-open-requires invariant_loop decreases_loop
 open-requires c κs = search rules
 
-loop-less : tie.Need-loop-smaller invariant-loop decreases-loop
+loop-less : tie.Need-loop-smaller invariant_loop decreases_loop
 loop-less c = search composing
 
-loop-again : tie.Need-loop-preserved invariant-loop decreases-loop
+loop-again : tie.Need-loop-preserved invariant_loop decreases_loop
 loop-again c = search composing
 
-wrapped-line-requires : tie.Need-wrapped-line-requires invariant-loop decreases-loop
+wrapped-line-requires : tie.Need-wrapped-line-requires invariant_loop decreases_loop
 wrapped-line-requires c κs = (search first_fits, search end_fits)
 
-returns-2 : tie.Need-returns-2 invariant-loop decreases-loop
+returns-2 : tie.Need-returns-2 invariant_loop decreases_loop
 returns-2 c = search composing
 
-pub next-spec : {M : Type 1} → statement M
-next-spec =
+pub next_spec : {M : Type 1} → statement M
+next_spec =
     tie.close
     (tie.spec
-    invariant-loop
-    decreases-loop
+    invariant_loop
+    decreases_loop
     loop-holds
     mul-next-line
     sub-next-line

@@ -26,8 +26,8 @@ same-length-2 c = search rules
 returns-2 : tie.Need-returns-2
 returns-2 c = prefix_len_of_le _ _ (omega arith)
 
-pub read-all-spec : {M : Type 1} → statement M
-read-all-spec =
+pub read_all_spec : {M : Type 1} → statement M
+read_all_spec =
     tie.close
     (tie.spec
     read-full-requires

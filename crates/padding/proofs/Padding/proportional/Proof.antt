@@ -19,5 +19,5 @@ returns c =
     let e : held (v + v) ≡ held (2 * v) = omega arith in
     cc
 
-pub proportional-spec : {M : Type 1} → statement M
-proportional-spec = tie.close (tie.spec saturating-add-requires new-requires returns)
+pub proportional_spec : {M : Type 1} → statement M
+proportional_spec = tie.close (tie.spec saturating-add-requires new-requires returns)

@@ -19,5 +19,5 @@ returns-2 c = search full-all
 returns-3 : tie.Need-returns-3
 returns-3 c = search full-not
 
-pub is-full-spec : {M : Type 1} → statement M
-is-full-spec = tie.close (tie.spec add-result add-result-2 returns returns-2 returns-3)
+pub is_full_spec : {M : Type 1} → statement M
+is_full_spec = tie.close (tie.spec add-result add-result-2 returns returns-2 returns-3)

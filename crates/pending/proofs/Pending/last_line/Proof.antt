@@ -22,8 +22,8 @@ returns-3 c = search last-spaces
 returns-4 : tie.Need-returns-4
 returns-4 c = search last_row
 
-pub last-line-spec : {M : Type 1} → statement M
-last-line-spec =
+pub last_line_spec : {M : Type 1} → statement M
+last_line_spec =
     tie.close
     (tie.spec
     gather-requires

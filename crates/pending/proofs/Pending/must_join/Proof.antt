@@ -19,6 +19,6 @@ returns-2 c = search joins-over
 returns-3 : tie.Need-returns-3
 returns-3 c = search joins-not
 
-pub must-join-spec : {M : Type 1} → statement M
-must-join-spec =
+pub must_join_spec : {M : Type 1} → statement M
+must_join_spec =
     tie.close (tie.spec ends-word-requires returns overflows-requires returns-2 returns-3)

@@ -25,6 +25,6 @@ add-result-3 c = search rules
 returns-3 : tie.Need-returns-3
 returns-3 c = search over-both
 
-pub overflows-spec : {M : Type 1} → statement M
-overflows-spec =
+pub overflows_spec : {M : Type 1} → statement M
+overflows_spec =
     tie.close (tie.spec add-if2 add-result returns returns-2 add-result-2 add-result-3 returns-3)

@@ -19,5 +19,5 @@ returns-3 c = search places
 returns-4 : tie.Need-returns-4
 returns-4 c = search places
 
-pub of-glyph-spec : {M : Type 1} → statement M
-of-glyph-spec = tie.close (tie.spec returns add-if2 returns-2 returns-3 returns-4)
+pub of_glyph_spec : {M : Type 1} → statement M
+of_glyph_spec = tie.close (tie.spec returns add-if2 returns-2 returns-3 returns-4)

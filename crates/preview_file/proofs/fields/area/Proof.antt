@@ -19,6 +19,6 @@ half-requires-4 c κs = search rules
 returns : tie.Need-returns
 returns c = search (fields, rules)
 
-pub area-spec : {M : Type 1} → statement M
-area-spec =
+pub area_spec : {M : Type 1} → statement M
+area_spec =
     tie.close (tie.spec half-requires half-requires-2 half-requires-3 half-requires-4 returns)

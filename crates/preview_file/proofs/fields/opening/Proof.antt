@@ -31,8 +31,8 @@ count-requires-3 c κs = search rules
 returns : tie.Need-returns
 returns c = search (fields, rules)
 
-pub opening-spec : {M : Type 1} → statement M
-opening-spec =
+pub opening_spec : {M : Type 1} → statement M
+opening_spec =
     tie.close
     (tie.spec
     area-requires

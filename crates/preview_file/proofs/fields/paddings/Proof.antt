@@ -19,6 +19,6 @@ half-requires-4 c κs = search rules
 returns : tie.Need-returns
 returns c = search (fields, rules)
 
-pub paddings-spec : {M : Type 1} → statement M
-paddings-spec =
+pub paddings_spec : {M : Type 1} → statement M
+paddings_spec =
     tie.close (tie.spec half-requires half-requires-2 half-requires-3 half-requires-4 returns)

@@ -34,8 +34,8 @@ number-4-requires-9 c κs = search rules
 returns : tie.Need-returns
 returns c = search (fields, rules)
 
-pub symbols-spec : {M : Type 1} → statement M
-symbols-spec =
+pub symbols_spec : {M : Type 1} → statement M
+symbols_spec =
     tie.close
     (tie.spec
     number-4-requires

@@ -25,8 +25,8 @@ shared-slice-read-t11 c = search rules
 returns : tie.Need-returns
 returns c = search (fields, rules)
 
-pub text-spec : {M : Type 1} → statement M
-text-spec =
+pub text_spec : {M : Type 1} → statement M
+text_spec =
     tie.close
     (tie.spec
     half-requires

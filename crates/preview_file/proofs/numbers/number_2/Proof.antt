@@ -28,8 +28,8 @@ add-result c = search rules
 returns : tie.Need-returns
 returns c = search (numbers, rules)
 
-pub number-2-spec : {M : Type 1} → statement M
-number-2-spec =
+pub number_2_spec : {M : Type 1} → statement M
+number_2_spec =
     tie.close
     (tie.spec
     shared-slice-read-byte-to-u32

@@ -22,7 +22,7 @@ add-result c = search rules
 returns : tie.Need-returns
 returns c = search (numbers, rules)
 
-pub number-4-spec : {M : Type 1} → statement M
-number-4-spec =
+pub number_4_spec : {M : Type 1} → statement M
+number_4_spec =
     tie.close
     (tie.spec number-2-requires mul-result add-number-2 number-2-requires-2 add-result returns)

@@ -28,8 +28,8 @@ add-result c = search rules
 returns : tie.Need-returns
 returns c = search (numbers, rules)
 
-pub number-8-spec : {M : Type 1} → statement M
-number-8-spec =
+pub number_8_spec : {M : Type 1} → statement M
+number_8_spec =
     tie.close
     (tie.spec
     number-4-requires

@@ -22,6 +22,6 @@ sub-result-2 c = search signs
 returns-2 : tie.Need-returns-2
 returns-2 c = search signs
 
-pub signed-spec : {M : Type 1} → statement M
-signed-spec =
+pub signed_spec : {M : Type 1} → statement M
+signed_spec =
     tie.close (tie.spec cast-result returns sub-result cast-result-2 sub-result-2 returns-2)

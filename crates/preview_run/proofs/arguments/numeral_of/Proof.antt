@@ -5,57 +5,57 @@ use borrow.Author.Rules.{rules}
 use Rattle.preview_run.proofs.arguments.numeral_of.Statement.{statement}
 use Rattle.preview_run.proofs.arguments.numeral_of.Tie as tie
 
-abbrev invariant-loop : tie.invariant-loop
-invariant-loop digits value₀ i₀ value i = value < 1000000000
+abbrev invariant_loop : tie.invariant_loop
+invariant_loop digits value₀ i₀ value i = value < 1000000000
 
-abbrev decreases-loop : tie.decreases-loop
-decreases-loop digits value₀ i₀ value i = length digits - i
+abbrev decreases_loop : tie.decreases_loop
+decreases_loop digits value₀ i₀ value i = length digits - i
 
-returns : tie.Need-returns invariant-loop decreases-loop
+returns : tie.Need-returns invariant_loop decreases_loop
 returns c = search rules
 
-loop-holds : tie.Need-loop-init invariant-loop decreases-loop
+loop-holds : tie.Need-loop-init invariant_loop decreases_loop
 loop-holds c = search rules
 
-shared-slice-read-digit : tie.Need-shared-slice-read-digit invariant-loop decreases-loop
+shared-slice-read-digit : tie.Need-shared-slice-read-digit invariant_loop decreases_loop
 shared-slice-read-digit c = search rules
 
-returns-2 : tie.Need-returns-2 invariant-loop decreases-loop
+returns-2 : tie.Need-returns-2 invariant_loop decreases_loop
 returns-2 c = search rules
 
-returns-3 : tie.Need-returns-3 invariant-loop decreases-loop
+returns-3 : tie.Need-returns-3 invariant_loop decreases_loop
 returns-3 c = search rules
 
-returns-4 : tie.Need-returns-4 invariant-loop decreases-loop
+returns-4 : tie.Need-returns-4 invariant_loop decreases_loop
 returns-4 c = search rules
 
-mul-value : tie.Need-overflow-mul-value invariant-loop decreases-loop
+mul-value : tie.Need-overflow-mul-value invariant_loop decreases_loop
 mul-value c = search rules
 
-digit-value-requires : tie.Need-digit-value-requires invariant-loop decreases-loop
+digit-value-requires : tie.Need-digit-value-requires invariant_loop decreases_loop
 digit-value-requires c κs = search rules
 
-add-value : tie.Need-overflow-add-value invariant-loop decreases-loop
+add-value : tie.Need-overflow-add-value invariant_loop decreases_loop
 add-value c = search rules
 
-add-i : tie.Need-overflow-add-i invariant-loop decreases-loop
+add-i : tie.Need-overflow-add-i invariant_loop decreases_loop
 add-i c = search rules
 
-loop-less : tie.Need-loop-smaller invariant-loop decreases-loop
+loop-less : tie.Need-loop-smaller invariant_loop decreases_loop
 loop-less c = search rules
 
-loop-again : tie.Need-loop-preserved invariant-loop decreases-loop
+loop-again : tie.Need-loop-preserved invariant_loop decreases_loop
 loop-again c = search rules
 
-returns-5 : tie.Need-returns-5 invariant-loop decreases-loop
+returns-5 : tie.Need-returns-5 invariant_loop decreases_loop
 returns-5 c = search rules
 
-pub numeral-of-spec : {M : Type 1} → statement M
-numeral-of-spec =
+pub numeral_of_spec : {M : Type 1} → statement M
+numeral_of_spec =
     tie.close
     (tie.spec
-    invariant-loop
-    decreases-loop
+    invariant_loop
+    decreases_loop
     returns
     loop-holds
     shared-slice-read-digit

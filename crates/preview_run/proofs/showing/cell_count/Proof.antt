@@ -16,5 +16,5 @@ mul-result c = record { fits = search (counting, rules) }
 returns-3 : tie.Need-returns-3
 returns-3 c = search rules
 
-pub cell-count-spec : {M : Type 1} → statement M
-cell-count-spec = tie.close (tie.spec returns returns-2 mul-result returns-3)
+pub cell_count_spec : {M : Type 1} → statement M
+cell_count_spec = tie.close (tie.spec returns returns-2 mul-result returns-3)

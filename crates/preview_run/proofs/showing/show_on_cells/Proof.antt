@@ -37,8 +37,8 @@ same-length-2 c = search rules
 returns : tie.Need-returns
 returns c = search rules
 
-pub show-on-cells-spec : {M : Type 1} → statement M
-show-on-cells-spec =
+pub show_on_cells_spec : {M : Type 1} → statement M
+show_on_cells_spec =
     tie.close
     (tie.spec
     cell-count-requires

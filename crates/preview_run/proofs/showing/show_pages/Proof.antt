@@ -6,46 +6,46 @@ use borrow.Author.Rules.{rules}
 use Rattle.preview_run.proofs.showing.show_pages.Statement.{statement}
 use Rattle.preview_run.proofs.showing.show_pages.Tie as tie
 
-abbrev invariant-loop : tie.invariant-loop
-invariant-loop sheet pages height asked styles titles text wide-titles wide-text cells₀ wide-cells₀ first₀ number₀ cells wide-cells first number =
+abbrev invariant_loop : tie.invariant_loop
+invariant_loop sheet pages height asked styles titles text wide-titles wide-text cells₀ wide-cells₀ first₀ number₀ cells wide-cells first number =
     (length cells ≡ length cells₀) × (length wide-cells ≡ length wide-cells₀)
 
-abbrev decreases-loop : tie.decreases-loop
-decreases-loop sheet pages height asked styles titles text wide-titles wide-text cells₀ wide-cells₀ first₀ number₀ cells wide-cells first number = pages - number
+abbrev decreases_loop : tie.decreases_loop
+decreases_loop sheet pages height asked styles titles text wide-titles wide-text cells₀ wide-cells₀ first₀ number₀ cells wide-cells first number = pages - number
 
-loop-holds : tie.Need-loop-init invariant-loop decreases-loop
+loop-holds : tie.Need-loop-init invariant_loop decreases_loop
 loop-holds c = search rules
 
-show-page-requires : tie.Need-show-page-requires invariant-loop decreases-loop
+show-page-requires : tie.Need-show-page-requires invariant_loop decreases_loop
 show-page-requires c κs = search rules
 
-next-first-requires : tie.Need-next-first-requires invariant-loop decreases-loop
+next-first-requires : tie.Need-next-first-requires invariant_loop decreases_loop
 next-first-requires c κs = search rules
 
-add-number : tie.Need-overflow-add-number invariant-loop decreases-loop
+add-number : tie.Need-overflow-add-number invariant_loop decreases_loop
 add-number c = search rules
 
-loop-less : tie.Need-loop-smaller invariant-loop decreases-loop
+loop-less : tie.Need-loop-smaller invariant_loop decreases_loop
 loop-less c = search rules
 
-loop-again : tie.Need-loop-preserved invariant-loop decreases-loop
+loop-again : tie.Need-loop-preserved invariant_loop decreases_loop
 loop-again c = search rules
 
-same_length : tie.Need-same-length invariant-loop decreases-loop
+same_length : tie.Need-same-length invariant_loop decreases_loop
 same_length c = search rules
 
-same-length-2 : tie.Need-same-length-2 invariant-loop decreases-loop
+same-length-2 : tie.Need-same-length-2 invariant_loop decreases_loop
 same-length-2 c = search rules
 
-returns : tie.Need-returns invariant-loop decreases-loop
+returns : tie.Need-returns invariant_loop decreases_loop
 returns c = search rules
 
-pub show-pages-spec : {M : Type 1} → statement M
-show-pages-spec =
+pub show_pages_spec : {M : Type 1} → statement M
+show_pages_spec =
     tie.close
     (tie.spec
-    invariant-loop
-    decreases-loop
+    invariant_loop
+    decreases_loop
     loop-holds
     show-page-requires
     next-first-requires

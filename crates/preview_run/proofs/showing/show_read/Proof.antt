@@ -28,8 +28,8 @@ show-opening-requires c κs = search rules
 returns : tie.Need-returns
 returns c = search rules
 
-pub show-read-spec : {M : Type 1} → statement M
-show-read-spec =
+pub show_read_spec : {M : Type 1} → statement M
+show_read_spec =
     tie.close
     (tie.spec
     least-requires

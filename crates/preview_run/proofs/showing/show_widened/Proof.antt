@@ -43,8 +43,8 @@ same-length-2 c = search rules
 returns : tie.Need-returns
 returns c = search rules
 
-pub show-widened-spec : {M : Type 1} → statement M
-show-widened-spec =
+pub show_widened_spec : {M : Type 1} → statement M
+show_widened_spec =
     tie.close
     (tie.spec
     ambiguous-named-requires

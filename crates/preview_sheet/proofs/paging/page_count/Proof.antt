@@ -25,7 +25,7 @@ returns-2 c = search (paging, rules)
 returns-3 : tie.Need-returns-3
 returns-3 c = search (paging, rules)
 
-pub page-count-spec : {M : Type 1} → statement M
-page-count-spec =
+pub page_count_spec : {M : Type 1} → statement M
+page_count_spec =
     tie.close
     (tie.spec returns saturating-sub-usize-requires sub-pages add-pages div-pages returns-2 returns-3)

@@ -10,6 +10,6 @@ returns c = search widened-head
 returns-2 : tie.Need-returns-2
 returns-2 c = search widened-glyph
 
-pub widened-record-spec : {M : Type 1} → statement M
-widened-record-spec =
+pub widened_record_spec : {M : Type 1} → statement M
+widened_record_spec =
     tie.close (tie.spec (search rules) returns (search rules) (search rules) (search rules) (search rules) returns-2)

@@ -7,5 +7,5 @@ use Rattle.preview_sheet.proofs.widths.with_width.Tie as tie
 returns : tie.Need-returns
 returns c = search marked-width
 
-pub with-width-spec : {M : Type 1} → statement M
-with-width-spec = tie.close (tie.spec (search rules) (search rules) returns)
+pub with_width_spec : {M : Type 1} → statement M
+with_width_spec = tie.close (tie.spec (search rules) (search rules) returns)

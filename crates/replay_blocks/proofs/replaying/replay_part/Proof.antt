@@ -6,52 +6,52 @@ use mathlib.Core.Path.{◌≡◌}
 use Rattle.replay_blocks.proofs.replaying.replay_part.Statement.{statement}
 use Rattle.replay_blocks.proofs.replaying.replay_part.Tie as tie
 
-abbrev invariant-loop : tie.invariant-loop
-invariant-loop part fd cells₀ count number₀ differ₀ cells number differ =
+abbrev invariant_loop : tie.invariant_loop
+invariant_loop part fd cells₀ count number₀ differ₀ cells number differ =
     (number ≤ count) × (differ ≤ number) × (length cells ≡ length cells₀)
 
-abbrev decreases-loop : tie.decreases-loop
-decreases-loop part fd cells₀ count number₀ differ₀ cells number differ = count - number
+abbrev decreases_loop : tie.decreases_loop
+decreases_loop part fd cells₀ count number₀ differ₀ cells number differ = count - number
 
-count-requires : tie.Need-count-requires invariant-loop decreases-loop
+count-requires : tie.Need-count-requires invariant_loop decreases_loop
 count-requires c κs = search rules
 
-loop-holds : tie.Need-loop-init invariant-loop decreases-loop
+loop-holds : tie.Need-loop-init invariant_loop decreases_loop
 loop-holds c = search rules
 
-next-sum-requires : tie.Need-next-sum-requires invariant-loop decreases-loop
+next-sum-requires : tie.Need-next-sum-requires invariant_loop decreases_loop
 next-sum-requires c κs = search rules
 
-differs-requires : tie.Need-differs-requires invariant-loop decreases-loop
+differs-requires : tie.Need-differs-requires invariant_loop decreases_loop
 differs-requires c κs = search rules
 
-add-differ : tie.Need-overflow-add-differ invariant-loop decreases-loop
+add-differ : tie.Need-overflow-add-differ invariant_loop decreases_loop
 add-differ c = search rules
 
-add-number : tie.Need-overflow-add-number invariant-loop decreases-loop
+add-number : tie.Need-overflow-add-number invariant_loop decreases_loop
 add-number c = search rules
 
-loop-less : tie.Need-loop-smaller invariant-loop decreases-loop
+loop-less : tie.Need-loop-smaller invariant_loop decreases_loop
 loop-less c = search rules
 
-loop-again : tie.Need-loop-preserved invariant-loop decreases-loop
+loop-again : tie.Need-loop-preserved invariant_loop decreases_loop
 loop-again c = search rules
 
-print-counts-requires : tie.Need-print-counts-requires invariant-loop decreases-loop
+print-counts-requires : tie.Need-print-counts-requires invariant_loop decreases_loop
 print-counts-requires c κs = search rules
 
-same_length : tie.Need-same-length invariant-loop decreases-loop
+same_length : tie.Need-same-length invariant_loop decreases_loop
 same_length c = search rules
 
-returns : tie.Need-returns invariant-loop decreases-loop
+returns : tie.Need-returns invariant_loop decreases_loop
 returns c = search rules
 
-pub replay-part-spec : {M : Type 1} → statement M
-replay-part-spec =
+pub replay_part_spec : {M : Type 1} → statement M
+replay_part_spec =
     tie.close
     (tie.spec
-    invariant-loop
-    decreases-loop
+    invariant_loop
+    decreases_loop
     count-requires
     loop-holds
     next-sum-requires

@@ -6,80 +6,80 @@ use mathlib.Core.Path.{◌≡◌}
 use Rattle.replay_notices.proofs.replaying.replay_part.Statement.{statement}
 use Rattle.replay_notices.proofs.replaying.replay_part.Tie as tie
 
-abbrev invariant-loop : tie.invariant-loop
-invariant-loop asked part fd cells₀ count number₀ differ₀ placing₀ clipping₀ rowless₀ cells number differ placing clipping rowless =
+abbrev invariant_loop : tie.invariant_loop
+invariant_loop asked part fd cells₀ count number₀ differ₀ placing₀ clipping₀ rowless₀ cells number differ placing clipping rowless =
     (number ≤ count) × (differ ≤ number) × (placing ≤ number) × (clipping ≤ number) × (rowless ≤ number) × (length cells ≡ length cells₀)
 
-abbrev decreases-loop : tie.decreases-loop
-decreases-loop asked part fd cells₀ count number₀ differ₀ placing₀ clipping₀ rowless₀ cells number differ placing clipping rowless =
+abbrev decreases_loop : tie.decreases_loop
+decreases_loop asked part fd cells₀ count number₀ differ₀ placing₀ clipping₀ rowless₀ cells number differ placing clipping rowless =
     count - number
 
-count-requires : tie.Need-count-requires invariant-loop decreases-loop
+count-requires : tie.Need-count-requires invariant_loop decreases_loop
 count-requires c κs = search rules
 
-loop-holds : tie.Need-loop-init invariant-loop decreases-loop
+loop-holds : tie.Need-loop-init invariant_loop decreases_loop
 loop-holds c = search rules
 
-next-sum-requires : tie.Need-next-sum-requires invariant-loop decreases-loop
+next-sum-requires : tie.Need-next-sum-requires invariant_loop decreases_loop
 next-sum-requires c κs = search rules
 
-case-requires : tie.Need-case-requires invariant-loop decreases-loop
+case-requires : tie.Need-case-requires invariant_loop decreases_loop
 case-requires c κs = search rules
 
-ask-requires : tie.Need-ask-requires invariant-loop decreases-loop
+ask-requires : tie.Need-ask-requires invariant_loop decreases_loop
 ask-requires c κs = search rules
 
-differs-requires : tie.Need-differs-requires invariant-loop decreases-loop
+differs-requires : tie.Need-differs-requires invariant_loop decreases_loop
 differs-requires c κs = search rules
 
-add-differ : tie.Need-overflow-add-differ invariant-loop decreases-loop
+add-differ : tie.Need-overflow-add-differ invariant_loop decreases_loop
 add-differ c = search rules
 
-places-requires : tie.Need-places-requires invariant-loop decreases-loop
+places-requires : tie.Need-places-requires invariant_loop decreases_loop
 places-requires c κs = search rules
 
-add-placing : tie.Need-overflow-add-placing invariant-loop decreases-loop
+add-placing : tie.Need-overflow-add-placing invariant_loop decreases_loop
 add-placing c = search rules
 
-clips-requires : tie.Need-clips-requires invariant-loop decreases-loop
+clips-requires : tie.Need-clips-requires invariant_loop decreases_loop
 clips-requires c κs = search rules
 
-add-clipping : tie.Need-overflow-add-clipping invariant-loop decreases-loop
+add-clipping : tie.Need-overflow-add-clipping invariant_loop decreases_loop
 add-clipping c = search rules
 
-draws-no-row-requires : tie.Need-draws-no-row-requires invariant-loop decreases-loop
+draws-no-row-requires : tie.Need-draws-no-row-requires invariant_loop decreases_loop
 draws-no-row-requires c κs = search rules
 
-add-rowless : tie.Need-overflow-add-rowless invariant-loop decreases-loop
+add-rowless : tie.Need-overflow-add-rowless invariant_loop decreases_loop
 add-rowless c = search rules
 
-add-number : tie.Need-overflow-add-number invariant-loop decreases-loop
+add-number : tie.Need-overflow-add-number invariant_loop decreases_loop
 add-number c = search rules
 
-loop-less : tie.Need-loop-smaller invariant-loop decreases-loop
+loop-less : tie.Need-loop-smaller invariant_loop decreases_loop
 loop-less c = search rules
 
-loop-again : tie.Need-loop-preserved invariant-loop decreases-loop
+loop-again : tie.Need-loop-preserved invariant_loop decreases_loop
 loop-again c = search rules
 
-print-counts-requires : tie.Need-print-counts-requires invariant-loop decreases-loop
+print-counts-requires : tie.Need-print-counts-requires invariant_loop decreases_loop
 print-counts-requires c κs = search rules
 
-print-kinds-requires : tie.Need-print-kinds-requires invariant-loop decreases-loop
+print-kinds-requires : tie.Need-print-kinds-requires invariant_loop decreases_loop
 print-kinds-requires c κs = search rules
 
-same_length : tie.Need-same-length invariant-loop decreases-loop
+same_length : tie.Need-same-length invariant_loop decreases_loop
 same_length c = search rules
 
-returns : tie.Need-returns invariant-loop decreases-loop
+returns : tie.Need-returns invariant_loop decreases_loop
 returns c = search rules
 
-pub replay-part-spec : {M : Type 1} → statement M
-replay-part-spec =
+pub replay_part_spec : {M : Type 1} → statement M
+replay_part_spec =
     tie.close
     (tie.spec
-    invariant-loop
-    decreases-loop
+    invariant_loop
+    decreases_loop
     count-requires
     loop-holds
     next-sum-requires

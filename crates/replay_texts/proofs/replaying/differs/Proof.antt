@@ -38,8 +38,8 @@ same-length-4 c = search rules
 returns-2 : tie.Need-returns-2
 returns-2 c = search rules
 
-pub differs-spec : {M : Type 1} → statement M
-differs-spec =
+pub differs_spec : {M : Type 1} → statement M
+differs_spec =
     tie.close
     (tie.spec
     write-case-requires

@@ -1,5 +1,5 @@
 -- `tally::tallying::glyph_counts` meets its contract.
-use Rattle.tally.proofs.Unread.{heads-few, glyphs-fit, counted-unread}
+use Rattle.tally.proofs.Unread.{heads-few, glyphs_fit, counted_unread}
 use borrow.Author.Rules.{rules}
 use Rattle.tally.proofs.tallying.glyph_counts.Statement.{statement}
 use Rattle.tally.proofs.tallying.glyph_counts.Tie as tie
@@ -17,13 +17,13 @@ sub-count : tie.Need-overflow-sub-count
 sub-count c = search heads-few
 
 cast-glyphs : tie.Need-overflow-cast-glyphs
-cast-glyphs c = search glyphs-fit
+cast-glyphs c = search glyphs_fit
 
 returns-2 : tie.Need-returns-2
-returns-2 c = search counted-unread
+returns-2 c = search counted_unread
 
-pub glyph-counts-spec : {M : Type 1} → statement M
-glyph-counts-spec =
+pub glyph_counts_spec : {M : Type 1} → statement M
+glyph_counts_spec =
     tie.close
     (tie.spec
     read-glyph-counts-requires

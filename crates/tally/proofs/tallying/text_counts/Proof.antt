@@ -28,8 +28,8 @@ sub-t9 c = search rest
 returns-2 : tie.Need-returns-2
 returns-2 c = search rest
 
-pub text-counts-spec : {M : Type 1} → statement M
-text-counts-spec =
+pub text_counts_spec : {M : Type 1} → statement M
+text_counts_spec =
     tie.close
     (tie.spec
     returns

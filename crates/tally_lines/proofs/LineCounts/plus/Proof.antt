@@ -20,5 +20,5 @@ returns : tie.Need-returns
 unfolding sum
 returns c = search rules
 
-pub plus-spec : {M : Type 1} → statement M
-plus-spec = tie.close (tie.spec add-t3 add-t4 add-t5 add-t6 returns)
+pub plus_spec : {M : Type 1} → statement M
+plus_spec = tie.close (tie.spec add-t3 add-t4 add-t5 add-t6 returns)

@@ -43,8 +43,8 @@ returns-3 c = search with-ways
 returns-4 : tie.Need-returns-4
 returns-4 c = search with-ways
 
-pub with-glyph-spec : {M : Type 1} → statement M
-with-glyph-spec =
+pub with_glyph_spec : {M : Type 1} → statement M
+with_glyph_spec =
     tie.close
     (tie.spec
     of-glyph-requires

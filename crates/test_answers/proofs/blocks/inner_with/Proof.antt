@@ -26,8 +26,8 @@ same_length c = search rules
 returns : tie.Need-returns
 returns c = search rules
 
-pub inner-with-spec : {M : Type 1} → statement M
-inner-with-spec =
+pub inner_with_spec : {M : Type 1} → statement M
+inner_with_spec =
     tie.close
     (tie.spec
     count-requires

@@ -1,6 +1,6 @@
 -- `test_answers::blocks::sum_area` meets its contract.
 use borrow.Author.Rules.{rules}
-use Rattle.test_answers.specs.BlocksExtra.{areaSum}
+use Rattle.test_answers.specs.BlocksExtra.{area_sum}
 use Rattle.test_answers.proofs.blocks.sum_area.Statement.{statement}
 use Rattle.test_answers.proofs.blocks.sum_area.Tie as tie
 
@@ -29,11 +29,11 @@ with-number-requires-4 : tie.Need-with-number-requires-4
 with-number-requires-4 c κs = search rules
 
 returns : tie.Need-returns
-unfolding areaSum
+unfolding area_sum
 returns c = cc
 
-pub sum-area-spec : {M : Type 1} → statement M
-sum-area-spec =
+pub sum_area_spec : {M : Type 1} → statement M
+sum_area_spec =
     tie.close
     (tie.spec
     cast-with-number

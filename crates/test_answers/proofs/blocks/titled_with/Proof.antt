@@ -47,8 +47,8 @@ same-length-2 c = search rules
 returns : tie.Need-returns
 returns c = search rules
 
-pub titled-with-spec : {M : Type 1} → statement M
-titled-with-spec =
+pub titled_with_spec : {M : Type 1} → statement M
+titled_with_spec =
     tie.close
     (tie.spec
     next-requires

@@ -1,6 +1,6 @@
 -- `test_answers::blocks::with_space` meets its contract.
 use borrow.Author.Rules.{rules}
-use Rattle.test_answers.specs.BlocksExtra.{withSpace}
+use Rattle.test_answers.specs.BlocksExtra.{with_space}
 use Rattle.test_answers.proofs.blocks.with_space.Statement.{statement}
 use Rattle.test_answers.proofs.blocks.with_space.Tie as tie
 
@@ -17,11 +17,11 @@ with-number-requires-2 : tie.Need-with-number-requires-2
 with-number-requires-2 c κs = search rules
 
 returns : tie.Need-returns
-unfolding withSpace
+unfolding with_space
 returns c = cc
 
-pub with-space-spec : {M : Type 1} → statement M
-with-space-spec =
+pub with_space_spec : {M : Type 1} → statement M
+with_space_spec =
     tie.close
     (tie.spec
     cast-with-number

@@ -29,8 +29,8 @@ same_length c = search rules
 returns : tie.Need-returns
 returns c = search rules
 
-pub measures-with-spec : {M : Type 1} → statement M
-measures-with-spec =
+pub measures_with_spec : {M : Type 1} → statement M
+measures_with_spec =
     tie.close
     (tie.spec
     case-requires

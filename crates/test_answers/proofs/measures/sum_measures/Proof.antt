@@ -15,6 +15,6 @@ with-number-requires-3 c κs = search rules
 returns : tie.Need-returns
 returns c = cc
 
-pub sum-measures-spec : {M : Type 1} → statement M
-sum-measures-spec =
+pub sum_measures_spec : {M : Type 1} → statement M
+sum_measures_spec =
     tie.close (tie.spec with-number-requires with-number-requires-2 with-number-requires-3 returns)

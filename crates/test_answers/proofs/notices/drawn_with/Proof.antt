@@ -44,8 +44,8 @@ same-length-2 c = search rules
 returns-2 : tie.Need-returns-2
 returns-2 c = search rules
 
-pub drawn-with-spec : {M : Type 1} → statement M
-drawn-with-spec =
+pub drawn_with_spec : {M : Type 1} → statement M
+drawn_with_spec =
     tie.close
     (tie.spec
     cells-of-requires

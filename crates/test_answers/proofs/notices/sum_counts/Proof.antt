@@ -1,6 +1,6 @@
 -- `test_answers::notices::sum_counts` meets its contract.
 use borrow.Author.Rules.{rules}
-use Rattle.test_answers.specs.NoticesExtra.{countsSum}
+use Rattle.test_answers.specs.NoticesExtra.{counts_sum}
 use Rattle.test_answers.proofs.notices.sum_counts.Statement.{statement}
 use Rattle.test_answers.proofs.notices.sum_counts.Tie as tie
 
@@ -14,10 +14,10 @@ with-number-requires-3 : tie.Need-with-number-requires-3
 with-number-requires-3 c κs = search rules
 
 returns : tie.Need-returns
-unfolding countsSum
+unfolding counts_sum
 returns c = cc
 
-pub sum-counts-spec : {M : Type 1} → statement M
-sum-counts-spec =
+pub sum_counts_spec : {M : Type 1} → statement M
+sum_counts_spec =
     tie.close
     (tie.spec with-number-requires with-number-requires-2 with-number-requires-3 returns)

@@ -44,8 +44,8 @@ same-length-2 c = search rules
 returns : tie.Need-returns
 returns c = search rules
 
-pub worded-with-spec : {M : Type 1} → statement M
-worded-with-spec =
+pub worded_with_spec : {M : Type 1} → statement M
+worded_with_spec =
     tie.close
     (tie.spec
     next-requires

@@ -1,6 +1,6 @@
 -- `test_answers::texts::sum_counts` meets its contract.
 use borrow.Author.Rules.{rules}
-use Rattle.test_answers.specs.TextsExtra.{countsSum}
+use Rattle.test_answers.specs.TextsExtra.{counts_sum}
 use Rattle.test_answers.proofs.texts.sum_counts.Statement.{statement}
 use Rattle.test_answers.proofs.texts.sum_counts.Tie as tie
 
@@ -23,11 +23,11 @@ with-number-requires-6 : tie.Need-with-number-requires-6
 with-number-requires-6 c κs = search rules
 
 returns : tie.Need-returns
-unfolding countsSum
+unfolding counts_sum
 returns c = cc
 
-pub sum-counts-spec : {M : Type 1} → statement M
-sum-counts-spec =
+pub sum_counts_spec : {M : Type 1} → statement M
+sum_counts_spec =
     tie.close
     (tie.spec
     with-number-requires

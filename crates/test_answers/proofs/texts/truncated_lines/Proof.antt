@@ -9,8 +9,8 @@ sum-truncated-requires c κs =
     let sound = lines-sound _ _ _ c.before.before.before.line-verdict.ensures (search rules) in
     (sound.few, sound.opens)
 
-pub truncated-lines-spec : {M : Type 1} → statement M
-truncated-lines-spec =
+pub truncated_lines_spec : {M : Type 1} → statement M
+truncated_lines_spec =
     tie.close
     (tie.spec
     (λ c κs. search rules)

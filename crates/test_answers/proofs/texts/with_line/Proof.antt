@@ -1,6 +1,6 @@
 -- `test_answers::texts::with_line` meets its contract.
 use borrow.Author.Rules.{rules}
-use Rattle.test_answers.proofs.LineSum.{fields-give-line-sum}
+use Rattle.test_answers.proofs.LineSum.{fields_give_line-sum}
 use Rattle.test_answers.proofs.texts.with_line.Statement.{statement}
 use Rattle.test_answers.proofs.texts.with_line.Tie as tie
 
@@ -29,10 +29,10 @@ with-number-requires-4 : tie.Need-with-number-requires-4
 with-number-requires-4 c κs = search rules
 
 returns : tie.Need-returns
-returns c = search fields-give-line-sum
+returns c = search fields_give_line-sum
 
-pub with-line-spec : {M : Type 1} → statement M
-with-line-spec =
+pub with_line_spec : {M : Type 1} → statement M
+with_line_spec =
     tie.close
     (tie.spec
     cast-with-number

@@ -41,8 +41,8 @@ same-length-3 c = search rules
 returns-3 : tie.Need-returns-3
 returns-3 c = search rules
 
-pub wrapped-lines-spec : {M : Type 1} → statement M
-wrapped-lines-spec =
+pub wrapped_lines_spec : {M : Type 1} → statement M
+wrapped_lines_spec =
     tie.close
     (tie.spec
     list-lines-requires

@@ -1,11 +1,11 @@
 -- `test_texts::numbers::step` meets its contract.
 use borrow.Author.Rules.{rules}
-use Rattle.test_texts.proofs.Steps.{product-fits, step_fits}
+use Rattle.test_texts.proofs.Steps.{product_fits, step_fits}
 use Rattle.test_texts.proofs.numbers.step.Statement.{statement}
 use Rattle.test_texts.proofs.numbers.step.Tie as tie
 
 mul_wide : tie.Need-overflow-mul-wide
-mul_wide c = search (rules, product-fits)
+mul_wide c = search (rules, product_fits)
 
 add_wide : tie.Need-overflow-add-wide
 add_wide c = search (rules, step_fits)

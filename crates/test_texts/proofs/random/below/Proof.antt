@@ -10,5 +10,5 @@ rem-result c = search rules
 returns : tie.Need-returns
 returns c = search (rules, mod-lt)
 
-pub below-spec : {M : Type 1} → statement M
-below-spec = tie.close (tie.spec rem-result returns)
+pub below_spec : {M : Type 1} → statement M
+below_spec = tie.close (tie.spec rem-result returns)

@@ -12,63 +12,63 @@ use Rattle.test_texts.proofs.short.write_glyphs.Tie as tie
 digit : (n kinds : ℕ) → 0 < kinds → kinds ≤ 8 → n % kinds < 8
 digit n kinds p h = omega (arith, mod-lt n p)
 
-abbrev invariant-loop : tie.invariant-loop
-invariant-loop text₀ number kinds rest₀ n₀ text rest n = (n ≤ length text₀) × (length text ≡ length text₀)
+abbrev invariant_loop : tie.invariant_loop
+invariant_loop text₀ number kinds rest₀ n₀ text rest n = (n ≤ length text₀) × (length text ≡ length text₀)
 
-abbrev decreases-loop : tie.decreases-loop
-decreases-loop text₀ number kinds rest₀ n₀ text rest n = length text₀ - n
+abbrev decreases_loop : tie.decreases_loop
+decreases_loop text₀ number kinds rest₀ n₀ text rest n = length text₀ - n
 
-loop-holds : tie.Need-loop-init invariant-loop decreases-loop
+loop-holds : tie.Need-loop-init invariant_loop decreases_loop
 loop-holds c = search rules
 
-same_length : tie.Need-same-length invariant-loop decreases-loop
+same_length : tie.Need-same-length invariant_loop decreases_loop
 same_length c = search rules
 
-returns : tie.Need-returns invariant-loop decreases-loop
+returns : tie.Need-returns invariant_loop decreases_loop
 returns c = search rules
 
-sub-glyph : tie.Need-overflow-sub-glyph invariant-loop decreases-loop
+sub-glyph : tie.Need-overflow-sub-glyph invariant_loop decreases_loop
 sub-glyph c = search rules
 
-rem-glyph : tie.Need-nonzero-rem-glyph invariant-loop decreases-loop
+rem-glyph : tie.Need-nonzero-rem-glyph invariant_loop decreases_loop
 rem-glyph c = search rules
 
-glyph-requires : tie.Need-glyph-requires invariant-loop decreases-loop
+glyph-requires : tie.Need-glyph-requires invariant_loop decreases_loop
 glyph-requires c κs = search (rules, digit)
 
-mul-text : tie.Need-overflow-mul-text invariant-loop decreases-loop
+mul-text : tie.Need-overflow-mul-text invariant_loop decreases_loop
 mul-text c = search rules
 
-slice-write-text : tie.Need-slice-write-text invariant-loop decreases-loop
+slice-write-text : tie.Need-slice-write-text invariant_loop decreases_loop
 slice-write-text c = search rules
 
-sub-rest : tie.Need-overflow-sub-rest invariant-loop decreases-loop
+sub-rest : tie.Need-overflow-sub-rest invariant_loop decreases_loop
 sub-rest c = search rules
 
-div-rest : tie.Need-nonzero-div-rest invariant-loop decreases-loop
+div-rest : tie.Need-nonzero-div-rest invariant_loop decreases_loop
 div-rest c = search rules
 
-add-n : tie.Need-overflow-add-n invariant-loop decreases-loop
+add-n : tie.Need-overflow-add-n invariant_loop decreases_loop
 add-n c = search rules
 
-loop-less : tie.Need-loop-smaller invariant-loop decreases-loop
+loop-less : tie.Need-loop-smaller invariant_loop decreases_loop
 loop-less c = search rules
 
-loop-again : tie.Need-loop-preserved invariant-loop decreases-loop
+loop-again : tie.Need-loop-preserved invariant_loop decreases_loop
 loop-again c = (search rules, simp length-set (search rules))
 
-same-length-2 : tie.Need-same-length-2 invariant-loop decreases-loop
+same-length-2 : tie.Need-same-length-2 invariant_loop decreases_loop
 same-length-2 c = search rules
 
-returns-2 : tie.Need-returns-2 invariant-loop decreases-loop
+returns-2 : tie.Need-returns-2 invariant_loop decreases_loop
 returns-2 c = search rules
 
-pub write-glyphs-spec : {M : Type 1} → statement M
-write-glyphs-spec =
+pub write_glyphs_spec : {M : Type 1} → statement M
+write_glyphs_spec =
     tie.close
     (tie.spec
-    invariant-loop
-    decreases-loop
+    invariant_loop
+    decreases_loop
     loop-holds
     same_length
     returns

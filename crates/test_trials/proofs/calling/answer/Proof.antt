@@ -62,8 +62,8 @@ same-length-7 c = search rules
 returns-2 : tie.Need-returns-2
 returns-2 c = search rules
 
-pub answer-spec : {M : Type 1} → statement M
-answer-spec =
+pub answer_spec : {M : Type 1} → statement M
+answer_spec =
     tie.close
     (tie.spec
     read-requires

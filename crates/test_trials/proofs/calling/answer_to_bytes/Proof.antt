@@ -26,8 +26,8 @@ same-length-2 c = search rules
 returns : tie.Need-returns
 returns c = search rules
 
-pub answer-to-bytes-spec : {M : Type 1} → statement M
-answer-to-bytes-spec =
+pub answer_to_bytes_spec : {M : Type 1} → statement M
+answer_to_bytes_spec =
     tie.close
     (tie.spec
     at-most-requires

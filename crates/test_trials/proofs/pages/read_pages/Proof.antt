@@ -6,42 +6,42 @@ use borrow.Author.Rules.{rules}
 use Rattle.test_trials.proofs.pages.read_pages.Statement.{statement}
 use Rattle.test_trials.proofs.pages.read_pages.Tie as tie
 
-abbrev invariant-loop : tie.invariant-loop
-invariant-loop opening inside pages styles titles text cells₀ sums₀ first₀ number₀ cells sums first number = length cells ≡ length cells₀
+abbrev invariant_loop : tie.invariant_loop
+invariant_loop opening inside pages styles titles text cells₀ sums₀ first₀ number₀ cells sums first number = length cells ≡ length cells₀
 
-abbrev decreases-loop : tie.decreases-loop
-decreases-loop opening inside pages styles titles text cells₀ sums₀ first₀ number₀ cells sums first number = pages - number
+abbrev decreases_loop : tie.decreases_loop
+decreases_loop opening inside pages styles titles text cells₀ sums₀ first₀ number₀ cells sums first number = pages - number
 
-loop-holds : tie.Need-loop-init invariant-loop decreases-loop
+loop-holds : tie.Need-loop-init invariant_loop decreases_loop
 loop-holds c = search rules
 
-read-page-requires : tie.Need-read-page-requires invariant-loop decreases-loop
+read-page-requires : tie.Need-read-page-requires invariant_loop decreases_loop
 read-page-requires c κs = search rules
 
-next-first-requires : tie.Need-next-first-requires invariant-loop decreases-loop
+next-first-requires : tie.Need-next-first-requires invariant_loop decreases_loop
 next-first-requires c κs = search rules
 
-add-number : tie.Need-overflow-add-number invariant-loop decreases-loop
+add-number : tie.Need-overflow-add-number invariant_loop decreases_loop
 add-number c = search rules
 
-loop-less : tie.Need-loop-smaller invariant-loop decreases-loop
+loop-less : tie.Need-loop-smaller invariant_loop decreases_loop
 loop-less c = search rules
 
-loop-again : tie.Need-loop-preserved invariant-loop decreases-loop
+loop-again : tie.Need-loop-preserved invariant_loop decreases_loop
 loop-again c = search rules
 
-same_length : tie.Need-same-length invariant-loop decreases-loop
+same_length : tie.Need-same-length invariant_loop decreases_loop
 same_length c = search rules
 
-returns : tie.Need-returns invariant-loop decreases-loop
+returns : tie.Need-returns invariant_loop decreases_loop
 returns c = search rules
 
-pub read-pages-spec : {M : Type 1} → statement M
-read-pages-spec =
+pub read_pages_spec : {M : Type 1} → statement M
+read_pages_spec =
     tie.close
     (tie.spec
-    invariant-loop
-    decreases-loop
+    invariant_loop
+    decreases_loop
     loop-holds
     read-page-requires
     next-first-requires

@@ -19,5 +19,5 @@ returns-3 c = search resolving
 returns-4 : tie.Need-returns-4
 returns-4 c = search resolving
 
-pub resolve-spec : {M : Type 1} → statement M
-resolve-spec = tie.close (tie.spec alignment-requires returns returns-2 returns-3 returns-4)
+pub resolve_spec : {M : Type 1} → statement M
+resolve_spec = tie.close (tie.spec alignment-requires returns returns-2 returns-3 returns-4)

@@ -16,5 +16,5 @@ returns-2 c = search resolving
 returns-3 : tie.Need-returns-3
 returns-3 c = search resolving
 
-pub resolve-position-spec : {M : Type 1} → statement M
-resolve-position-spec = tie.close (tie.spec position-requires returns returns-2 returns-3)
+pub resolve_position_spec : {M : Type 1} → statement M
+resolve_position_spec = tie.close (tie.spec position-requires returns returns-2 returns-3)

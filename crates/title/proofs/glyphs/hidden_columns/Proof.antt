@@ -25,8 +25,8 @@ returns-2 c = search rules
 returns-3 : tie.Need-returns-3
 returns-3 c = search hidden-right
 
-pub hidden-columns-spec : {M : Type 1} → statement M
-hidden-columns-spec =
+pub hidden_columns_spec : {M : Type 1} → statement M
+hidden_columns_spec =
     tie.close
     (tie.spec
     enum_told

@@ -25,8 +25,8 @@ returns-2 c = search rules
 returns-3 : tie.Need-returns-3
 returns-3 c = search start_right
 
-pub line-start-spec : {M : Type 1} → statement M
-line-start-spec =
+pub line_start_spec : {M : Type 1} → statement M
+line_start_spec =
     tie.close
     (tie.spec
     enum_told

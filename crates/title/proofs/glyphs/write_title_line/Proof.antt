@@ -40,8 +40,8 @@ same_length c = search rules
 returns : tie.Need-returns
 returns c = search line-written
 
-pub write-title-line-spec : {M : Type 1} → statement M
-write-title-line-spec =
+pub write_title_line_spec : {M : Type 1} → statement M
+write_title_line_spec =
     tie.close
     (tie.spec
     line-width-u16-requires

@@ -22,8 +22,8 @@ returns c = search choosing
 returns-2 : tie.Need-returns-2
 returns-2 c = search choosing
 
-pub has-title-spec : {M : Type 1} → statement M
-has-title-spec =
+pub has_title_spec : {M : Type 1} → statement M
+has_title_spec =
     tie.close
     (tie.spec
     resolve-position-requires

@@ -16,5 +16,5 @@ resolve-requires c κs = search rules
 returns-3 : tie.Need-returns-3
 returns-3 c = search alignments
 
-pub alignment-spec : {M : Type 1} → statement M
-alignment-spec = tie.close (tie.spec returns returns-2 resolve-requires returns-3)
+pub alignment_spec : {M : Type 1} → statement M
+alignment_spec = tie.close (tie.spec returns returns-2 resolve-requires returns-3)

@@ -29,8 +29,8 @@ returns c =
       first.before.before.spaced.ensures,
     )
 
-pub next-spec : {M : Type 1} → statement M
-next-spec =
+pub next_spec : {M : Type 1} → statement M
+next_spec =
     tie.close
     (tie.spec
     spaced-requires

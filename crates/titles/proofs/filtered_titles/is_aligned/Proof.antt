@@ -13,6 +13,6 @@ alignment-number-requires-2 c κs = search rules
 returns : tie.Need-returns
 returns c = search choosing
 
-pub is-aligned-spec : {M : Type 1} → statement M
-is-aligned-spec =
+pub is_aligned_spec : {M : Type 1} → statement M
+is_aligned_spec =
     tie.close (tie.spec alignment-number-requires alignment-number-requires-2 returns)

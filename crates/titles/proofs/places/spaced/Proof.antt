@@ -9,5 +9,5 @@ saturating-add-requires c κs = search rules
 returns : tie.Need-returns
 returns c = search rules
 
-pub spaced-spec : {M : Type 1} → statement M
-spaced-spec = tie.close (tie.spec saturating-add-requires returns)
+pub spaced_spec : {M : Type 1} → statement M
+spaced_spec = tie.close (tie.spec saturating-add-requires returns)

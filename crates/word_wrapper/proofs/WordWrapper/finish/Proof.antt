@@ -1,5 +1,5 @@
 -- `word_wrapper::WordWrapper::finish` meets its contract.
-use Rattle.word_wrapper.proofs.StepLaws.{finish-done, finish-line}
+use Rattle.word_wrapper.proofs.StepLaws.{finish_done, finish_line}
 use borrow.Author.Rules.{rules}
 use Rattle.word_wrapper.proofs.WordWrapper.finish.Statement.{statement}
 use Rattle.word_wrapper.proofs.WordWrapper.finish.Tie as tie
@@ -20,10 +20,10 @@ enum_told : tie.Need-enum-told
 enum_told c = search rules
 
 returns : tie.Need-returns
-returns c = search finish-line
+returns c = search finish_line
 
 returns-2 : tie.Need-returns-2
-returns-2 c = search finish-done
+returns-2 c = search finish_done
 
 pub finish_spec : {M : Type 1} → statement M
 finish_spec =

@@ -1,5 +1,5 @@
 -- `word_wrapper::WordWrapper::join` meets its contract.
-use Rattle.word_wrapper.proofs.StepLaws.{join-fields}
+use Rattle.word_wrapper.proofs.StepLaws.{join_fields}
 use borrow.Author.Rules.{rules}
 use Rattle.word_wrapper.proofs.WordWrapper.join.Statement.{statement}
 use Rattle.word_wrapper.proofs.WordWrapper.join.Tie as tie
@@ -14,7 +14,7 @@ empty-requires : tie.Need-empty-requires
 empty-requires c κs = search rules
 
 returns : tie.Need-returns
-returns c = search join-fields
+returns c = search join_fields
 
-pub join-spec : {M : Type 1} → statement M
-join-spec = tie.close (tie.spec pending-requires gather-requires empty-requires returns)
+pub join_spec : {M : Type 1} → statement M
+join_spec = tie.close (tie.spec pending-requires gather-requires empty-requires returns)

@@ -1,5 +1,5 @@
 -- `word_wrapper::WordWrapper::join_if_due` meets its contract.
-use Rattle.word_wrapper.proofs.StepLaws.{joined-yes, joined-no}
+use Rattle.word_wrapper.proofs.StepLaws.{joined_yes, joined_no}
 use borrow.Author.Rules.{rules}
 use Rattle.word_wrapper.proofs.WordWrapper.join_if_due.Statement.{statement}
 use Rattle.word_wrapper.proofs.WordWrapper.join_if_due.Tie as tie
@@ -14,11 +14,11 @@ join-requires : tie.Need-join-requires
 join-requires c κs = search rules
 
 returns : tie.Need-returns
-returns c = search joined-yes
+returns c = search joined_yes
 
 returns-2 : tie.Need-returns-2
-returns-2 c = search joined-no
+returns-2 c = search joined_no
 
-pub join-if-due-spec : {M : Type 1} → statement M
-join-if-due-spec =
+pub join_if_due_spec : {M : Type 1} → statement M
+join_if_due_spec =
     tie.close (tie.spec pending-requires must-join-requires join-requires returns returns-2)

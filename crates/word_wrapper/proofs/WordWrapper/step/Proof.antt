@@ -1,6 +1,6 @@
 -- `word_wrapper::WordWrapper::step` meets its contract.
-use Rattle.word_wrapper.proofs.StepLaws.{step-wide, step-fills}
-use Rattle.word_wrapper.proofs.Pulling.{sound-joined, joined_at, join-fits, fits-eight}
+use Rattle.word_wrapper.proofs.StepLaws.{step-wide, step_fills}
+use Rattle.word_wrapper.proofs.Pulling.{sound-joined, joined_at, join-fits, fits_eight}
 use native.Mathlib.Omega.{arith}
 use borrow.Author.Rules.{rules}
 use Rattle.word_wrapper.proofs.WordWrapper.step.Statement.{statement}
@@ -34,10 +34,10 @@ join-if-due-requires : tie.Need-join-if-due-requires
 join-if-due-requires c κs = search join-fits
 
 emit-or-append-requires : tie.Need-emit-or-append-requires
-emit-or-append-requires c κs = (search sound-joined, (search rules, omega (arith, joined_at), search fits-eight))
+emit-or-append-requires c κs = (search sound-joined, (search rules, omega (arith, joined_at), search fits_eight))
 
 returns-2 : tie.Need-returns-2
-returns-2 c = search step-fills
+returns-2 c = search step_fills
 
 pub step_spec : {M : Type 1} → statement M
 step_spec =

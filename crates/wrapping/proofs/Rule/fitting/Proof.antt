@@ -28,8 +28,8 @@ returns-2 c = search fittings
 returns-3 : tie.Need-returns-3
 returns-3 c = search fittings
 
-pub fitting-spec : {M : Type 1} → statement M
-fitting-spec =
+pub fitting_spec : {M : Type 1} → statement M
+fitting_spec =
     tie.close
     (tie.spec
     width-code-requires

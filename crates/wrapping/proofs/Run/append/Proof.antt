@@ -16,5 +16,5 @@ add-t4 c = search rules
 returns-3 : tie.Need-returns-3
 returns-3 c = search laws
 
-pub append-spec : {M : Type 1} → statement M
-append-spec = tie.close (tie.spec returns returns-2 add-t4 returns-3)
+pub append_spec : {M : Type 1} → statement M
+append_spec = tie.close (tie.spec returns returns-2 add-t4 returns-3)

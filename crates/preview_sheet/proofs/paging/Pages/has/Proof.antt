@@ -16,5 +16,5 @@ returns c = search rules
 returns-2 : tie.Need-returns-2
 returns-2 c = search asking
 
-pub has-spec : {M : Type 1} → statement M
-has-spec = tie.close (tie.spec enum_told enum-known-self returns returns-2)
+pub has_spec : {M : Type 1} → statement M
+has_spec = tie.close (tie.spec enum_told enum-known-self returns returns-2)

@@ -16,5 +16,5 @@ returns c = search rules
 returns-2 : tie.Need-returns-2
 returns-2 c = search asking
 
-pub is-past-spec : {M : Type 1} → statement M
-is-past-spec = tie.close (tie.spec enum_told enum-known-self returns returns-2)
+pub is_past_spec : {M : Type 1} → statement M
+is_past_spec = tie.close (tie.spec enum_told enum-known-self returns returns-2)
