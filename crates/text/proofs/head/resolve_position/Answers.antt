@@ -1,0 +1,13 @@
+-- `text::head::resolve_position` meets its contract.
+use Rattle.text.proofs.Resolving.{resolving}
+use borrow.Author.Rules.{rules}
+use Rattle.text.proofs.head.resolve_position.Goals as goal
+
+pub returns-in-0 : goal.returns-in-0
+returns-in-0 c = search resolving
+
+pub returns-in-1 : goal.returns-in-1
+returns-in-1 c = search resolving
+
+pub returns-in_default : goal.returns-in_default
+returns-in_default c = search resolving

@@ -1,0 +1,18 @@
+-- `text::line::count_text_lines` meets its contract.
+use Prim.Native.Nat.{◌-◌}
+use mathlib.Core.Logic.{⊎_elim}
+use lib.ListN.{length}
+use Rattle.text.specs.Record.{is_head}
+use Rattle.text.proofs.Counting.{Counting, counting, heads-counted}
+use borrow.Author.Rules.{rules}
+use Rattle.text.proofs.line.count_text_lines.Goals as goal
+use Rattle.text.proofs.line.count_text_lines.Goals.{else-is_head, then-is_head}
+
+pub loop-i-init : goal.loop-i-init
+loop-i-init c = search counting
+
+pub loop-i-preserved : goal.loop-i-preserved
+loop-i-preserved c = elim c.if-is_head.branch [ then-is_head w ↦ search counting | else-is_head w ↦ search counting ]
+
+pub returns : goal.returns
+returns c = search (counting, heads-counted)
