@@ -7,7 +7,7 @@ pub mod inner_area;
 pub mod titled;
 
 // Sides that have a border.
-#[derive(Drop)]
+#[derive(Clone, Copy)]
 pub struct Borders {
     pub top: bool,
     pub right: bool,
@@ -16,7 +16,7 @@ pub struct Borders {
 }
 
 // Border symbols (ratatui's `border::Set`).
-#[derive(Drop)]
+#[derive(Clone, Copy)]
 pub struct BorderSet {
     pub top_left: u32,
     pub top_right: u32,
@@ -29,14 +29,14 @@ pub struct BorderSet {
 }
 
 // Effect of a shadow on its cells after its style: none, or a symbol (block/shadow.rs: `Effect`).
-#[derive(Drop)]
+#[derive(Clone, Copy)]
 pub enum Effect {
     Overlay,
     Symbol(u32),
 }
 
 // Shadow of a block, if any: effect, style number, and offset from the block in columns and rows (block/shadow.rs: `Shadow`).
-#[derive(Drop)]
+#[derive(Clone, Copy)]
 pub enum Shadow {
     Absent,
     Present {
@@ -48,7 +48,7 @@ pub enum Shadow {
 }
 
 // Settings of a block (block.rs: `Block`). Its titles are passed beside it, as records.
-#[derive(Drop)]
+#[derive(Clone, Copy)]
 pub struct Block {
     pub borders: Borders,
     pub border_set: BorderSet,
@@ -62,7 +62,7 @@ pub struct Block {
 }
 
 // Cells that a frame takes at the two ends of a row or column.
-#[derive(Drop)]
+#[derive(Clone, Copy)]
 pub struct Space {
     pub before: u16,
     pub after: u16,

@@ -7,7 +7,7 @@ use block::Block;
 use layout::Rect;
 
 // A side or corner: whether it is present, its cells and its symbol.
-#[derive(Drop)]
+#[derive(Clone, Copy)]
 pub struct Edge {
     pub present: bool,
     pub part: Rect,

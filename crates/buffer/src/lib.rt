@@ -9,14 +9,14 @@ use layout::Rect;
 pub mod fill;
 
 // Size of a screen in cells.
-#[derive(Drop)]
+#[derive(Clone, Copy)]
 pub struct Screen {
     pub columns: u16,
     pub rows: u16,
 }
 
 // What is applied to a cell: a style, a symbol, or a symbol and then a style.
-#[derive(Drop)]
+#[derive(Clone, Copy)]
 pub enum Ink {
     Style(u64),
     Symbol(u64),

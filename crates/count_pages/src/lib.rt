@@ -17,7 +17,7 @@ use text::line;
 use wrapping::Rule;
 
 // Inner area of a notice on its screen, its composed lines at the inner width, and its pages at the inner height.
-#[derive(Drop)]
+#[derive(Clone, Copy)]
 pub struct PageCounts {
     pub inner: Rect,
     pub lines: u32,
@@ -25,7 +25,7 @@ pub struct PageCounts {
 }
 
 // Answer of the call: the area and counts, or the reason for the refusal.
-#[derive(Drop)]
+#[derive(Clone, Copy)]
 pub enum PagesAnswer {
     Pages(PageCounts),
     Refused(Refusal),

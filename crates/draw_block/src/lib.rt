@@ -10,7 +10,7 @@ use refuse::{ACCEPTED, Refusal, Verdict};
 use text::AmbiguousWidth;
 
 // Answer of the call: drawn, or the cause of refusal.
-#[derive(Drop)]
+#[derive(Clone, Copy)]
 pub enum BlockAnswer {
     Done,
     Refused(Refusal),

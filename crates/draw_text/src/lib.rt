@@ -11,7 +11,7 @@ use render_lines::DrawCounts;
 use render_text::TextSettings;
 
 // Answer of the call: the counts, or the cause of refusal.
-#[derive(Drop)]
+#[derive(Clone, Copy)]
 pub enum DrawAnswer {
     Counts(DrawCounts),
     Refused(Refusal),

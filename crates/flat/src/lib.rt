@@ -15,7 +15,7 @@ use text::{Alignment, AmbiguousWidth, TitlePosition};
 
 // A rectangle.
 #[repr(C)]
-#[derive(Drop)]
+#[derive(Clone, Copy)]
 pub struct FlatArea {
     pub x: u16,
     pub y: u16,
@@ -26,7 +26,7 @@ pub struct FlatArea {
 // Settings of a block. Borders: 0 absent, 1 present. Alignment of titles: 0 left, 1 centre, 2 right; position: 0 top, 1 bottom.
 // Shadow: 0 none, 1 overlay, 2 symbol.
 #[repr(C)]
-#[derive(Drop)]
+#[derive(Clone, Copy)]
 pub struct FlatBlock {
     pub top_left: u32,
     pub top_right: u32,
@@ -59,7 +59,7 @@ pub struct FlatBlock {
 // Settings of a notice other than its block. Alignment: 0 left, 1 centre, 2 right. Wrap: 0 unwrapped, scrolled right by `column`;
 // 1 wrapped; 2 wrapped and trimmed. Ambiguous: 1 narrow, 2 wide.
 #[repr(C)]
-#[derive(Drop)]
+#[derive(Clone, Copy)]
 pub struct FlatText {
     pub scroll: u16,
     pub column: u16,

@@ -9,7 +9,7 @@ use notice::{
 
 // Answer of a list call: count of lines written, and 0 or the number of the refusal.
 #[repr(C)]
-#[derive(Drop)]
+#[derive(Clone, Copy)]
 pub struct FlatListAnswer {
     pub lines: usize,
     pub number: u32,
@@ -17,7 +17,7 @@ pub struct FlatListAnswer {
 
 // Answer of a tally: 0 or the number of the refusal, and the counts.
 #[repr(C)]
-#[derive(Drop)]
+#[derive(Clone, Copy)]
 pub struct FlatTallyAnswer {
     pub number: u32,
     pub lines: u32,
@@ -30,7 +30,7 @@ pub struct FlatTallyAnswer {
 
 // Answer of `inner` or `draw_frame`: 0 or the number of the refusal, and the inner area.
 #[repr(C)]
-#[derive(Drop)]
+#[derive(Clone, Copy)]
 pub struct FlatAreaAnswer {
     pub number: u32,
     pub x: u16,
@@ -41,7 +41,7 @@ pub struct FlatAreaAnswer {
 
 // Answer of `draw_text`: 0 or the number of the refusal, and the counts of rows drawn, glyphs placed and clipped.
 #[repr(C)]
-#[derive(Drop)]
+#[derive(Clone, Copy)]
 pub struct FlatDrawAnswer {
     pub number: u32,
     pub rows: u32,
@@ -51,7 +51,7 @@ pub struct FlatDrawAnswer {
 
 // Answer of `line_count` or `line_width`: 0 or the number of the refusal, and the count of lines or columns.
 #[repr(C)]
-#[derive(Drop)]
+#[derive(Clone, Copy)]
 pub struct FlatMeasureAnswer {
     pub number: u32,
     pub value: u32,
@@ -59,7 +59,7 @@ pub struct FlatMeasureAnswer {
 
 // Answer of `pages`: 0 or the number of the refusal, the inner area, and the counts of lines and pages.
 #[repr(C)]
-#[derive(Drop)]
+#[derive(Clone, Copy)]
 pub struct FlatPagesAnswer {
     pub number: u32,
     pub x: u16,

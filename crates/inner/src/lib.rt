@@ -7,7 +7,7 @@ use layout::Rect;
 use refuse::{ACCEPTED, Refusal, Verdict};
 
 // Answer of the call: the inner area, or the cause of refusal.
-#[derive(Drop)]
+#[derive(Clone, Copy)]
 pub enum InnerAnswer {
     Area(Rect),
     Refused(Refusal),

@@ -3,7 +3,7 @@ ghost use Rattle.std.specs.Prelude.{◌≡◌, ◌<◌, ◌^◌};
 ghost use Rattle.layout.specs.Rect.{right_of, bottom_of, meet, is_empty, within, contains, moved, offset_by};
 ghost use Rattle.layout.specs.BiasedExtra.{biased};
 
-#[derive(Drop)]
+#[derive(Clone, Copy)]
 pub struct Rect {
     pub x: u16,
     pub y: u16,

@@ -10,7 +10,7 @@ use word_wrapper::{NextRun, WordWrapper};
 use wrapping::{Rule, Run};
 
 // A composed line: its first record, one past its last, its width and its alignment (reflow.rs: `WrappedLine`).
-#[derive(Drop)]
+#[derive(Clone, Copy)]
 pub struct WrappedLine {
     pub first: usize,
     pub end: usize,
@@ -19,14 +19,14 @@ pub struct WrappedLine {
 }
 
 // Whether a text is wrapped, trimmed or not, or truncated and scrolled right by `column` (paragraph.rs: `Wrap`).
-#[derive(Drop)]
+#[derive(Clone, Copy)]
 pub enum Wrap {
     Off { column: u16 },
     On { trim: bool },
 }
 
 // How lines are composed: wrapped, or truncated and scrolled right by a number of columns.
-#[derive(Drop)]
+#[derive(Clone, Copy)]
 pub enum Method {
     WordWrap,
     Truncate(u32),
@@ -34,7 +34,7 @@ pub enum Method {
 
 // State of composing a text (reflow.rs: `LineComposer`): the current text line has the glyph records `from..to`. If lines are
 // truncated, only the wrapper's `live` is used.
-#[derive(Drop)]
+#[derive(Clone, Copy)]
 pub struct LineComposer {
     pub method: Method,
     pub wrapper: WordWrapper,
@@ -44,7 +44,7 @@ pub struct LineComposer {
 }
 
 // The next composed line of a text and the state after it, or none.
-#[derive(Drop)]
+#[derive(Clone, Copy)]
 pub enum NextLine {
     OneLine(WrappedLine, LineComposer),
     Done,

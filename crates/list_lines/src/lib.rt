@@ -14,7 +14,7 @@ use text::{Alignment, AmbiguousWidth};
 use wrapping::Rule;
 
 // Answer of a list call: the number of lines written, or why it was refused.
-#[derive(Drop)]
+#[derive(Clone, Copy)]
 pub enum ListAnswer {
     Written(usize),
     Refused(Refusal),

@@ -5,7 +5,7 @@ ghost use Rattle.listlines_input.specs.Input.{limit_of, number_at, records_of, m
 use num::byte_to_u32;
 
 // Result of parsing an input: the settings and the record count of its text, or the number of a refusal.
-#[derive(Drop)]
+#[derive(Clone, Copy)]
 pub enum Parsed {
     Refused(u32),
     Text {

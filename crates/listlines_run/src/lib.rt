@@ -13,7 +13,7 @@ use text::{Alignment, AmbiguousWidth};
 mod read;
 
 // The program's answer: the count of lines in the list, or the number of a refusal.
-#[derive(Drop)]
+#[derive(Clone, Copy)]
 pub enum Answer {
     Refused(u32),
     Lines(usize),

@@ -10,7 +10,7 @@ use refuse::{ACCEPTED, Refusal, Verdict};
 use text::AmbiguousWidth;
 
 // Answer of the calls: a number of lines or columns, or the reason for the refusal.
-#[derive(Drop)]
+#[derive(Clone, Copy)]
 pub enum MeasureAnswer {
     Value(u32),
     Refused(Refusal),

@@ -4,7 +4,7 @@ ghost use Rattle.num.specs.Held.{held};
 ghost use Rattle.padding.specs.Padding.{padding_of};
 
 // Cells left free between the borders and the inner area.
-#[derive(Drop)]
+#[derive(Clone, Copy)]
 pub struct Padding {
     pub left: u16,
     pub right: u16,

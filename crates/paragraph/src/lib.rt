@@ -23,7 +23,7 @@ use text::{Alignment, AmbiguousWidth};
 
 // Settings of a notice (paragraph.rs: `Paragraph`). `style` and `text_style` are style numbers, `alignment` is the default of its lines,
 // `scroll` the first line drawn, `ambiguous` how ambiguous glyphs of text and titles are read.
-#[derive(Drop)]
+#[derive(Clone, Copy)]
 pub struct Notice {
     pub block: Block,
     pub style: u8,

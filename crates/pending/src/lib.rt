@@ -6,7 +6,7 @@ ghost use Rattle.pending.specs.TestsExtra.{gather_run, overflowing, joins, full_
 use wrapping::{Rule, Run};
 
 // Row, spaces and word, and whether the previous glyph was solid.
-#[derive(Drop)]
+#[derive(Clone, Copy)]
 pub struct Pending {
     pub row: Run,
     pub spaces: Run,
@@ -15,7 +15,7 @@ pub struct Pending {
 }
 
 // What a text line's end emits: a line, or nothing.
-#[derive(Drop)]
+#[derive(Clone, Copy)]
 pub enum LastRun {
     Emit(Run),
     Nothing,

@@ -4,7 +4,7 @@ ghost use Rattle.std.specs.Prelude.{◌≡◌, ◌+◌, ◌^◌, ◌<◌};
 ghost use Rattle.place.specs.Place.{place_of};
 
 // `Halved` starts inside and runs past the edge, `Outside` starts at the edge or past it; both are clipped.
-#[derive(Drop)]
+#[derive(Clone, Copy)]
 pub enum Place {
     ZeroWidth,
     Placed,

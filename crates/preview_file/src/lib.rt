@@ -21,7 +21,7 @@ mod numbers;
 mod store;
 
 // The fields before the styles.
-#[derive(Drop)]
+#[derive(Clone, Copy)]
 pub struct Opening {
     pub columns: u16,
     pub rows: u16,
@@ -34,7 +34,7 @@ pub struct Opening {
 }
 
 // Symbols of a block's borders and shadow.
-#[derive(Drop)]
+#[derive(Clone, Copy)]
 pub struct Symbols {
     pub top_left: u32,
     pub top_right: u32,
@@ -48,7 +48,7 @@ pub struct Symbols {
 }
 
 // Padding of a block.
-#[derive(Drop)]
+#[derive(Clone, Copy)]
 pub struct Paddings {
     pub left: u16,
     pub right: u16,
@@ -58,7 +58,7 @@ pub struct Paddings {
 
 // Why an input is bad: it is too long, doesn't start with the mark, is cut short, has too many styles, title records or
 // text records, or has bytes left over.
-#[derive(Drop)]
+#[derive(Clone, Copy)]
 pub enum Flaw {
     Length,
     Mark,
@@ -70,7 +70,7 @@ pub enum Flaw {
 }
 
 // Result of parsing an input.
-#[derive(Drop)]
+#[derive(Clone, Copy)]
 pub enum Parsed {
     Bad(Flaw),
     Good(Opening),

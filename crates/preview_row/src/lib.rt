@@ -9,7 +9,7 @@ use preview_sgr::put_style;
 use preview_utf8::put_symbol;
 
 // Offset of the next byte, style of the previous cell, and count of the next cells that a wide symbol covers.
-#[derive(Drop)]
+#[derive(Clone, Copy)]
 pub struct Pen {
     pub at: usize,
     pub style: u64,

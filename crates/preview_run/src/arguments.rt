@@ -5,7 +5,7 @@ use crate::Asked;
 use preview_sheet::paging::Pages;
 
 // Kind of an argument.
-#[derive(Drop)]
+#[derive(Clone, Copy)]
 enum Argument {
     Missing,
     Wide,
@@ -15,14 +15,14 @@ enum Argument {
 }
 
 // Result of parsing a decimal number.
-#[derive(Drop)]
+#[derive(Clone, Copy)]
 enum Numeral {
     Value(u64),
     Wrong,
 }
 
 // Result of parsing the arguments: the options and whether a file is named, or that they are wrong.
-#[derive(Drop)]
+#[derive(Clone, Copy)]
 pub enum Request {
     Wrong,
     Show { asked: Asked, from_file: bool },

@@ -8,7 +8,7 @@ use preview_sheet::paging::Pages;
 
 // Options: whether ambiguous glyphs are read wide, whether to print escape sequences for colours and modifiers, and which pages to
 // show.
-#[derive(Drop)]
+#[derive(Clone, Copy)]
 pub struct Asked {
     pub wide: bool,
     pub ansi: bool,

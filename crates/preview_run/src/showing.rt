@@ -8,7 +8,7 @@ use preview_file::{Opening, Parsed};
 use preview_sheet::{Fitting, Measure, paging, widths};
 
 // A page: its number, the count of pages, and its first line.
-#[derive(Drop)]
+#[derive(Clone, Copy)]
 struct Page {
     number: u64,
     pages: u64,

@@ -21,7 +21,7 @@ use notice::{
 use preview_file::Opening;
 
 // Size of a notice's inner area, and count of its lines.
-#[derive(Drop)]
+#[derive(Clone, Copy)]
 pub struct Measure {
     pub width: u16,
     pub height: u16,
@@ -29,7 +29,7 @@ pub struct Measure {
 }
 
 // A measure, or the number of a refusal.
-#[derive(Drop)]
+#[derive(Clone, Copy)]
 pub enum Fitting {
     Fits(Measure),
     Refused(u32),

@@ -3,7 +3,7 @@ ghost use Rattle.std.specs.Prelude.{◌≡◌, ◌+◌, ◌-◌, min};
 ghost use Rattle.preview_sheet.specs.PagingExtra.{pages_from, is_asked, is_past};
 
 // Pages to show.
-#[derive(Drop)]
+#[derive(Clone, Copy)]
 pub enum Pages {
     All,
     Only(u64),

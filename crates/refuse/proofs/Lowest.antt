@@ -27,6 +27,7 @@ false_true : (b : Bool) → b ≡ false → b ≡ true → ⊥
 false_true b f t = let z : ◌≡◌ {A = ℕ} 0 1 = ap (λ (x : Bool). cond x 1 0) (sym f ∙ t) in omega arith
 
 holds-above : (n : ℕ) (causes : List Cause) (why : Refusal) → rising n causes ≡ true → Holds why causes → n < refusal_place why
+holds-above n [] why up h = elim h [ ]
 holds-above n (cause ∷ causes) why up (here e h) =
     let p = ltb-true n (refusal_place cause.why) ((and-eq-true_iff (ltb n (refusal_place cause.why)) _).0 up).0 in
     rw (ap refusal_place e) at p
@@ -55,6 +56,7 @@ earliest-step false cause causes why e z up rest (there h) = rest h
 -- If a cause holds, the call is refused for it or for one at a lower place.
 pub first-is-earliest : (n : ℕ) (causes : List Cause) (why : Refusal) → rising n causes ≡ true → Holds why causes
     → (0 < verdict_place (first_cause causes)) × (verdict_place (first_cause causes) ≤ refusal_place why)
+first-is-earliest n [] why up h = elim h [ ]
 first-is-earliest n (cause ∷ causes) why up h =
     let q = (and-eq-true_iff (ltb n (refusal_place cause.why)) (rising (refusal_place cause.why) causes)).0 up in
     let p = ltb-true n (refusal_place cause.why) q.0 in

@@ -4,7 +4,7 @@ ghost use Rattle.refuse.specs.Refusal.{refusal_number, verdict_number};
 ghost use Rattle.refuse.specs.Causes.{most_accepted};
 
 // Causes of refusal, in the order of document 01's table.
-#[derive(Drop)]
+#[derive(Clone, Copy)]
 pub enum Refusal {
     Screen,
     Styles,
@@ -18,14 +18,14 @@ pub enum Refusal {
 }
 
 // Result of a call's checks.
-#[derive(Drop)]
+#[derive(Clone, Copy)]
 pub enum Verdict {
     Accepted,
     Refused(Refusal),
 }
 
 // Largest sizes that a call accepts.
-#[derive(Drop)]
+#[derive(Clone, Copy)]
 pub struct Ceilings {
     pub columns: u32,
     pub rows: u32,

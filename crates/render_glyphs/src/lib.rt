@@ -10,7 +10,7 @@ use text::glyph;
 use wrapping::{GlyphWidth, Rule};
 
 // Counts of the glyphs placed and clipped on a row.
-#[derive(Drop)]
+#[derive(Clone, Copy)]
 pub struct GlyphCounts {
     pub placed: u32,
     pub clipped: u32,

@@ -12,7 +12,7 @@ use text::Alignment;
 use wrapping::Rule;
 
 // Counts of the rows drawn and of the glyphs placed and clipped in them.
-#[derive(Drop)]
+#[derive(Clone, Copy)]
 pub struct DrawCounts {
     pub rows: u32,
     pub placed: u32,
@@ -20,7 +20,7 @@ pub struct DrawCounts {
 }
 
 // How a text is composed and drawn: `style` is a style number, `scroll` the first line drawn.
-#[derive(Drop)]
+#[derive(Clone, Copy)]
 pub struct TextOptions {
     pub rule: Rule,
     pub method: Method,

@@ -15,7 +15,7 @@ use wrapping::Rule;
 
 // Settings of a notice without its block. `style` and `text_style` are style numbers, `alignment` is the default of its lines,
 // `scroll` the first line drawn, `ambiguous` how ambiguous glyphs are read.
-#[derive(Drop)]
+#[derive(Clone, Copy)]
 pub struct TextSettings {
     pub style: u8,
     pub text_style: u8,

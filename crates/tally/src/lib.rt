@@ -10,7 +10,7 @@ use text::AmbiguousWidth;
 use wrapping::Rule;
 
 // Counts of a text's composed lines, and of its glyphs by kind.
-#[derive(Drop)]
+#[derive(Clone, Copy)]
 pub struct TallyCounts {
     pub lines: u32,
     pub placed: u32,
@@ -21,14 +21,14 @@ pub struct TallyCounts {
 }
 
 // Answer of the call: the counts, or the reason for the refusal.
-#[derive(Drop)]
+#[derive(Clone, Copy)]
 pub enum TallyAnswer {
     Counted(TallyCounts),
     Refused(Refusal),
 }
 
 // Counts of a text's glyphs and of the over-wide ones among them.
-#[derive(Drop)]
+#[derive(Clone, Copy)]
 pub struct TextGlyphCounts {
     pub glyphs: u32,
     pub over_wide: u32,

@@ -13,7 +13,7 @@ use text::Alignment;
 use wrapping::Rule;
 
 // Counts of composed lines, and of their glyphs by kind.
-#[derive(Drop)]
+#[derive(Clone, Copy)]
 pub struct LineCounts {
     pub lines: u32,
     pub placed: u32,

@@ -5,7 +5,7 @@ pub mod notices;
 pub mod texts;
 
 // Checksum of an answer, or that the call was refused.
-#[derive(Drop)]
+#[derive(Clone, Copy)]
 enum Answer {
     Sum(u32),
     Refused,

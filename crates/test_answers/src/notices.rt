@@ -21,7 +21,7 @@ use test_sums::with_number;
 use test_texts::random::{next, seed};
 
 // What is drawn: the frame alone, the text alone, into the case's area, or the frame, then the text into the area that it answers.
-#[derive(Drop)]
+#[derive(Clone, Copy)]
 pub enum Asked {
     Frame,
     Text,
@@ -29,7 +29,7 @@ pub enum Asked {
 }
 
 // Checksum of an answer with its counts, or that a call was refused.
-#[derive(Drop)]
+#[derive(Clone, Copy)]
 pub enum Answer {
     Drawing { sum: u32, counts: DrawCounts },
     Refused,

@@ -16,7 +16,7 @@ use text::Alignment;
 use wrapping::Rule;
 
 // What is compared for a text.
-#[derive(Drop)]
+#[derive(Clone, Copy)]
 pub enum Question {
     Wrapped,
     Tally,

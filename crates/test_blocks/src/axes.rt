@@ -1,7 +1,7 @@
 // Block settings along one axis, horizontal or vertical.
 
 // Borders and padding at both ends of an area, and its start and size.
-#[derive(Drop)]
+#[derive(Clone, Copy)]
 pub struct Axis {
     pub before: bool,
     pub after: bool,

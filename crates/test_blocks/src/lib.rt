@@ -20,7 +20,7 @@ use layout::Rect;
 // A test case: `titles` titles of at most `glyphs` glyphs, all of them right titles if `right` is set, `styles` styles, and the seed
 // of titles, styles and cells. A case for the inner area has no screen, its `titles` is the kind of its titles, and its styles are
 // unused.
-#[derive(Drop)]
+#[derive(Clone, Copy)]
 pub struct Case {
     pub block: Block,
     pub area: Rect,

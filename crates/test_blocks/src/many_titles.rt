@@ -8,7 +8,7 @@ use crate::words::four_on;
 use test_texts::random::{below, next, seed};
 
 // Number of titles, maximum glyphs in each, whether all are right titles, and exclusive bound of their style numbers.
-#[derive(Drop)]
+#[derive(Clone, Copy)]
 pub struct Manner {
     pub titles: u32,
     pub glyphs: u32,

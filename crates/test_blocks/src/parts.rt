@@ -3,7 +3,7 @@ ghost use Rattle.test_blocks.specs.SizesExtra.{Writable};
 
 use crate::{Case, drawn, inner, titled};
 
-#[derive(Drop)]
+#[derive(Clone, Copy)]
 pub enum Part {
     Inner,
     Small,

@@ -10,7 +10,7 @@ use paragraph::Notice;
 
 // A test case: a text of at most `records` records, `titles` titles, the number of the 64 styles that its block and titles use,
 // and the seed of text, titles, styles and cells.
-#[derive(Drop)]
+#[derive(Clone, Copy)]
 pub struct Case {
     pub notice: Notice,
     pub area: Rect,

@@ -3,7 +3,7 @@ ghost use Rattle.test_notices.specs.SizesExtra.{Writable};
 
 use crate::{Case, drawn};
 
-#[derive(Drop)]
+#[derive(Clone, Copy)]
 pub enum Part {
     Narrow,
     Small,

@@ -12,7 +12,7 @@ use text::{Alignment, AmbiguousWidth};
 
 // A test case. Its text is the first `length` records that `write_case` wrote. `trim` is for wrapped lines, `column` (horizontal
 // scroll) for truncated ones; `ambiguous` is how ambiguous glyphs are read. `number` is the case's index in its part.
-#[derive(Drop)]
+#[derive(Clone, Copy)]
 pub struct Case {
     pub number: u32,
     pub length: usize,

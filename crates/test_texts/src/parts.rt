@@ -3,7 +3,7 @@ ghost use Rattle.std.specs.Prelude.{◌≤◌, length};
 
 use crate::{Case, long, several, short};
 
-#[derive(Drop)]
+#[derive(Clone, Copy)]
 pub enum Part {
     Short,
     Ambiguous,

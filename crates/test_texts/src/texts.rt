@@ -8,7 +8,7 @@ use text::{Alignment, AmbiguousWidth};
 
 // Distribution of a random text: one record in `heads` is a head, width codes are below `widths` or, as often as each of these,
 // ambiguous, and one glyph in `spaces` is whitespace.
-#[derive(Drop)]
+#[derive(Clone, Copy)]
 pub struct Manner {
     pub heads: u32,
     pub widths: u32,

@@ -15,7 +15,7 @@ use preview_file::Opening;
 
 // A call: its kind (0 draws a block, 1 a frame, 2 all pages of a notice, 3 a text, 4 counts the pages of a notice and draws nothing), the
 // expected number, the numbers of cells and text records to pass, and the length of the packed notice in bytes.
-#[derive(Drop)]
+#[derive(Clone, Copy)]
 pub struct Call {
     pub kind: u8,
     pub answer: u32,

@@ -13,7 +13,7 @@ use test_print::print_number;
 use test_texts::numbers::step;
 
 // Totals over the pages: their number, the sums of the calls' counts, and the index of the text record after the last one read.
-#[derive(Drop)]
+#[derive(Clone, Copy)]
 struct Sums {
     pages: u32,
     rows: u32,

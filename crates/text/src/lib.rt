@@ -7,7 +7,7 @@ pub mod head;
 pub mod line;
 
 // Horizontal alignment of a line in its area.
-#[derive(Drop)]
+#[derive(Clone, Copy)]
 pub enum Alignment {
     Left,
     Center,
@@ -15,14 +15,14 @@ pub enum Alignment {
 }
 
 // Edge of the block that a title is on (block.rs: `TitlePosition`).
-#[derive(Drop)]
+#[derive(Clone, Copy)]
 pub enum TitlePosition {
     Top,
     Bottom,
 }
 
 // How glyphs with the ambiguous width code are read (UAX 11): as one cell, or as two.
-#[derive(Drop)]
+#[derive(Clone, Copy)]
 pub enum AmbiguousWidth {
     Narrow,
     Wide,

@@ -7,7 +7,7 @@ pub mod heads;
 pub mod places;
 
 // The titles with this position and alignment, each given or default.
-#[derive(Drop)]
+#[derive(Clone, Copy)]
 pub struct Group {
     pub position: TitlePosition,
     pub alignment: Alignment,
@@ -15,7 +15,7 @@ pub struct Group {
 
 // Place of the next title: the remaining titles area, the columns still to be truncated on the left, and whether titles are
 // truncated, which then decides their alignment.
-#[derive(Drop)]
+#[derive(Clone, Copy)]
 pub struct Place {
     pub area: Rect,
     pub offset: u16,

@@ -5,7 +5,7 @@ mod process_input;
 
 // State of the word wrapper within one text line (reflow.rs: `WordWrapper`). `at` is the index of the next record to read,
 // `emitted` is set once a line has been emitted, and `live` is set while lines may remain.
-#[derive(Drop)]
+#[derive(Clone, Copy)]
 pub struct WordWrapper {
     pub row: Run,
     pub spaces: Run,
@@ -18,14 +18,14 @@ pub struct WordWrapper {
 
 // Result of one glyph's step: a line is emitted or not. The state is the first field of both variants: it keeps its offset and
 // isn't moved within the enum.
-#[derive(Drop)]
+#[derive(Clone, Copy)]
 pub enum Stepped {
     Emitted(WordWrapper, Run),
     Continued(WordWrapper),
 }
 
 // Run of the next composed line of a text line, or none.
-#[derive(Drop)]
+#[derive(Clone, Copy)]
 pub enum NextRun {
     OneRun(Run, WordWrapper),
     Done,

@@ -9,7 +9,7 @@ use text::glyph::WIDEST;
 use text::{AmbiguousWidth, glyph};
 
 // Line width limit, whether lines are trimmed, and how ambiguous glyphs are read.
-#[derive(Drop)]
+#[derive(Clone, Copy)]
 pub struct Rule {
     pub limit: usize,
     pub trim: bool,
@@ -17,7 +17,7 @@ pub struct Rule {
 }
 
 // What a rule reads of a glyph: its width, no more than the limit, or that it is over-wide.
-#[derive(Drop)]
+#[derive(Clone, Copy)]
 pub enum GlyphWidth {
     Fits(usize),
     OverWide,
@@ -62,7 +62,7 @@ impl Rule {
 // Consecutive glyphs of a text line, over-wide ones between them left out: the first record, one past the last, and the sum of
 // the widths. A run without a glyph has end 0. All fields are `usize`: with a shorter one the compiler would also copy the
 // padding between fields.
-#[derive(Drop)]
+#[derive(Clone, Copy)]
 pub struct Run {
     pub first: usize,
     pub end: usize,

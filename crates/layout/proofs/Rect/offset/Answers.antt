@@ -1,0 +1,7 @@
+-- `layout::Rect::offset` meets its contract.
+use mir.Facts.{to_z-of_z}
+use borrow.Author.Rules.{rules}
+use Rattle.layout.proofs.Rect.offset.Goals as goal
+
+pub returns : goal.returns
+returns c = cc (to_z-of_z c.ranges.x, to_z-of_z c.ranges.y)
