@@ -1,0 +1,14 @@
+-- `line_truncator::shown_run` meets its contract.
+use Prim.Native.Nat.{◌-◌}
+use mathlib.Core.Logic.{⊎_elim}
+use native.Mathlib.Omega.{arith}
+use borrow.Author.Rules.{rules}
+use lib.ListN.{length}
+use Rattle.line_truncator.proofs.Truncating.{Showing, showing}
+use Rattle.line_truncator.proofs.shown_run.Given as goal
+
+abbrev pub invariant-loop-i : goal.invariant-loop-i
+invariant-loop-i l = Showing l.rule l.records l.offset-2 l.offset l.run l.i
+
+abbrev pub decreases-loop-i : goal.decreases-loop-i
+decreases-loop-i l = length l.records - l.i

@@ -1,0 +1,14 @@
+-- `paint_outside::below` meets its contract.
+use Rattle.paint_outside.specs.AroundExtra.{below}
+use borrow.Author.Rules.{rules}
+use Rattle.paint_outside.proofs.below.Goals as goal
+
+pub returns : goal.returns
+unfolding below
+returns c = rw (
+  c.rect_between.ensures,
+  c.bottom-2.ensures,
+  c.right.ensures,
+  c.max.ensures,
+  c.bottom.ensures,
+)

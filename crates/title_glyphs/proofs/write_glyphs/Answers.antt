@@ -1,0 +1,18 @@
+-- `title_glyphs::write_glyphs` meets its contract.
+use Prim.Native.Nat.{◌-◌}
+use lib.ListN.{length}
+use Rattle.title_glyphs.proofs.Writing.{Writing, writing}
+use borrow.Author.Rules.{rules}
+use Rattle.title_glyphs.proofs.write_glyphs.Goals as goal
+
+pub loop-i-init : goal.loop-i-init
+loop-i-init c = search writing
+
+pub returns-then-end-next : goal.returns-then-end-next
+returns-then-end-next c = search writing
+
+pub loop-i-preserved : goal.loop-i-preserved
+loop-i-preserved c = search writing
+
+pub returns : goal.returns
+returns c = search writing
