@@ -1,5 +1,5 @@
 /* C and C++ interface of the framed notice on x86-64: the functions exported by the archive that
-   `rt staticlib notice_c` builds (target/staticlib/libnotice_c.a). The functions are proved
+   `rt lib` in crates/notice_c builds (crates/notice_c/out/libnotice_c.a). The functions are proved
    (crates/notice_c); this header, its inline functions included, is written by hand. Link with
    `cc program.c libnotice_c.a`; no other library is needed.
 
