@@ -1,4 +1,6 @@
 // Output of the test programs: numbers, and rows of cells as text, one byte for each cell.
+#![tactic(auto)]
+
 use libc::STDOUT_FILENO;
 
 // Returns the byte of a cell's symbol, `_` for a blank.
