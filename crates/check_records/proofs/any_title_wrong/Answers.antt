@@ -1,9 +1,6 @@
 -- `check_records::any_title_wrong` meets its contract.
 use Rattle.text.proofs.TextLines.{rest-within}
-use Prim.Native.Nat.{◌-◌}
-use mathlib.Core.Path.{◌≡◌}
-use lib.ListN.{length}
-use Rattle.refuse.proofs.TitleScan.{Scanning, scanning}
+use Rattle.refuse.proofs.TitleScan.{scanning}
 use native.Mathlib.Omega.{arith}
 use borrow.Author.Rules.{rules}
 use Rattle.check_records.proofs.any_title_wrong.Goals as goal

@@ -1,6 +1,5 @@
 -- `check_records::glyph_has_no_style` meets its contract.
 use Rattle.refuse.proofs.Checks.{glyphs-styled}
-use borrow.Author.Rules.{rules}
 use Rattle.check_records.proofs.glyph_has_no_style.Goals as goal
 
 pub returns-then-is_head : goal.returns-then-is_head

@@ -1,7 +1,6 @@
 -- `check_records::glyph_styles_wrong` meets its contract.
 use Rattle.refuse.proofs.Passes.{glyphs-all}
 use Rattle.refuse.proofs.Counts.{any_counted}
-use borrow.Author.Rules.{rules}
 use Rattle.check_records.proofs.glyph_styles_wrong.Goals as goal
 
 pub returns : goal.returns

@@ -1,10 +1,5 @@
 -- `check_records::glyphs_without_style` meets its contract.
-use Prim.Native.Nat.{◌-◌}
-use mathlib.Core.Logic.{⊎_elim}
-use lib.ListN.{length}
-use Rattle.text.proofs.Counting.{Counting, counting}
-use Rattle.refuse.specs.ScanExtra.{glyph_no_style}
-use borrow.Author.Rules.{rules}
+use Rattle.text.proofs.Counting.{counting}
 use Rattle.check_records.proofs.glyphs_without_style.Goals as goal
 use Rattle.check_records.proofs.glyphs_without_style.Goals.{else-glyph_has_no_style, then-glyph_has_no_style}
 

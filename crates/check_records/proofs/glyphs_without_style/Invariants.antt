@@ -1,10 +1,8 @@
 -- `check_records::glyphs_without_style` meets its contract.
 use Prim.Native.Nat.{◌-◌}
-use mathlib.Core.Logic.{⊎_elim}
 use lib.ListN.{length}
-use Rattle.text.proofs.Counting.{Counting, counting}
+use Rattle.text.proofs.Counting.{Counting}
 use Rattle.refuse.specs.ScanExtra.{glyph_no_style}
-use borrow.Author.Rules.{rules}
 use Rattle.check_records.proofs.glyphs_without_style.Given as goal
 
 abbrev pub invariant-loop-i : goal.invariant-loop-i

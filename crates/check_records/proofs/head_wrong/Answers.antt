@@ -1,6 +1,5 @@
 -- `check_records::head_wrong` meets its contract.
 use Rattle.refuse.proofs.Checks.{heads}
-use borrow.Author.Rules.{rules}
 use Rattle.check_records.proofs.head_wrong.Goals as goal
 
 pub returns-then-zeros-ne0 : goal.returns-then-zeros-ne0

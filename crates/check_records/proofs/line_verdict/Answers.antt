@@ -1,7 +1,6 @@
 -- `check_records::line_verdict` meets its contract.
 use Rattle.refuse.specs.Causes.{line_causes}
 use Rattle.refuse.proofs.Calls.{causes}
-use borrow.Author.Rules.{rules}
 use Rattle.check_records.proofs.line_verdict.Goals as goal
 
 pub returns-in-Refused : goal.returns-in-Refused

@@ -1,6 +1,5 @@
 -- `check_records::opens_without_head` meets its contract.
 use Rattle.refuse.proofs.Checks.{opening}
-use borrow.Author.Rules.{rules}
 use Rattle.check_records.proofs.opens_without_head.Goals as goal
 
 pub returns-then-records-eq0 : goal.returns-then-records-eq0

@@ -1,7 +1,6 @@
 -- `check_records::text_heads_wrong` meets its contract.
 use Rattle.refuse.proofs.Passes.{text-opens-wrong, text-opens}
 use Rattle.refuse.proofs.Counts.{any_counted}
-use borrow.Author.Rules.{rules}
 use Rattle.check_records.proofs.text_heads_wrong.Goals as goal
 
 pub returns-then-opens_without_head : goal.returns-then-opens_without_head

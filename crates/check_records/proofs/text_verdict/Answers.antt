@@ -1,7 +1,6 @@
 -- `check_records::text_verdict` meets its contract.
 use Rattle.refuse.specs.Causes.{text_causes}
 use Rattle.refuse.proofs.Calls.{causes}
-use borrow.Author.Rules.{rules}
 use Rattle.check_records.proofs.text_verdict.Goals as goal
 
 pub returns-then-text_too_long : goal.returns-then-text_too_long

@@ -1,6 +1,5 @@
 -- `check_records::title_wrong` meets its contract.
 use Rattle.refuse.proofs.Checks.{titled}
-use borrow.Author.Rules.{rules}
 use Rattle.check_records.proofs.title_wrong.Goals as goal
 
 pub returns-then-most-glyphs : goal.returns-then-most-glyphs

@@ -1,10 +1,5 @@
 -- `check_records::wrong_heads` meets its contract.
-use Prim.Native.Nat.{◌-◌}
-use mathlib.Core.Logic.{⊎_elim}
-use lib.ListN.{length}
-use Rattle.text.proofs.Counting.{Counting, counting}
-use Rattle.refuse.specs.Causes.{text_head_wrong}
-use borrow.Author.Rules.{rules}
+use Rattle.text.proofs.Counting.{counting}
 use Rattle.check_records.proofs.wrong_heads.Goals as goal
 use Rattle.check_records.proofs.wrong_heads.Goals.{else-head_wrong, then-head_wrong}
 

@@ -1,10 +1,8 @@
 -- `check_records::wrong_heads` meets its contract.
 use Prim.Native.Nat.{◌-◌}
-use mathlib.Core.Logic.{⊎_elim}
 use lib.ListN.{length}
-use Rattle.text.proofs.Counting.{Counting, counting}
+use Rattle.text.proofs.Counting.{Counting}
 use Rattle.refuse.specs.Causes.{text_head_wrong}
-use borrow.Author.Rules.{rules}
 use Rattle.check_records.proofs.wrong_heads.Given as goal
 
 abbrev pub invariant-loop-i : goal.invariant-loop-i

@@ -1,9 +1,6 @@
 -- `line_truncator::shown_run` meets its contract.
-use Prim.Native.Nat.{◌-◌}
 use native.Mathlib.Omega.{arith}
-use borrow.Author.Rules.{rules}
-use lib.ListN.{length}
-use Rattle.line_truncator.proofs.Truncating.{Showing, showing}
+use Rattle.line_truncator.proofs.Truncating.{showing}
 use Rattle.line_truncator.proofs.shown_run.Goals as goal
 use Rattle.line_truncator.proofs.shown_run.Goals.{else-offset-gt0, then-offset-gt0+else-w-offset}
 

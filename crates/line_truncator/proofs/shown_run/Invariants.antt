@@ -1,10 +1,7 @@
 -- `line_truncator::shown_run` meets its contract.
 use Prim.Native.Nat.{◌-◌}
-use mathlib.Core.Logic.{⊎_elim}
-use native.Mathlib.Omega.{arith}
-use borrow.Author.Rules.{rules}
 use lib.ListN.{length}
-use Rattle.line_truncator.proofs.Truncating.{Showing, showing}
+use Rattle.line_truncator.proofs.Truncating.{Showing}
 use Rattle.line_truncator.proofs.shown_run.Given as goal
 
 abbrev pub invariant-loop-i : goal.invariant-loop-i

@@ -1,5 +1,4 @@
 -- `line_truncator::truncate_line` meets its contract.
-use borrow.Author.Rules.{rules}
 use Rattle.line_truncator.proofs.truncate_line.Goals as goal
 
 pub returns : goal.returns

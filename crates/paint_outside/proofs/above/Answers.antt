@@ -1,6 +1,5 @@
 -- `paint_outside::above` meets its contract.
 use Rattle.paint_outside.specs.AroundExtra.{above}
-use borrow.Author.Rules.{rules}
 use Rattle.paint_outside.proofs.above.Goals as goal
 
 pub returns : goal.returns

@@ -1,6 +1,5 @@
 -- `paint_outside::below` meets its contract.
 use Rattle.paint_outside.specs.AroundExtra.{below}
-use borrow.Author.Rules.{rules}
 use Rattle.paint_outside.proofs.below.Goals as goal
 
 pub returns : goal.returns

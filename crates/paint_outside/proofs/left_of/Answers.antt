@@ -1,6 +1,5 @@
 -- `paint_outside::left_of` meets its contract.
 use Rattle.paint_outside.specs.AroundExtra.{left_of}
-use borrow.Author.Rules.{rules}
 use Rattle.paint_outside.proofs.left_of.Goals as goal
 
 pub returns : goal.returns

@@ -1,7 +1,6 @@
 -- `paint_outside::paint_other_rows` meets its contract.
 use Rattle.paint_outside.proofs.Parts.{parts-on-screen}
 use Rattle.paint_outside.proofs.Painted.{painted}
-use borrow.Author.Rules.{rules}
 use Rattle.paint_outside.proofs.paint_other_rows.Goals as goal
 
 pub paint_area-requires : goal.paint_area-requires

@@ -1,6 +1,5 @@
 -- `paint_outside::paint_outside` meets its contract.
 use Rattle.paint_outside.proofs.Painted.{painted}
-use borrow.Author.Rules.{rules}
 use Rattle.paint_outside.proofs.paint_outside.Goals as goal
 
 pub returns : goal.returns

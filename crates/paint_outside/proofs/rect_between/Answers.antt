@@ -1,5 +1,4 @@
 -- `paint_outside::rect_between` meets its contract.
-use borrow.Author.Rules.{rules}
 use Rattle.paint_outside.proofs.rect_between.Goals as goal
 
 pub returns : goal.returns

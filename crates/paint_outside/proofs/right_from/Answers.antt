@@ -1,6 +1,5 @@
 -- `paint_outside::right_from` meets its contract.
 use Rattle.paint_outside.specs.AroundExtra.{right_from}
-use borrow.Author.Rules.{rules}
 use Rattle.paint_outside.proofs.right_from.Goals as goal
 
 pub returns : goal.returns

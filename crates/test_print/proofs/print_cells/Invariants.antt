@@ -1,5 +1,4 @@
 -- `test_print::print_cells` meets its contract.
-use borrow.Author.Rules.{rules}
 use Prim.Native.Nat.{◌-◌, ◌≤◌}
 use lib.ListN.{length}
 use Rattle.test_print.proofs.print_cells.Given as goal

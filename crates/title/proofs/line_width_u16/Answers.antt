@@ -1,8 +1,5 @@
 -- `title::line_width_u16` meets its contract.
-use Prim.Native.Nat.{◌-◌}
-use lib.ListN.{length}
-use Rattle.title.proofs.Widths.{AddingWidths, adding}
-use borrow.Author.Rules.{rules}
+use Rattle.title.proofs.Widths.{adding}
 use Rattle.title.proofs.line_width_u16.Goals as goal
 
 pub loop-i-init : goal.loop-i-init

@@ -1,8 +1,7 @@
 -- `title::line_width_u16` meets its contract.
 use Prim.Native.Nat.{◌-◌}
 use lib.ListN.{length}
-use Rattle.title.proofs.Widths.{AddingWidths, adding}
-use borrow.Author.Rules.{rules}
+use Rattle.title.proofs.Widths.{AddingWidths}
 use Rattle.title.proofs.line_width_u16.Given as goal
 
 abbrev pub invariant-loop-i : goal.invariant-loop-i

@@ -1,6 +1,5 @@
 -- `title::render_title` meets its contract.
 use Rattle.title.proofs.TitleLine.{title-drawn}
-use borrow.Author.Rules.{rules}
 use Rattle.title.proofs.render_title.Goals as goal
 
 pub returns : goal.returns

@@ -1,7 +1,6 @@
 -- `title::render_title_line` meets its contract.
 use native.Mathlib.Omega.{arith}
 use Rattle.title.proofs.TitleLine.{row-end, line-drawn}
-use borrow.Author.Rules.{rules}
 use Rattle.title.proofs.render_title_line.Goals as goal
 
 pub overflow_mul-row : goal.overflow_mul-row

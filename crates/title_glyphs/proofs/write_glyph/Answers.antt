@@ -1,6 +1,5 @@
 -- `title_glyphs::write_glyph` meets its contract.
 use Rattle.title_glyphs.proofs.OneGlyph.{one-glyph}
-use borrow.Author.Rules.{rules}
 use Rattle.title_glyphs.proofs.write_glyph.Goals as goal
 
 pub returns-then-column-hidden : goal.returns-then-column-hidden

@@ -1,8 +1,5 @@
 -- `title_glyphs::write_glyphs` meets its contract.
-use Prim.Native.Nat.{◌-◌}
-use lib.ListN.{length}
-use Rattle.title_glyphs.proofs.Writing.{Writing, writing}
-use borrow.Author.Rules.{rules}
+use Rattle.title_glyphs.proofs.Writing.{writing}
 use Rattle.title_glyphs.proofs.write_glyphs.Goals as goal
 
 pub loop-i-init : goal.loop-i-init

@@ -1,8 +1,7 @@
 -- `title_glyphs::write_glyphs` meets its contract.
 use Prim.Native.Nat.{◌-◌}
 use lib.ListN.{length}
-use Rattle.title_glyphs.proofs.Writing.{Writing, writing}
-use borrow.Author.Rules.{rules}
+use Rattle.title_glyphs.proofs.Writing.{Writing}
 use Rattle.title_glyphs.proofs.write_glyphs.Given as goal
 
 abbrev pub invariant-loop-i : goal.invariant-loop-i

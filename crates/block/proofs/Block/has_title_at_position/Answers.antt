@@ -1,11 +1,7 @@
 -- `block::Block::has_title_at_position` meets its contract.
 -- before each turn: the remaining records contain a title at the position if and only if all records do
-use Prim.Native.Nat.{◌-◌}
-use mathlib.Core.Logic.{⊎_elim}
-use lib.ListN.{length}
-use Rattle.refuse.proofs.Passes.{Passing, passing}
-use Rattle.block.proofs.Titles.{of_record, head_is_at, titled}
-use borrow.Author.Rules.{rules}
+use Rattle.refuse.proofs.Passes.{passing}
+use Rattle.block.proofs.Titles.{titled}
 use Rattle.block.proofs.Block.has_title_at_position.Goals as goal
 use Rattle.block.proofs.Block.has_title_at_position.Goals.{else-is_head, then-is_head+else-is_at}
 

@@ -1,6 +1,5 @@
 -- `block::Block::inner` meets its contract.
 use Rattle.block.specs.Inner.{inner_of}
-use borrow.Author.Rules.{rules}
 use Rattle.block.proofs.Block.inner.Goals as goal
 
 pub returns : goal.returns

@@ -1,6 +1,5 @@
 -- `block::Block::present_at_bottom` meets its contract.
 use Rattle.text.proofs.Either.{either}
-use borrow.Author.Rules.{rules}
 use Rattle.block.proofs.Block.present_at_bottom.Goals as goal
 
 pub returns-then-borders : goal.returns-then-borders

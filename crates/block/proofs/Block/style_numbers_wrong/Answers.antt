@@ -1,6 +1,5 @@
 -- `block::Block::style_numbers_wrong` meets its contract.
 use Rattle.block.proofs.Settings.{block-styles}
-use borrow.Author.Rules.{rules}
 use Rattle.block.proofs.Block.style_numbers_wrong.Goals as goal
 
 pub returns-then-style_numbers_wrong : goal.returns-then-style_numbers_wrong

@@ -1,7 +1,6 @@
 -- `block::Block::symbols_wrong` meets its contract.
 use Rattle.block.specs.Causes.{block_symbols}
 use Rattle.text.proofs.Either.{either}
-use borrow.Author.Rules.{rules}
 use Rattle.block.proofs.Block.symbols_wrong.Goals as goal
 
 pub returns-then-symbols_wrong : goal.returns-then-symbols_wrong

@@ -1,6 +1,5 @@
 -- `block::Block::vertical_space` meets its contract.
 use Rattle.block.specs.Inner.{vertical_space}
-use borrow.Author.Rules.{rules}
 use Rattle.block.proofs.Block.vertical_space.Goals as goal
 
 pub returns : goal.returns

@@ -1,6 +1,5 @@
 -- `block::causes::shadow_symbol_wrong` meets its contract.
 use Rattle.block.proofs.Settings.{shadows}
-use borrow.Author.Rules.{rules}
 use Rattle.block.proofs.causes.shadow_symbol_wrong.Goals as goal
 
 pub returns-in_default-effect : goal.returns-in_default-effect

@@ -1,5 +1,4 @@
 -- `block::inner_area::inner_size` meets its contract.
-use borrow.Author.Rules.{rules}
 use Rattle.block.proofs.inner_area.inner_size.Goals as goal
 
 pub returns : goal.returns

@@ -1,5 +1,4 @@
 -- `block::inner_area::inner_start` meets its contract.
-use borrow.Author.Rules.{rules}
 use Rattle.block.proofs.inner_area.inner_start.Goals as goal
 
 pub returns-then-present : goal.returns-then-present

@@ -1,5 +1,4 @@
 -- `block::inner_area::space` meets its contract.
-use borrow.Author.Rules.{rules}
 use Rattle.block.proofs.inner_area.space.Goals as goal
 
 pub returns : goal.returns

@@ -1,7 +1,6 @@
 -- `check_settings::screen::screen_verdict` meets its contract.
 use Rattle.refuse.specs.Causes.{screen_causes}
 use Rattle.refuse.proofs.Calls.{causes}
-use borrow.Author.Rules.{rules}
 use Rattle.check_settings.proofs.screen.screen_verdict.Goals as goal
 
 pub returns-then-screen_wrong : goal.returns-then-screen_wrong

@@ -1,9 +1,5 @@
 -- `check_settings::styles::any_zeros_set` meets its contract.
-use Prim.Native.Nat.{◌-◌}
-use lib.ListN.{length}
-use Rattle.refuse.proofs.Passes.{Passing, passing}
-use Rattle.refuse.specs.Causes.{zeros_set}
-use borrow.Author.Rules.{rules}
+use Rattle.refuse.proofs.Passes.{passing}
 use Rattle.check_settings.proofs.styles.any_zeros_set.Goals as goal
 
 pub loop-i-init : goal.loop-i-init

@@ -1,9 +1,8 @@
 -- `check_settings::styles::any_zeros_set` meets its contract.
 use Prim.Native.Nat.{◌-◌}
 use lib.ListN.{length}
-use Rattle.refuse.proofs.Passes.{Passing, passing}
+use Rattle.refuse.proofs.Passes.{Passing}
 use Rattle.refuse.specs.Causes.{zeros_set}
-use borrow.Author.Rules.{rules}
 use Rattle.check_settings.proofs.styles.any_zeros_set.Given as goal
 
 abbrev pub invariant-loop-i : goal.invariant-loop-i

@@ -1,9 +1,5 @@
 -- `check_settings::styles::style_numbers_wrong` meets its contract.
-use Prim.Native.Nat.{◌-◌}
-use lib.ListN.{length}
-use Rattle.refuse.proofs.Passes.{Passing, passing}
-use Rattle.refuse.specs.Causes.{no_style}
-use borrow.Author.Rules.{rules}
+use Rattle.refuse.proofs.Passes.{passing}
 use Rattle.check_settings.proofs.styles.style_numbers_wrong.Goals as goal
 
 pub loop-i-init : goal.loop-i-init

@@ -1,9 +1,8 @@
 -- `check_settings::styles::style_numbers_wrong` meets its contract.
 use Prim.Native.Nat.{◌-◌}
 use lib.ListN.{length}
-use Rattle.refuse.proofs.Passes.{Passing, passing}
+use Rattle.refuse.proofs.Passes.{Passing}
 use Rattle.refuse.specs.Causes.{no_style}
-use borrow.Author.Rules.{rules}
 use Rattle.check_settings.proofs.styles.style_numbers_wrong.Given as goal
 
 abbrev pub invariant-loop-i : goal.invariant-loop-i

@@ -1,6 +1,5 @@
 -- `check_settings::styles::styles_wrong` meets its contract.
 use Rattle.refuse.proofs.Passes.{styles_many, styles-few}
-use borrow.Author.Rules.{rules}
 use Rattle.check_settings.proofs.styles.styles_wrong.Goals as goal
 
 pub returns-then-most-styles : goal.returns-then-most-styles

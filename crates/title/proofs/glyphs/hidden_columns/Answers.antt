@@ -1,6 +1,5 @@
 -- `title::glyphs::hidden_columns` meets its contract.
 use Rattle.title.proofs.TitleLine.{hidden-right}
-use borrow.Author.Rules.{rules}
 use Rattle.title.proofs.glyphs.hidden_columns.Goals as goal
 
 pub returns-in-Right : goal.returns-in-Right

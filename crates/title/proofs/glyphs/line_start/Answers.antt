@@ -1,6 +1,5 @@
 -- `title::glyphs::line_start` meets its contract.
 use Rattle.title.proofs.TitleLine.{start_right}
-use borrow.Author.Rules.{rules}
 use Rattle.title.proofs.glyphs.line_start.Goals as goal
 
 pub returns-in-Right : goal.returns-in-Right

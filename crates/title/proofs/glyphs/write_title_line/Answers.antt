@@ -1,6 +1,5 @@
 -- `title::glyphs::write_title_line` meets its contract.
 use Rattle.title.proofs.TitleLine.{starts-within, line-written}
-use borrow.Author.Rules.{rules}
 use Rattle.title.proofs.glyphs.write_title_line.Goals as goal
 
 pub slice_bounds-write_glyphs-count : goal.slice_bounds-write_glyphs-count

@@ -1,6 +1,5 @@
 -- `word_wrapper::WordWrapper::append_glyph` meets its contract.
 use Rattle.word_wrapper.proofs.StepLaws.{appended_space, appended-word}
-use borrow.Author.Rules.{rules}
 use Rattle.word_wrapper.proofs.WordWrapper.append_glyph.Goals as goal
 
 pub returns-then-space : goal.returns-then-space

@@ -1,6 +1,5 @@
 -- `word_wrapper::WordWrapper::append_or_drop` meets its contract.
 use Rattle.word_wrapper.proofs.StepLaws.{rest-dropped, rest_space, rest-word}
-use borrow.Author.Rules.{rules}
 use Rattle.word_wrapper.proofs.WordWrapper.append_or_drop.Goals as goal
 
 pub returns-then-self-eq0 : goal.returns-then-self-eq0

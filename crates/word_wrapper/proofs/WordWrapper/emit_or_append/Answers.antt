@@ -2,7 +2,6 @@
 use Rattle.word_wrapper.proofs.StepLaws.{filled-emits, filled_goes}
 use Rattle.word_wrapper.proofs.Pulling.{sound-sum, sound-within, sound-spaces, emptied-fits, emptied_next}
 use native.Mathlib.Omega.{arith}
-use borrow.Author.Rules.{rules}
 use Rattle.word_wrapper.proofs.WordWrapper.emit_or_append.Goals as goal
 
 pub is_full-requires : goal.is_full-requires

@@ -1,5 +1,4 @@
 -- `word_wrapper::WordWrapper::new` meets its contract.
-use borrow.Author.Rules.{rules}
 use Rattle.word_wrapper.proofs.WordWrapper.new.Goals as goal
 
 pub returns : goal.returns

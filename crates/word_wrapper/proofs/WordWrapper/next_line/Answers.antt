@@ -1,9 +1,6 @@
 -- `word_wrapper::WordWrapper::next_line` meets its contract.
-use Prim.Native.Nat.{◌-◌}
-use lib.ListN.{length}
-use Rattle.word_wrapper.proofs.Pulling.{Pulling, pulling, sound-sum, sound-within}
+use Rattle.word_wrapper.proofs.Pulling.{pulling, sound-sum, sound-within}
 use native.Mathlib.Omega.{arith}
-use borrow.Author.Rules.{rules}
 use Rattle.word_wrapper.proofs.WordWrapper.next_line.Goals as goal
 
 pub loop-wrapper-init : goal.loop-wrapper-init

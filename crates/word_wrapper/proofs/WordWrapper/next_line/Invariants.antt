@@ -1,9 +1,7 @@
 -- `word_wrapper::WordWrapper::next_line` meets its contract.
 use Prim.Native.Nat.{◌-◌}
 use lib.ListN.{length}
-use Rattle.word_wrapper.proofs.Pulling.{Pulling, pulling, sound-sum, sound-within}
-use native.Mathlib.Omega.{arith}
-use borrow.Author.Rules.{rules}
+use Rattle.word_wrapper.proofs.Pulling.{Pulling}
 use Rattle.word_wrapper.proofs.WordWrapper.next_line.Given as goal
 
 abbrev pub invariant-loop-wrapper : goal.invariant-loop-wrapper
