@@ -1,6 +1,5 @@
 -- `render_borders::render_edge` meets its contract.
 use Rattle.render_borders.proofs.Borders.{borders}
-use borrow.Author.Rules.{rules}
 use Rattle.render_borders.proofs.render_edge.Goals as goal
 
 pub returns-then-edge : goal.returns-then-edge

@@ -15,13 +15,13 @@ render_edge-requires-2 c = record { symbol_bound = search (fitting, parts-on-scr
 
 pub render_edge-requires-3 : goal.render_edge-requires-3
 render_edge-requires-3 c = let pre = c.requires in
-    let kept = c.render_edge-2.auto.1.0 ∙ c.render_edge.auto.1.0 in
-    (search fitting, search parts-on-screen)
+    let kept = c.render_edge-2.auto.cells ∙ c.render_edge.auto.cells in
+    record { symbol_bound = search fitting; on_screen = search parts-on-screen }
 
 pub render_edge-requires-4 : goal.render_edge-requires-4
 render_edge-requires-4 c = let pre = c.requires in
-    let kept = c.render_edge-3.auto.1.0 ∙ c.render_edge-2.auto.1.0 ∙ c.render_edge.auto.1.0 in
-    (search fitting, search parts-on-screen)
+    let kept = c.render_edge-3.auto.cells ∙ c.render_edge-2.auto.cells ∙ c.render_edge.auto.cells in
+    record { symbol_bound = search fitting; on_screen = search parts-on-screen }
 
 pub returns : goal.returns
 unfolding sides
