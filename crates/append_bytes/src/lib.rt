@@ -1,4 +1,6 @@
 // Appends bytes to the text in a borrowed buffer.
+#![tactic(auto)]
+
 ghost use Rattle.std.specs.Prelude.{◌+◌, ◌<◌, ◌≤◌, [], ◌∷◌, length};
 ghost use Rattle.append_bytes.specs.WrittenExtra.{Written};
 

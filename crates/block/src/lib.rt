@@ -1,4 +1,6 @@
 // Settings of a block, its inner area and the space that its frame takes (block.rs).
+#![tactic(auto)]
+
 use padding::Padding;
 use text::{Alignment, TitlePosition};
 

@@ -1,4 +1,6 @@
 // The sides and corners of a block's area (block.rs: the tables in `Block::render_sides` and `Block::render_corners`).
+#![tactic(auto)]
+
 ghost use Rattle.std.specs.Prelude.{◌≡◌, ◌&&◌, ◌-◌};
 ghost use Rattle.layout.specs.Rect.{right_of, bottom_of};
 ghost use Rattle.border_edges.specs.Edges.{left_edge, top_edge, right_edge, bottom_edge, bottom_right_edge, top_right_edge, bottom_left_edge, top_left_edge};

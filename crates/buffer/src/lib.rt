@@ -1,4 +1,6 @@
 // The cells of a screen; applying a style or a symbol to the cells of a rectangle (`Buffer` of ratatui-core).
+#![tactic(auto)]
+
 ghost use Rattle.std.specs.Prelude.{◌≡◌, ◌+◌, ◌*◌, ◌<◌, ◌≤◌, length};
 ghost use Rattle.buffer.specs.Drawing.{changed, drawn, over, area_of, style_at};
 ghost use Rattle.buffer.specs.InkExtra.{inked, SymbolFits};

@@ -1,4 +1,6 @@
 // Cell, 64 bits: symbol 21 | foreground 8 | background 8 | modifiers 9 | 18 bits never touched.
+#![tactic(auto)]
+
 ghost use Rattle.std.specs.Prelude.{◌≡◌, cond, ◌-◌, ◌<◌, ◌^◌};
 ghost use Rattle.std.specs.Int.Bits.{bit_and, bit_or};
 ghost use Rattle.cell.specs.Cell.{Cell, cell_from, cell_packed, blank_cell, with_symbol, with_untouched, appearance_of, styled};

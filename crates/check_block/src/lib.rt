@@ -1,4 +1,6 @@
 // Checks of a block and its titles: cause 6, and causes 5 and 7 for calls without styles.
+#![tactic(auto)]
+
 ghost use Rattle.std.specs.Prelude.{◌≡◌};
 ghost use Rattle.refuse.specs.Refusal.{first_cause};
 ghost use Rattle.refuse.specs.Causes.{style_numbers_wrong};

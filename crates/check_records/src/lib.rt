@@ -1,4 +1,6 @@
 // Checks of the records of a text and of titles: causes 3, 4, 5, cause 6 for glyphs, and the verdicts of calls with a text.
+#![tactic(auto)]
+
 ghost use Rattle.std.specs.Prelude.{◌≡◌};
 ghost use Rattle.text.specs.Line.{not_opening, Opens};
 ghost use Rattle.text.specs.Lists.{count_of};

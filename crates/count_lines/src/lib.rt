@@ -1,4 +1,6 @@
 // Counts the composed lines of a wrapped text.
+#![tactic(auto)]
+
 ghost use Rattle.std.specs.Prelude.{◌≡◌, length};
 ghost use Rattle.text.specs.Line.{Opens, FewRecords};
 ghost use Rattle.line_composer.specs.declared.Method.TheVariants.{WordWrap};

@@ -1,5 +1,7 @@
 // The call `pages`: the inner area of a notice on its screen, its lines and its pages. Unlike `inner`, which takes the area as
 // given, it first takes the intersection of area and screen, as drawing does: paging by its height skips no line.
+#![tactic(auto)]
+
 ghost use Rattle.std.specs.Prelude.{◌≡◌, ◌<◌, ◌^◌, length};
 ghost use Rattle.text.specs.Line.{Opens, FewRecords};
 ghost use Rattle.paragraph.specs.Notice.{settings_of, notice_lines};

@@ -1,4 +1,6 @@
 // The call `draw_block`.
+#![tactic(auto)]
+
 ghost use Rattle.std.specs.Prelude.{◌≡◌};
 ghost use Rattle.draw_block.specs.Call.{call_of, verdict_of, answer_of, cells_after};
 

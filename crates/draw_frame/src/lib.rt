@@ -1,4 +1,6 @@
 // The call `draw_frame`: checks its inputs, then draws the frame of a notice.
+#![tactic(auto)]
+
 ghost use Rattle.std.specs.Prelude.{◌≡◌};
 ghost use Rattle.refuse.specs.Causes.{style_numbers_wrong};
 ghost use Rattle.draw_frame.specs.Call.{call_of, notice_frame_styles, verdict_of, answer_of, cells_after};

@@ -1,4 +1,6 @@
 // The checks of the calls that take a whole notice, frame and text: causes 1 to 7, in the order of the combined drawing.
+#![tactic(auto)]
+
 ghost use Rattle.std.specs.Prelude.{◌≡◌};
 ghost use Rattle.refuse.specs.Causes.{style_numbers_wrong};
 ghost use Rattle.draw_notice.specs.Call.{call_of, notice_styles, verdict_of};

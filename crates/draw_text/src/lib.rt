@@ -1,4 +1,6 @@
 // The call `draw_text`: checks its inputs, then lays the text of a notice into an area.
+#![tactic(auto)]
+
 ghost use Rattle.std.specs.Prelude.{◌≡◌};
 ghost use Rattle.refuse.specs.Causes.{style_numbers_wrong};
 ghost use Rattle.draw_text.specs.Call.{call_of, text_styles, verdict_of, answer_of, cells_after};

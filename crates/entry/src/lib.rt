@@ -1,4 +1,6 @@
 // Entry of a composed line, 64 bits: first 15 | end 15 | width 16 | alignment 2 | mark 1 | 15 zeros.
+#![tactic(auto)]
+
 ghost use Rattle.std.specs.Prelude.{◌≡◌, ◌<◌, ◌^◌};
 ghost use Rattle.entry.specs.Entry.{entry_first, entry_end, entry_width, entry_alignment, entry_mark, mark_number, entry_marked};
 

@@ -1,5 +1,7 @@
 // Settings as flat structs of numbers, for callers without enums, and the case that each number names. include/notice.h
 // declares the structs in C.
+#![tactic(auto)]
+
 ghost use Rattle.std.specs.Prelude.{◌≡◌, ◌&&◌};
 ghost use Rattle.flat.specs.FlatExtra.{unnamed, alignment_named, ambiguous_known, ambiguous_named, tally_known, list_known};
 ghost use Rattle.flat.specs.FlatExtra.{position_named, shadow_named, wrap_named, area_from, block_known, block_from, text_known, settings_from, notice_from};

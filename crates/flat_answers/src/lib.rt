@@ -1,4 +1,6 @@
 // The calls' answers as flat structs, for callers without enums.
+#![tactic(auto)]
+
 ghost use Rattle.std.specs.Prelude.{◌≡◌};
 ghost use Rattle.draw_block.specs.Call.{block_answer_number};
 ghost use Rattle.flat_answers.specs.AnswerExtra.{list_flat, tally_flat, area_flat, draw_flat, measure_flat, pages_flat};

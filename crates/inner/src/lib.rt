@@ -1,4 +1,6 @@
 // The call `inner`.
+#![tactic(auto)]
+
 ghost use Rattle.std.specs.Prelude.{◌≡◌};
 ghost use Rattle.inner.specs.Call.{call_of, answer_of};
 

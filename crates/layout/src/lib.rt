@@ -1,4 +1,6 @@
 // Rectangles of cells: `Rect` of ratatui-core.
+#![tactic(auto)]
+
 ghost use Rattle.std.specs.Prelude.{◌≡◌, ◌<◌, ◌^◌};
 ghost use Rattle.layout.specs.Rect.{right_of, bottom_of, meet, is_empty, within, contains, moved, offset_by};
 ghost use Rattle.layout.specs.BiasedExtra.{biased};

@@ -1,4 +1,5 @@
 // Composes the lines of a whole text, one at a time (reflow.rs: `LineComposer`).
+#![tactic(auto)]
 
 ghost use Rattle.std.specs.Prelude.{◌≡◌, ◌+◌, ◌^◌, ◌<◌, length};
 ghost use Rattle.text.specs.Line.{Opens, FewRecords};

@@ -1,4 +1,5 @@
 // Truncates one text line (reflow.rs: `LineTruncator`).
+#![tactic(auto)]
 
 ghost use Rattle.std.specs.Prelude.{◌≡◌, ◌<◌};
 ghost use Rattle.text.specs.Line.{numbered, FewRecords};

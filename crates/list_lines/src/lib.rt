@@ -1,4 +1,6 @@
 // The call `list_lines`: writes the composed lines of a wrapped text to a list.
+#![tactic(auto)]
+
 ghost use Rattle.std.specs.Prelude.{◌≡◌, ◌++◌, map, ◌+◌, ◌^◌, ◌≤◌, ◌<◌, length, drop};
 ghost use Rattle.text.specs.Line.{Opens};
 ghost use Rattle.line_composer.specs.declared.Method.TheVariants.{WordWrap};

@@ -1,4 +1,6 @@
 // Parses the input of the program `listlines`, high byte first: limit (2 bytes), trim (byte 0 or 1), then records of 4 bytes.
+#![tactic(auto)]
+
 ghost use Rattle.std.specs.Prelude.{◌≡◌, ◌+◌, ◌<◌, ◌≤◌, ◌++◌, length, drop};
 ghost use Rattle.listlines_input.specs.Input.{limit_of, number_at, records_of, most_records, incomplete, trim_wrong, parsed_of, holding};
 

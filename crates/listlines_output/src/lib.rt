@@ -1,4 +1,6 @@
 // Writes the output of the program `listlines` to a buffer.
+#![tactic(auto)]
+
 ghost use Rattle.std.specs.Prelude.{◌+◌, ◌*◌, ◌<◌, ◌≤◌, ◌++◌, length};
 ghost use Rattle.append_bytes.specs.WrittenExtra.{Written};
 ghost use Rattle.listlines_output.specs.Output.{decimal, number_text, count_text, refused_text};

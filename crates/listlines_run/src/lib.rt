@@ -1,4 +1,6 @@
 // The program `listlines`: reads a limit, a trim byte and records, and prints the composed lines or the number of the refusal.
+#![tactic(auto)]
+
 ghost use Rattle.std.specs.Prelude.{◌≡◌, ◌+◌, ◌*◌, ◌≤◌, length, take};
 ghost use Rattle.io.specs.Counts.{IsPrefixLen};
 ghost use Rattle.listlines_input.specs.Input.{most_records};

@@ -1,4 +1,6 @@
 // The calls `line_count` and `line_width`: paragraph.rs: `Paragraph::line_count` and `Paragraph::line_width`.
+#![tactic(auto)]
+
 ghost use Rattle.std.specs.Prelude.{◌≡◌};
 ghost use Rattle.measure.specs.LineWidth.{call_of as width_call, verdict_of as widthVerdict, answer_of as widthAnswer};
 ghost use Rattle.measure.specs.LineCount.{call_of as count_call, verdict_of as countVerdict, answer_of as countAnswer};

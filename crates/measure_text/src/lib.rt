@@ -1,5 +1,7 @@
 // Parts of `Paragraph::line_count` and `Paragraph::line_width` (paragraph.rs): the line count at a width, the widest line, and
 // the sum of a space's two numbers.
+#![tactic(auto)]
+
 ghost use Rattle.std.specs.Prelude.{◌≡◌};
 ghost use Rattle.text.specs.Line.{lines_from, Opens, FewRecords};
 ghost use Rattle.measure_text.specs.Measures.{lines_at, both, widest};

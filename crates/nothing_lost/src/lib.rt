@@ -1,1 +1,2 @@
 // No code: theorems about the wrapping rules, in proofs/.
+#![tactic(auto)]

@@ -1,5 +1,6 @@
 // The public API of the framed notice: all calls and their types. No call has a precondition, and each one's contract, where it
 // is declared, gives its whole answer. Nothing else in these crates is meant to be called.
+#![tactic(auto)]
 
 // Settings.
 pub use block::{Block, BorderSet, Borders, Effect, Shadow};

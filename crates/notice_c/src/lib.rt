@@ -1,5 +1,7 @@
 // The calls that C and Rust programs link to, declared in include/notice.h. Each is the call of the same name in `notice`, with
 // settings and answers as flat structs. If a setting's number names no case, the call returns 255 and changes nothing.
+#![tactic(auto)]
+
 ghost use Rattle.std.specs.Prelude.{◌≡◌, cond, ◌&&◌};
 ghost use Rattle.list_lines.specs.Call.{call_of as listCall, answer_of as listAnswer, list_after};
 ghost use Rattle.tally.specs.Call.{call_of as tallyCall, answer_of as tallyAnswer};

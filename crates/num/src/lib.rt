@@ -1,4 +1,6 @@
 // Saturating 16-bit sums and differences, min and max; saturating difference of sizes; a byte as a number.
+#![tactic(auto)]
+
 ghost use Rattle.std.specs.Prelude.{◌≡◌, ◌+◌, ◌-◌, ◌<◌, min, max};
 ghost use Rattle.num.specs.Held.{held};
 

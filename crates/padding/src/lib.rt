@@ -1,4 +1,6 @@
 // Padding of a block, and its constructors (block/padding.rs).
+#![tactic(auto)]
+
 ghost use Rattle.std.specs.Prelude.{◌≡◌, ◌*◌};
 ghost use Rattle.num.specs.Held.{held};
 ghost use Rattle.padding.specs.Padding.{padding_of};

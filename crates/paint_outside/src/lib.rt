@@ -1,4 +1,6 @@
 // Painting the cells of one rectangle outside another.
+#![tactic(auto)]
+
 ghost use Rattle.std.specs.Prelude.{◌≡◌, [], ◌∷◌, length};
 ghost use Rattle.buffer.specs.Drawing.{drawn, over, sparing, in_order};
 ghost use Rattle.buffer.specs.InkExtra.{inked, SymbolFits};

@@ -1,4 +1,6 @@
 // Drawing of a notice, its frame and its text apart: paragraph.rs: `Paragraph::render` and `Paragraph::render_paragraph`.
+#![tactic(auto)]
+
 ghost use Rattle.std.specs.Prelude.{◌≡◌, false, [], ◌∷◌, ◌<◌, ◌^◌, length};
 ghost use Rattle.text.specs.Line.{Opens};
 ghost use Rattle.cell.specs.Cell.{styled};

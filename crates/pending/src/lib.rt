@@ -1,4 +1,5 @@
 // Pending part of the word wrapper's state, and the tests of `WordWrapper::process_input` in reflow.rs on it.
+#![tactic(auto)]
 
 ghost use Rattle.std.specs.Prelude.{◌≡◌, ◌&&◌, ◌+◌, ◌^◌, ◌<◌};
 ghost use Rattle.pending.specs.TestsExtra.{gather_run, overflowing, joins, full_run, last_run};

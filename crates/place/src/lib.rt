@@ -1,5 +1,7 @@
 // What becomes of a glyph of a composed line at an edge: the right edge of the text's area where it is drawn, the limit where it is
 // tallied.
+#![tactic(auto)]
+
 ghost use Rattle.std.specs.Prelude.{◌≡◌, ◌+◌, ◌^◌, ◌<◌};
 ghost use Rattle.place.specs.Place.{place_of};
 

@@ -8,6 +8,8 @@
 //
 // and nothing after. It has at most 131,072 bytes, 256 styles, 8,192 title records and 24,576 text records: more than the calls
 // accept, so that their refusals can be seen.
+#![tactic(auto)]
+
 ghost use Rattle.std.specs.Prelude.{◌≡◌, ◌≤◌, length};
 ghost use Rattle.preview_file.specs.FileExtra.{most_styles, most_titles, most_text, unmarked, judged, SizesFit, parsed_of};
 ghost use Rattle.preview_file.specs.FileExtra.{styles_held, titles_held, text_held};

@@ -1,4 +1,6 @@
 // Prints the output of `preview`: the rows of a screen, and messages.
+#![tactic(auto)]
+
 ghost use Rattle.std.specs.Prelude.{◌+◌, ◌*◌, ◌≤◌, length};
 
 use libc::STDOUT_FILENO;

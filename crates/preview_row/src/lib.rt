@@ -1,5 +1,7 @@
 // Writes a row of cells as text, with escape sequences for colours and modifiers if asked. The bits of a cell that drawing never
 // touches hold the width of its symbol here, or 0, which covers no more cells than 1; cells that a wide symbol covers are skipped.
+#![tactic(auto)]
+
 ghost use Rattle.std.specs.Prelude.{◌≡◌, ◌+◌, ◌-◌, ◌*◌, ◌≤◌, length};
 ghost use Rattle.append_bytes.specs.WrittenExtra.{Written};
 ghost use Rattle.preview_row.specs.RowExtra.{style_text, cell_text, step_text, style_after, covered_after, cells_text, end_text, row_text};

@@ -1,4 +1,6 @@
 // The program `preview`: reads a notice in packed form, draws it, and prints its pages and the tally.
+#![tactic(auto)]
+
 mod arguments;
 mod showing;
 

@@ -1,4 +1,6 @@
 // Writes a cell's colours and modifiers as an escape sequence.
+#![tactic(auto)]
+
 ghost use Rattle.std.specs.Prelude.{◌≡◌, [], ◌∷◌, ◌++◌, ◌+◌, ◌<◌, ◌≤◌, length};
 ghost use Rattle.append_bytes.specs.WrittenExtra.{Written};
 ghost use Rattle.cell.specs.Cell.{cell_from};

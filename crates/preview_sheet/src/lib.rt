@@ -1,5 +1,7 @@
 // Draws and measures the notice of an opening of the packed form, for `preview`; also its pages and the widths of the symbols
 // in its cells.
+#![tactic(auto)]
+
 pub mod paging;
 pub mod widths;
 

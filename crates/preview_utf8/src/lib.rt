@@ -1,4 +1,6 @@
 // Writes a symbol as UTF-8. One that can't be shown is replaced, so that no control character reaches the terminal.
+#![tactic(auto)]
+
 ghost use Rattle.std.specs.Prelude.{◌≡◌, ◌+◌, ◌<◌, ◌≤◌, length};
 ghost use Rattle.append_bytes.specs.WrittenExtra.{Written};
 ghost use Rattle.preview_utf8.specs.Utf8Extra.{in_range, hidden, shown, following, encoded, utf8};

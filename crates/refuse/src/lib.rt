@@ -1,4 +1,6 @@
 // Causes of refusal and their numbers; `check_settings`, `check_records` and `check_block` have the checks.
+#![tactic(auto)]
+
 ghost use Rattle.std.specs.Prelude.{◌≡◌};
 ghost use Rattle.refuse.specs.Refusal.{refusal_number, verdict_number};
 ghost use Rattle.refuse.specs.Causes.{most_accepted};

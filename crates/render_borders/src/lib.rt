@@ -1,4 +1,6 @@
 // Drawing of a block's sides and corners.
+#![tactic(auto)]
+
 ghost use Rattle.std.specs.Prelude.{◌≡◌, false, [], ◌∷◌, ◌<◌, ◌^◌, length};
 ghost use Rattle.layout.specs.Rect.{is_empty};
 ghost use Rattle.buffer.specs.Drawing.{drawn, in_order};

@@ -1,4 +1,6 @@
 // Writing of a composed line's glyphs on a row: the loop of paragraph.rs: `render_line`.
+#![tactic(auto)]
+
 ghost use Rattle.std.specs.Prelude.{◌≡◌, ◌+◌, ◌^◌, ◌<◌, length, get_or, set};
 ghost use Rattle.text.specs.Line.{FewRecords};
 ghost use Rattle.place.specs.Place.{place_of};

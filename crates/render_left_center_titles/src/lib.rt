@@ -1,4 +1,6 @@
 // Drawing of titles from left to right: left titles, and centred titles with or without truncation.
+#![tactic(auto)]
+
 ghost use Rattle.std.specs.Prelude.{◌≡◌, false, ◌<◌, length};
 ghost use Rattle.text.specs.declared.Alignment.TheVariants.{Left, Center};
 ghost use Rattle.text.specs.Line.{Opens};

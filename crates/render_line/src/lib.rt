@@ -1,4 +1,6 @@
 // Drawing of one composed line on a row of the text's area: paragraph.rs: `render_line` and `get_line_offset`.
+#![tactic(auto)]
+
 ghost use Rattle.std.specs.Prelude.{◌≡◌, ◌+◌, ◌≤◌, ◌<◌, length};
 ghost use Rattle.text.specs.Line.{total, FewRecords};
 ghost use Rattle.layout.specs.Rect.{right_of};

@@ -1,4 +1,6 @@
 // Drawing of a text's lines in an area: paragraph.rs: `render_lines` and the line skipping of `Paragraph::render_paragraph`.
+#![tactic(auto)]
+
 ghost use Rattle.std.specs.Prelude.{◌≡◌, length};
 ghost use Rattle.buffer.specs.Drawing.{drawn};
 ghost use Rattle.buffer.specs.PartsExtra.{AreaOnScreen};

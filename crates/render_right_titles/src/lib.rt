@@ -1,4 +1,6 @@
 // Drawing of right titles, the last one first.
+#![tactic(auto)]
+
 ghost use Rattle.std.specs.Prelude.{◌≡◌, reverse, ◌<◌, length};
 ghost use Rattle.text.specs.declared.Alignment.TheVariants.{Right};
 ghost use Rattle.buffer.specs.Drawing.{drawn};

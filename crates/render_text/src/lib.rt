@@ -1,4 +1,6 @@
 // Drawing of a notice's text in an area: the body of paragraph.rs: `Paragraph::render_paragraph`.
+#![tactic(auto)]
+
 ghost use Rattle.std.specs.Prelude.{◌≡◌, false, length};
 ghost use Rattle.layout.specs.Rect.{is_empty};
 ghost use Rattle.buffer.specs.Drawing.{drawn};

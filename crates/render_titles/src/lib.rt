@@ -1,4 +1,6 @@
 // Drawing of a block's titles (`Block::render_titles` in block.rs and the functions that it calls).
+#![tactic(auto)]
+
 ghost use Rattle.std.specs.Prelude.{◌≡◌, false, ◌<◌, ◌^◌, length};
 ghost use Rattle.text.specs.Line.{Opens};
 ghost use Rattle.layout.specs.Rect.{is_empty};

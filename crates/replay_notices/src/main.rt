@@ -2,6 +2,8 @@
 // frame, then the text into the area that it answers; data/frames and data/texts have those of each call alone, the text in the case's
 // area. If a glyph is clipped, the Rust writes it, inside the area or outside, or panics, so the checksum is that of the answer of documents 01
 // and 02, from the independent implementation in oracle/rules. Then prints document 01's examples of unwrapped lines as rows of symbols.
+#![tactic(auto)]
+
 mod examples;
 mod kinds;
 mod replaying;

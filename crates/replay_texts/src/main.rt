@@ -1,5 +1,7 @@
 // Compares the port with the original Rust on texts: data/wrapped, data/tally, data/truncated and data/measures have the checksum
 // of its answer to each case.
+#![tactic(auto)]
+
 mod data;
 mod replaying;
 mod report;

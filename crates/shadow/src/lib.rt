@@ -1,4 +1,6 @@
 // Drawing of a block's shadow (block/shadow.rs).
+#![tactic(auto)]
+
 ghost use Rattle.std.specs.Prelude.{◌≡◌, [], ◌∷◌, length};
 ghost use Rattle.cell.specs.Cell.{styled};
 ghost use Rattle.buffer.specs.Drawing.{drawn, in_order};

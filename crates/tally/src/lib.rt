@@ -1,4 +1,5 @@
 // The call `tally`: counts of a text's composed lines and glyphs.
+#![tactic(auto)]
 
 mod tallying;
 

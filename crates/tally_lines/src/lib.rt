@@ -1,4 +1,6 @@
 // Counting of a text's composed lines, and of their glyphs by kind.
+#![tactic(auto)]
+
 ghost use Rattle.std.specs.Prelude.{◌≡◌, [], ◌∷◌, ◌+◌, ◌^◌, ◌≤◌, ◌<◌, length};
 ghost use Rattle.text.specs.declared.Alignment.TheVariants.{Left};
 ghost use Rattle.text.specs.Line.{Opens, FewRecords};

@@ -1,4 +1,6 @@
 // Checksums of the port's answers on test texts, blocks and notices.
+#![tactic(auto)]
+
 pub mod blocks;
 mod measures;
 pub mod notices;

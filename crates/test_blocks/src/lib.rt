@@ -1,5 +1,7 @@
 // Test blocks, each generated from its case number, and their parts: borders, shadows, titles, areas, and 64-bit words for styles
 // and cells.
+#![tactic(auto)]
+
 pub mod areas;
 mod axes;
 mod borders;

@@ -1,4 +1,6 @@
 // Test notices, each generated from its case number.
+#![tactic(auto)]
+
 mod drawn;
 pub mod parts;
 mod settings;

@@ -1,4 +1,6 @@
 // Checksums by which answers are compared.
+#![tactic(auto)]
+
 ghost use Rattle.std.specs.Prelude.{◌≡◌};
 ghost use Rattle.test_sums.specs.SumsExtra.{with_number, with_entry, entries_sum};
 

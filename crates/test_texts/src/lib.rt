@@ -1,4 +1,6 @@
 // Test texts, each generated from its case number, so that another program can generate the same texts.
+#![tactic(auto)]
+
 mod long;
 pub mod numbers;
 pub mod parts;

@@ -6,6 +6,8 @@
 // rows and glyphs are compared with those of `tally`.
 //
 // The inputs are in data/, written by oracle/trials. Last come the cases of `listlines` and `preview`.
+#![tactic(auto)]
+
 mod calling;
 mod calls;
 mod listed;

@@ -1,4 +1,6 @@
 // Records of a text and of titles: glyphs, heads, and the lines that heads open.
+#![tactic(auto)]
+
 ghost use Rattle.std.specs.Prelude.{◌≡◌};
 ghost use Rattle.text.specs.Alignment.{alignment_number};
 

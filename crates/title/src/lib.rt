@@ -1,4 +1,5 @@
 // Drawing of one title in its area (ratatui's `Line::render`, whose meaning document 01 gives).
+#![tactic(auto)]
 
 mod glyphs;
 

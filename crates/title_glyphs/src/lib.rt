@@ -1,4 +1,5 @@
 // Writing of a title line's glyphs on a slice of a row (part of ratatui's `Line::render`).
+#![tactic(auto)]
 
 ghost use Rattle.std.specs.Prelude.{◌≡◌, ◌+◌, ◌^◌, ◌≤◌, ◌<◌, length};
 ghost use Rattle.text.specs.Record.{width_of};

@@ -1,4 +1,6 @@
 // Selection and placement of a block's titles. The crate `render_titles` draws them.
+#![tactic(auto)]
+
 use layout::Rect;
 use text::{Alignment, TitlePosition};
 

@@ -1,4 +1,6 @@
 // Wraps one text line: `WordWrapper` of reflow.rs, with its pending graphemes as runs of records.
+#![tactic(auto)]
+
 use wrapping::Run;
 
 mod process_input;

@@ -1,4 +1,6 @@
 // Wrapping of a text line: the rule, and runs of records, which replace the pending graphemes of reflow.rs.
+#![tactic(auto)]
+
 mod runs;
 
 ghost use Rattle.std.specs.Prelude.{◌≡◌, ◌≤◌, min};
