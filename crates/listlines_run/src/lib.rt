@@ -7,9 +7,10 @@ ghost use Rattle.listlines_input.specs.Input.{most_records};
 ghost use Rattle.listlines_run.specs.Program.{answer_for, answer_of, list_of};
 ghost use Rattle.listlines_run.specs.Printed.{printed_of};
 
-use libc::STDOUT_FILENO;
 use list_lines::ListAnswer;
 use listlines_input::Parsed;
+use std::io;
+use std::io::{Read, Write};
 use text::{Alignment, AmbiguousWidth};
 
 mod read;
@@ -71,13 +72,13 @@ fn output_for(input: &[u8], text: &mut [u32], list: &mut [u64], output: &mut [u8
     }
 }
 
-// Runs the program: reads from a descriptor, prints to standard output.
-pub fn run(fd: i32) {
+// Runs the program: reads an input to its end, and writes the output.
+pub fn run(input: &mut impl Read, output: &mut impl Write) -> io::Result<()> {
     let mut buffer = [0u8; 16394];
-    let length = read::read_all(fd, &mut buffer);
+    let length = read::read_all(input, &mut buffer)?;
     let mut text = [0u32; 4096];
     let mut list = [0u64; 4096];
-    let mut output = [0u8; 122892];
-    let bytes = output_for(&buffer[..length], &mut text, &mut list, &mut output);
-    io::write_all(STDOUT_FILENO, &output[..bytes]);
+    let mut bytes = [0u8; 122892];
+    let printed = output_for(&buffer[..length], &mut text, &mut list, &mut bytes);
+    output.write_all(&bytes[..printed])
 }
