@@ -70,9 +70,9 @@ module _ (a b : AmbiguousWidth) (limit : ℕ) (trim : Bool) where
       rw (s.head, same-glyphs a b l k s, lines_unread a b limit trim method alignment (glyphs_of a k), e)) 0
 
   -- with their marks
-  same-marked : (method : Method) (default : Alignment) (text : List ℕ) → marked_lines v method default (replaced a text) ≡ marked_lines u method default text
+  same_marked : (method : Method) (default : Alignment) (text : List ℕ) → marked_lines v method default (replaced a text) ≡ marked_lines u method default text
   unfolding marked_lines line_lines
-  same-marked method default =
+  same_marked method default =
       lines-along a b (λ ls ks. all_marked v method default ls ≡ all_marked u method default ks) refl
       (λ l k ls ks s e.
       let alignment : Alignment = resolved (alignment_of k.head) default in
@@ -135,7 +135,7 @@ module _ (a b : AmbiguousWidth) (text : List ℕ) where
     unfolding list.answer_of list.list_after list.lines_of list.marked_lines_of
     list-resolved = (
       rw (list_verdict, same_lines a b limit trim WordWrap default text),
-      rw (list_verdict, same_lines a b limit trim WordWrap default text, same-marked a b limit trim WordWrap default text),
+      rw (list_verdict, same_lines a b limit trim WordWrap default text, same_marked a b limit trim WordWrap default text),
     )
 
   -- `tally`
@@ -237,8 +237,8 @@ ambiguous-resolved a b =
       counted = count-resolved a b;
       measured = width-resolved a b;
       framed = block-resolved a b;
-      frame-drawn = λ columns rows cells styles titles area style framed. frame-resolved a b columns rows cells styles titles area style framed;
-      text-drawn = λ columns rows cells styles records area s. text-resolved a b columns rows cells styles [] area records s;
+      frame_drawn = λ columns rows cells styles titles area style framed. frame-resolved a b columns rows cells styles titles area style framed;
+      text_drawn = λ columns rows cells styles records area s. text-resolved a b columns rows cells styles [] area records s;
       paged = λ columns rows cells styles text titles area n. pages-resolved a b columns rows cells styles titles area text n;
     }
 

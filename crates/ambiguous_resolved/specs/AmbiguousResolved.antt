@@ -39,12 +39,12 @@ pub record AmbiguousResolved (a b : AmbiguousWidth) : Type 0 where
       let new = block.call_of columns rows cells styles (replaced a titles) b area framed in
       (block.answer_of new ≡ block.answer_of old) × (block.cells_after new ≡ block.cells_after old)
   -- so is the frame of a notice
-  pub frame-drawn : (columns rows : ℕ) (cells styles titles : List ℕ) (area : Rect) (style : ℕ) (framed : Block) →
+  pub frame_drawn : (columns rows : ℕ) (cells styles titles : List ℕ) (area : Rect) (style : ℕ) (framed : Block) →
       let old = frame.call_of columns rows cells styles titles a area style framed in
       let new = frame.call_of columns rows cells styles (replaced a titles) b area style framed in
       (frame.answer_of new ≡ frame.answer_of old) × (frame.cells_after new ≡ frame.cells_after old)
   -- and its text, with its codes replaced
-  pub text-drawn : (columns rows : ℕ) (cells styles records : List ℕ) (area : Rect) (s : TextSettings) →
+  pub text_drawn : (columns rows : ℕ) (cells styles records : List ℕ) (area : Rect) (s : TextSettings) →
       let old = text.call_of columns rows cells styles records area (settings_read_as a s) in
       let new = text.call_of columns rows cells styles (replaced a records) area (settings_read_as b s) in
       (text.answer_of new ≡ text.answer_of old) × (text.cells_after new ≡ text.cells_after old)

@@ -27,8 +27,8 @@ unfolding in_rows over
 rows-over r f = refl
 
 -- the only row of a rectangle of height 1
-one-row : (y row : ℕ) → within y (y + 1) row ≡ eqb row y
-one-row y row =
+one_row : (y row : ℕ) → within y (y + 1) row ≡ eqb row y
+one_row y row =
     dite (ℕ_discrete row y)
     (λ e. rw (within-inside y (y + 1) row (omega arith) (omega arith), eq-eqb row y e))
     (λ n.
@@ -41,7 +41,7 @@ pub row_inside : (r : Rect) (f : ℕ → ℕ → ℕ) (column row cell : ℕ) �
 unfolding in_row inside
 row_inside r f column row cell high low =
     let b : bottom_of r ≡ r.y + 1 = omega arith in
-    rw (b, one-row r.y row)
+    rw (b, one_row r.y row)
 
 -- a loop over the rows of a rectangle within the screen; right and bottom are read before the loop
 module _ (s : Screen) (r : Rect) (right bottom : ℕ) (right_is : right ≡ right_of r) (bottom-is : bottom ≡ bottom_of r) where

@@ -30,11 +30,11 @@ pub record OnScreen (s : Screen) (cells : ℕ) (r : Rect) : Type 0 where
 pub record HasCells (s : Screen) (cells : ℕ) : Type 0 where
   pub columns : 0 < s.columns
   pub size : s.rows * s.columns ≤ cells
-  pub few-columns : s.columns < 2 ^ 15
-  pub few-rows : s.rows < 2 ^ 15
+  pub few_columns : s.columns < 2 ^ 15
+  pub few_rows : s.rows < 2 ^ 15
 
 -- an area within a screen that is small enough that no sum saturates
 pub record AreaOnScreen (s : Screen) (cells : ℕ) (r : Rect) : Type 0 where
   pub on_screen : OnScreen s cells r
-  pub few-columns : s.columns < 2 ^ 15
-  pub few-rows : s.rows < 2 ^ 15
+  pub few_columns : s.columns < 2 ^ 15
+  pub few_rows : s.rows < 2 ^ 15

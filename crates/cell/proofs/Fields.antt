@@ -19,10 +19,10 @@ between_symbol_and_untouched c = omega (arith, below-symbol c)
 
 -- each field below the symbol fits in its bits
 pub record Fits (c : Cell) : Type 0 where
-  pub foreground-fits : c.foreground < 2 ^ 8
-  pub background-fits : c.background < 2 ^ 8
+  pub foreground_fits : c.foreground < 2 ^ 8
+  pub background_fits : c.background < 2 ^ 8
   pub modifiers_fit : c.modifiers < 2 ^ 9
-  pub untouched-fits : c.untouched < 2 ^ 18
+  pub untouched_fits : c.untouched < 2 ^ 18
 
 -- each field, read back from the packed word
 module _ (c : Cell) (h : Fits c) where
@@ -30,25 +30,25 @@ module _ (c : Cell) (h : Fits c) where
   word = cell_packed c
 
   symbol_back : word / 2 ^ 43 ≡ c.symbol
-  symbol_back = omega (arith, h.foreground-fits, h.background-fits, h.modifiers_fit, h.untouched-fits)
+  symbol_back = omega (arith, h.foreground_fits, h.background_fits, h.modifiers_fit, h.untouched_fits)
 
   foreground_back : word / 2 ^ 35 % 2 ^ 8 ≡ c.foreground
   foreground_back =
-      let q : word / 2 ^ 35 ≡ c.symbol * 2 ^ 8 + c.foreground = omega (arith, h.background-fits, h.modifiers_fit, h.untouched-fits) in
-      omega (arith, h.foreground-fits)
+      let q : word / 2 ^ 35 ≡ c.symbol * 2 ^ 8 + c.foreground = omega (arith, h.background_fits, h.modifiers_fit, h.untouched_fits) in
+      omega (arith, h.foreground_fits)
 
   background_back : word / 2 ^ 27 % 2 ^ 8 ≡ c.background
   background_back =
-      let q : word / 2 ^ 27 ≡ c.symbol * 2 ^ 16 + c.foreground * 2 ^ 8 + c.background = omega (arith, h.modifiers_fit, h.untouched-fits) in
-      omega (arith, h.background-fits)
+      let q : word / 2 ^ 27 ≡ c.symbol * 2 ^ 16 + c.foreground * 2 ^ 8 + c.background = omega (arith, h.modifiers_fit, h.untouched_fits) in
+      omega (arith, h.background_fits)
 
   modifiers_back : word / 2 ^ 18 % 2 ^ 9 ≡ c.modifiers
   modifiers_back =
-      let q : word / 2 ^ 18 ≡ c.symbol * 2 ^ 25 + c.foreground * 2 ^ 17 + c.background * 2 ^ 9 + c.modifiers = omega (arith, h.untouched-fits) in
+      let q : word / 2 ^ 18 ≡ c.symbol * 2 ^ 25 + c.foreground * 2 ^ 17 + c.background * 2 ^ 9 + c.modifiers = omega (arith, h.untouched_fits) in
       omega (arith, h.modifiers_fit)
 
   untouched_back : word % 2 ^ 18 ≡ c.untouched
-  untouched_back = omega (arith, h.untouched-fits)
+  untouched_back = omega (arith, h.untouched_fits)
 
   -- unpacking a packed cell gives its fields back
   pub unpacked : cell_from (cell_packed c) ≡ c
@@ -62,10 +62,10 @@ colour-fits false a b ha hb = hb
 applied-fits : (style cell : ℕ) → Fits (applied (style_from style) (cell_from cell))
 applied-fits style cell =
     record {
-      foreground-fits = colour-fits (style_from style).foreground_given (style_from style).foreground (cell_from cell).foreground (omega arith) (omega arith);
-      background-fits = colour-fits (style_from style).background_given (style_from style).background (cell_from cell).background (omega arith) (omega arith);
+      foreground_fits = colour-fits (style_from style).foreground_given (style_from style).foreground (cell_from cell).foreground (omega arith) (omega arith);
+      background_fits = colour-fits (style_from style).background_given (style_from style).background (cell_from cell).background (omega arith) (omega arith);
       modifiers_fit = lt_of_le_of_lt (and_le_l _ _) (or_lt 9 (cell_from cell).modifiers (style_from style).add (omega arith) (omega arith));
-      untouched-fits = omega arith;
+      untouched_fits = omega arith;
     }
 
 -- styling changes the fields as `applied` says; symbol and untouched bits stay
@@ -92,10 +92,10 @@ unfolding with_symbol
 symbol_fields symbol cell =
     unpacked _ (
     record {
-      foreground-fits = omega arith;
-      background-fits = omega arith;
+      foreground_fits = omega arith;
+      background_fits = omega arith;
       modifiers_fit = omega arith;
-      untouched-fits = omega arith;
+      untouched_fits = omega arith;
     })
 
 pub symbol-set : (symbol cell : ℕ) → (cell_from (with_symbol symbol cell)).symbol ≡ symbol
@@ -114,10 +114,10 @@ unfolding with_untouched
 untouched_fields untouched cell h =
     unpacked _ (
     record {
-      foreground-fits = omega arith;
-      background-fits = omega arith;
+      foreground_fits = omega arith;
+      background_fits = omega arith;
       modifiers_fit = omega arith;
-      untouched-fits = h;
+      untouched_fits = h;
     })
 
 -- the appearance has the cell's colours and modifiers
@@ -133,10 +133,10 @@ unfolding appearance_of
 appearance_fields cell =
     unpacked _ (
     record {
-      foreground-fits = omega arith;
-      background-fits = omega arith;
+      foreground_fits = omega arith;
+      background_fits = omega arith;
       modifiers_fit = omega arith;
-      untouched-fits = omega arith;
+      untouched_fits = omega arith;
     })
 
 -- symbol and style may be set in either order

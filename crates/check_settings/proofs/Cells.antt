@@ -14,16 +14,16 @@ module _ (columns rows cells : ℕ) (e : screen_wrong most_accepted columns rows
   accepted = sized most_accepted columns rows cells e
 
   pub columns_fit : columns < 2 ^ 16
-  columns_fit = omega (arith, accepted.most-columns)
+  columns_fit = omega (arith, accepted.most_columns)
 
   pub rows_fit : rows < 2 ^ 16
-  rows_fit = omega (arith, accepted.most-rows)
+  rows_fit = omega (arith, accepted.most_rows)
 
   pub has_cells : HasCells (screen_of columns rows) cells
   has_cells =
       record {
-        columns = accepted.some-columns;
-        size = omega (arith, accepted.all-cells, mul_comm rows columns);
-        few-columns = omega (arith, accepted.most-columns);
-        few-rows = omega (arith, accepted.most-rows);
+        columns = accepted.some_columns;
+        size = omega (arith, accepted.all_cells, mul_comm rows columns);
+        few_columns = omega (arith, accepted.most_columns);
+        few_rows = omega (arith, accepted.most_rows);
       }

@@ -63,11 +63,11 @@ module _ (call : Call) (v : Verdict) (e : v ≡ verdict_of call) where
     unfolding verdict_of causes_of screen_causes
     screen_right = no_cause (causes_of most_accepted call) Screen (sym e ∙ a)
 
-    pub few-columns : call.columns < 2 ^ 16
-    few-columns = columns_fit call.columns call.rows (length call.cells) screen_right
+    pub few_columns : call.columns < 2 ^ 16
+    few_columns = columns_fit call.columns call.rows (length call.cells) screen_right
 
-    pub few-rows : call.rows < 2 ^ 16
-    few-rows = rows_fit call.columns call.rows (length call.cells) screen_right
+    pub few_rows : call.rows < 2 ^ 16
+    few_rows = rows_fit call.columns call.rows (length call.cells) screen_right
 
     pub drawable : SymbolsFit call.block × HasCells (screen_of call.columns call.rows) (length call.cells) × Opens call.titles
     unfolding verdict_of causes_of screen_causes

@@ -48,7 +48,7 @@ module _ (call : Call) where
     elsewhere outside unshadowed =
         left_keeps whole_cell (verdict_of call) call.columns (drawing_of call) call.cells i h
         (λ accepted cell.
-        block-elsewhere call.styles screen_in (drawable call Accepted (sym accepted) refl).1.few-columns call.ambiguous call.titles call.block call.area
+        block-elsewhere call.styles screen_in (drawable call Accepted (sym accepted) refl).1.few_columns call.ambiguous call.titles call.block call.area
         (i % call.columns) (i / call.columns) cell outside unshadowed)
 
   -- the same call on other cells

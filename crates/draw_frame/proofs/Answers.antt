@@ -77,18 +77,18 @@ module _ (call : Call) where
         (answer_refused Area Refused (verdict_of call) (inner_in call) why k, left_refused (verdict_of call) (drawn call.columns (drawing_of call) call.cells) call.cells why k)
 
     module _ (a : v ≡ Accepted) where
-      pub frame-drawn : (r : Rect) (next : List ℕ) → r ≡ inner_in call → next ≡ drawn call.columns (drawing_of call) call.cells
+      pub frame_drawn : (r : Rect) (next : List ℕ) → r ≡ inner_in call → next ≡ drawn call.columns (drawing_of call) call.cells
           → (Area r ≡ answer_of call) × (next ≡ cells_after call)
       unfolding answer_of cells_after
-      frame-drawn r next i p =
+      frame_drawn r next i p =
           let k : verdict_of call ≡ Accepted = sym e ∙ a in
           (answer_accepted Area Refused (verdict_of call) (inner_in call) k r i, left-accepted (verdict_of call) (drawn call.columns (drawing_of call) call.cells) call.cells k next p)
 
-      pub few-columns : call.columns < 2 ^ 16
-      few-columns = columns_fit call.columns call.rows (length call.cells) (screen_right (sym e ∙ a))
+      pub few_columns : call.columns < 2 ^ 16
+      few_columns = columns_fit call.columns call.rows (length call.cells) (screen_right (sym e ∙ a))
 
-      pub few-rows : call.rows < 2 ^ 16
-      few-rows = rows_fit call.columns call.rows (length call.cells) (screen_right (sym e ∙ a))
+      pub few_rows : call.rows < 2 ^ 16
+      few_rows = rows_fit call.columns call.rows (length call.cells) (screen_right (sym e ∙ a))
 
       pub drawable : SymbolsFit call.block × HasCells (screen_in call) (length call.cells) × Opens call.titles
       unfolding verdict_of causes_of screen_causes

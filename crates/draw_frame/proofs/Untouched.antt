@@ -42,7 +42,7 @@ module _ (call : Call) where
     elsewhere outside unshadowed =
         left_keeps whole_cell (verdict_of call) call.columns (drawing_of call) call.cells i h
         (λ accepted cell.
-        frame-elsewhere call.styles (screen_in call) (i % call.columns) (i / call.columns) cell (screen_cells call accepted).few-columns
+        frame-elsewhere call.styles (screen_in call) (i % call.columns) (i / call.columns) cell (screen_cells call accepted).few_columns
         call.ambiguous call.titles call.style call.block call.area outside unshadowed)
 
   -- the same call on other cells

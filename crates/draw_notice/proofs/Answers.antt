@@ -39,11 +39,11 @@ module _ (call : Call) where
 
   -- v is the verdict of the checks
   module _ (v : Verdict) (e : v ≡ verdict_of call) (a : v ≡ Accepted) where
-    pub few-columns : call.columns < 2 ^ 16
-    few-columns = columns_fit call.columns call.rows (length call.cells) (screen_right (sym e ∙ a))
+    pub few_columns : call.columns < 2 ^ 16
+    few_columns = columns_fit call.columns call.rows (length call.cells) (screen_right (sym e ∙ a))
 
-    pub few-rows : call.rows < 2 ^ 16
-    few-rows = rows_fit call.columns call.rows (length call.cells) (screen_right (sym e ∙ a))
+    pub few_rows : call.rows < 2 ^ 16
+    few_rows = rows_fit call.columns call.rows (length call.cells) (screen_right (sym e ∙ a))
 
     pub composable : Composable call.text
     composable = let s = text-sound (sym e ∙ a) in record { opens = s.opens; few = s.few }

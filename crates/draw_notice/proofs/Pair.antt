@@ -59,8 +59,8 @@ module _ (call : Call) where
   accepted-whole both =
       let framed = no_cause (frame.causes_of most_accepted (frame_call call)) in
       let laid = no_cause (text.causes_of most_accepted (text_call call)) in
-      let f = both.frame-accepted in
-      let t = both.text-accepted in
+      let f = both.frame_accepted in
+      let t = both.text_accepted in
       rw (framed Screen f, framed Styles f, laid TextLength t, laid TextHeads t, framed Titles f) (
       rw (styles-split (length call.styles) call.notice call.text call.titles, laid StyleNumber t, framed StyleNumber f, framed Symbol f) refl)
 
@@ -73,23 +73,23 @@ module _ (call : Call) where
     -- the area that the frame answers is the inner area of the met area
     pub area-answered : inner_answer_rect (frame.answer_of (frame_call call)) ≡ inner_area_of (screen_in call) call.titles call.notice.block call.area
     unfolding frame.answer_of frame.inner_in
-    area-answered = rw both.frame-accepted
+    area-answered = rw both.frame_accepted
 
     frame-left : frame.cells_after (frame_call call) ≡ drawn call.columns (frame.drawing_of (frame_call call)) call.cells
     unfolding frame.cells_after
-    frame-left = rw both.frame-accepted
+    frame-left = rw both.frame_accepted
 
     text-left : text.cells_after (text_call call) ≡ drawn call.columns (text.drawing_of (text_call call)) (frame.cells_after (frame_call call))
     unfolding text.cells_after
-    text-left = rw both.text-accepted
+    text-left = rw both.text_accepted
 
     whole-left : cells_after call ≡ drawn call.columns (drawing_of call) call.cells
     unfolding cells_after
     whole-left = rw (accepted-whole both)
 
-    same-cells : pair_cells call ≡ cells_after call
+    same_cells : pair_cells call ≡ cells_after call
     unfolding pair_cells text.drawing_of frame.drawing_of drawing_of
-    same-cells =
+    same_cells =
         let lay = paragraph_of call.styles (screen_in call) call.text (settings_of call.notice) in
         text-left
         ∙ ap (λ (r : Rect). drawn call.columns (lay r) (frame.cells_after (frame_call call))) area-answered
@@ -97,14 +97,14 @@ module _ (call : Call) where
         ∙ drawn_together (screen_in call) (length call.cells) here call.styles call.text call.titles call.notice call.area call.cells
         ∙ sym whole-left
 
-    same-counts : pair_counts call ≡ counts_of call
+    same_counts : pair_counts call ≡ counts_of call
     unfolding pair_counts text.answer_of text.rows_of counts_of rows_of
-    same-counts =
-        rw (both.text-accepted, accepted-whole both, area-answered)
+    same_counts =
+        rw (both.text_accepted, accepted-whole both, area-answered)
         (counted_together (screen_in call) (length call.cells) here call.styles call.text call.titles call.notice call.area)
 
     pub same_as_combined : SameAsCombined call
-    same_as_combined = record { cells = same-cells; counts = same-counts }
+    same_as_combined = record { cells = same_cells; counts = same_counts }
 
 -- the cells lent to the text call are as many
 same_count : (call : Call) → length (frame.cells_after (frame_call call)) ≡ length call.cells
@@ -177,8 +177,8 @@ module _ (call : Call) where
       let numbers = neither (style_numbers_wrong count (text_styles (settings_of call.notice) call.text)) (style_numbers_wrong count (notice_frame_styles call.notice.style call.notice.block call.titles))
       (sym (styles-split count call.notice call.text call.titles) ∙ whole StyleNumber k) in
       record {
-        frame-accepted = rw (whole Screen k, whole Styles k, whole Titles k, numbers.1, whole Symbol k) refl;
-        text-accepted = text_verdict call ∙ rw (whole Screen k, whole Styles k, whole TextLength k, whole TextHeads k, numbers.0) refl;
+        frame_accepted = rw (whole Screen k, whole Styles k, whole Titles k, numbers.1, whole Symbol k) refl;
+        text_accepted = text_verdict call ∙ rw (whole Screen k, whole Styles k, whole TextLength k, whole TextHeads k, numbers.0) refl;
       }
 
   -- ---- what is drawn if one is refused, and where

@@ -32,8 +32,8 @@ pair_counts call = draw_answer_counts (text.answer_of (text_call call))
 
 -- "Where both are accepted"
 pub record BothAccepted (call : Call) : Type 0 where
-  pub frame-accepted : frame.verdict_of (frame_call call) ≡ Accepted
-  pub text-accepted : text.verdict_of (text_call call) ≡ Accepted
+  pub frame_accepted : frame.verdict_of (frame_call call) ≡ Accepted
+  pub text_accepted : text.verdict_of (text_call call) ≡ Accepted
 
 -- "frame, then text into the area it answered, must leave the cells and counts that the combined drawing defined"
 pub record SameAsCombined (call : Call) : Type 0 where

@@ -75,18 +75,18 @@ module _ (call : Call) where
       unfolding verdict_of causes_of screen_causes text_causes
       screen_right = no_cause (causes_of most_accepted call) Screen (sym e ∙ a)
 
-      pub text-drawn : (r : DrawCounts) (next : List ℕ) → r ≡ rows_of call → next ≡ drawn call.columns (drawing_of call) call.cells
+      pub text_drawn : (r : DrawCounts) (next : List ℕ) → r ≡ rows_of call → next ≡ drawn call.columns (drawing_of call) call.cells
           → (Counts r ≡ answer_of call) × (next ≡ cells_after call)
       unfolding answer_of cells_after
-      text-drawn r next c p =
+      text_drawn r next c p =
           let k : verdict_of call ≡ Accepted = sym e ∙ a in
           (answer_accepted Counts Refused (verdict_of call) (rows_of call) k r c, left-accepted (verdict_of call) (drawn call.columns (drawing_of call) call.cells) call.cells k next p)
 
-      pub few-columns : call.columns < 2 ^ 16
-      few-columns = columns_fit call.columns call.rows (length call.cells) screen_right
+      pub few_columns : call.columns < 2 ^ 16
+      few_columns = columns_fit call.columns call.rows (length call.cells) screen_right
 
-      pub few-rows : call.rows < 2 ^ 16
-      few-rows = rows_fit call.columns call.rows (length call.cells) screen_right
+      pub few_rows : call.rows < 2 ^ 16
+      few_rows = rows_fit call.columns call.rows (length call.cells) screen_right
 
       pub composable : Composable call.text × HasCells (screen_in call) (length call.cells)
       unfolding verdict_of causes_of screen_causes text_causes

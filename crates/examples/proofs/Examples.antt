@@ -24,8 +24,8 @@ pub record Examples (a : AmbiguousWidth) : Type 0 where
   pub leading_trimmed : wrapped a 5 true "___abc" ≡ [] ∷ glyphs a 4 "abc" ∷ []
   pub leading_kept : wrapped a 5 false "___abc" ≡ glyphs a 1 "___ab" ∷ glyphs a 6 "c" ∷ []
   -- limit 3 "abW": one line, width 4; C-14: two placed and one clipped. limit 1 "aWb": a | b.
-  pub past-limit : (trim : Bool) → (wrapped a 3 trim "abW" ≡ glyphs a 1 "abW" ∷ []) × (widths a 3 trim "abW" ≡ 4 ∷ [])
-  pub past-limit-places : (placed_of 3 (glyphs a 1 "abW") ≡ true ∷ true ∷ false ∷ []) × (clipped_of 3 (glyphs a 1 "abW") ≡ false ∷ false ∷ true ∷ [])
+  pub past_limit : (trim : Bool) → (wrapped a 3 trim "abW" ≡ glyphs a 1 "abW" ∷ []) × (widths a 3 trim "abW" ≡ 4 ∷ [])
+  pub past_limit_places : (placed_of 3 (glyphs a 1 "abW") ≡ true ∷ true ∷ false ∷ []) × (clipped_of 3 (glyphs a 1 "abW") ≡ false ∷ false ∷ true ∷ [])
   pub over-wide : (trim : Bool) → wrapped a 1 trim "aWb" ≡ glyphs a 1 "a" ∷ glyphs a 3 "b" ∷ []
   -- limit 3 trim "ZzabcD": Z | abcD, D clipped. limit 4 trim "___aWWx": a | WWx, x clipped.
   pub zero-width : (wrapped a 3 true "ZzabcD" ≡ glyphs a 1 "Z" ∷ glyphs a 3 "abcD" ∷ [])
@@ -33,9 +33,9 @@ pub record Examples (a : AmbiguousWidth) : Type 0 where
   pub wide : (wrapped a 4 true "___aWWx" ≡ glyphs a 4 "a" ∷ glyphs a 5 "WWx" ∷ [])
       × (clipped_of 4 (glyphs a 4 "a") ≡ false ∷ []) × (clipped_of 4 (glyphs a 5 "WWx") ≡ false ∷ false ∷ true ∷ [])
   -- limit 3, not trimmed, "____": "___". Trimmed: one empty line. Empty line: one empty line.
-  pub spaces-kept : wrapped a 3 false "____" ≡ glyphs a 1 "___" ∷ []
+  pub spaces_kept : wrapped a 3 false "____" ≡ glyphs a 1 "___" ∷ []
   pub spaces_trimmed : wrapped a 3 true "____" ≡ [] ∷ []
-  pub empty-line : (trim : Bool) → wrapped a 3 trim "" ≡ [] ∷ []
+  pub empty_line : (trim : Bool) → wrapped a 3 trim "" ≡ [] ∷ []
   -- area 4, line 3, centre: column 1. inner of (0,0,1,1), four borders: (1,1,0,0).
   pub centre : line_offset Center 4 3 ≡ 1
   pub inner : (b : Block) (titles : List ℕ) → b.borders ≡ four_borders → b.padding ≡ padding_of 0 0 0 0 → inner_of b titles (rect 0 0 1 1) ≡ rect 1 1 0 0
@@ -46,14 +46,14 @@ examples a =
     record {
       leading_trimmed = refl;
       leading_kept = refl;
-      past-limit = λ trim. elim trim [ true ↦ (refl, refl) | false ↦ (refl, refl) ];
-      past-limit-places = (refl, refl);
+      past_limit = λ trim. elim trim [ true ↦ (refl, refl) | false ↦ (refl, refl) ];
+      past_limit_places = (refl, refl);
       over-wide = λ trim. elim trim [ true ↦ refl | false ↦ refl ];
       zero-width = (refl, refl, refl);
       wide = (refl, refl, refl);
-      spaces-kept = refl;
+      spaces_kept = refl;
       spaces_trimmed = refl;
-      empty-line = λ trim. elim trim [ true ↦ refl | false ↦ refl ];
+      empty_line = λ trim. elim trim [ true ↦ refl | false ↦ refl ];
       centre = refl;
       inner = four_borders_lem;
     }

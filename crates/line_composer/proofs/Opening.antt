@@ -78,7 +78,7 @@ module _ (u : Rule) (method : Method) (default : Alignment) (text : List ℕ) (a
   opened-ready =
       let next = next_opens text at (length (until_head (drop (at + 1) text))) q.in_text q.at_head refl in
       record {
-        from-to = omega (arith, q.opened.from, q.opened.to);
+        from_to = omega (arith, q.opened.from, q.opened.to);
         to_end = omega (arith, q.opened.to, end-within text at q.in_text);
         sound = rw (q.opened.composes, q.opened.wrapper) (starts-sound u method (part text c));
         head = rw q.opened.to next.head;

@@ -43,9 +43,9 @@ module _ (u : Rule) (default : Alignment) (text : List ℕ) (c : LineComposer) (
     pub marked-from-first : (line : WrappedLine) (d : LineComposer) → o ≡ OneLine line d → remaining_marked u default text (line_at u text line) d ≡ marked_lines u method default text
     marked-from-first line d e =
         let none : Line = aligned Left [] in
-        ap (drop {A = MarkedLine} 1) (sym (pulled-mark line d e none) ∙ s.marked-left default none)
+        ap (drop {A = MarkedLine} 1) (sym (pulled-mark line d e none) ∙ s.marked_left default none)
 
     pub nothing-marked : o ≡ Done → marked_lines u method default text ≡ []
     nothing-marked e =
         let none : Line = aligned Left [] in
-        ap (drop {A = MarkedLine} 1) (sym (s.marked-left default none) ∙ last-marked e none)
+        ap (drop {A = MarkedLine} 1) (sym (s.marked_left default none) ∙ last-marked e none)

@@ -44,24 +44,24 @@ pub record Composing (u : Rule) (default : Alignment) (text : List ℕ) (s c : L
   pub ready : Ready u text c
   pub same : remaining_lines u default text s ≡ remaining_lines u default text c
   pub forward : s.from ≤ c.from
-  pub same-marked : (before : Line) → remaining_marked u default text before s ≡ waiting u default text s before c
+  pub same_marked : (before : Line) → remaining_marked u default text before s ≡ waiting u default text s before c
 
 pub composing_starts : (u : Rule) (default : Alignment) (text : List ℕ) (s : LineComposer) → Ready u text s → Composing u default text s s
 unfolding waiting
 composing_starts u default text s r =
-    record { ready = r; same = refl; forward = omega arith; same-marked = λ before. rw (eq-eqb s.from s.from refl) }
+    record { ready = r; same = refl; forward = omega arith; same_marked = λ before. rw (eq-eqb s.from s.from refl) }
 
 part_length : (from to : ℕ) (text : List ℕ) → length (take (to - from) (drop from text)) ≤ length text - from
 part_length from to text = omega (arith, length-take (to - from) (drop from text), length-drop from text)
 
-pub part-short : (from to : ℕ) (text : List ℕ) → length text < 2 ^ 28 → length (take (to - from) (drop from text)) < 2 ^ 28
-part-short from to text h = omega (arith, part_length from to text)
+pub part_short : (from to : ℕ) (text : List ℕ) → length text < 2 ^ 28 → length (take (to - from) (drop from text)) < 2 ^ 28
+part_short from to text h = omega (arith, part_length from to text)
 
 -- The current text line has another line, or none; `before` is of it if `same` is true, else of an earlier one.
-mark-line : (same : Bool) (before line : Line) (rest : List Line) (later : List MarkedLine)
+mark_line : (same : Bool) (before line : Line) (rest : List Line) (later : List MarkedLine)
     → cond same (marked (before ∷ line ∷ rest) ++ later) (with_mark before true ∷ (marked (line ∷ rest) ++ later)) ≡ with_mark before (not same) ∷ (marked (line ∷ rest) ++ later)
-mark-line true before line rest later = refl
-mark-line false before line rest later = refl
+mark_line true before line rest later = refl
+mark_line false before line rest later = refl
 
 mark-last : (same : Bool) (before : Line) (later : List MarkedLine)
     → cond same (marked (before ∷ []) ++ later) (with_mark before true ∷ (marked [] ++ later)) ≡ with_mark before true ∷ later
@@ -77,10 +77,10 @@ module _ (u : Rule) (default : Alignment) (text : List ℕ) (s c : LineComposer)
     spans = sound.1
 
     pub first_fits : length text < 2 ^ 28 → c.from + run.first < 2 ^ 64
-    first_fits h = omega (arith, spans.within, spans.ordered, part_length c.from c.to text, p.ready.from-to, p.ready.to_end)
+    first_fits h = omega (arith, spans.within, spans.ordered, part_length c.from c.to text, p.ready.from_to, p.ready.to_end)
 
     pub end_fits : length text < 2 ^ 28 → c.from + run.end < 2 ^ 64
-    end_fits h = omega (arith, spans.within, part_length c.from c.to text, p.ready.from-to, p.ready.to_end)
+    end_fits h = omega (arith, spans.within, part_length c.from c.to text, p.ready.from_to, p.ready.to_end)
 
     pub pull_line : (line : WrappedLine) → line ≡ line_of_run c.from c.alignment run
         → PulledLine u default text s (Pulls line (record { method = c.method; wrapper = n; from = c.from; to = c.to; alignment = c.alignment }))
@@ -91,11 +91,11 @@ module _ (u : Rule) (default : Alignment) (text : List ℕ) (s c : LineComposer)
         record {
           pulled-lines = p.same ∙ rw (r, f);
           pulled-marked = λ before.
-              p.same-marked before
+              p.same_marked before
               ∙ rw (r, f)
-              (mark-line (eqb c.from s.from) before (line_at u text (line_of_run c.from c.alignment run)) (current_left u text d) (all_marked u c.method default (later_lines text d)));
+              (mark_line (eqb c.from s.from) before (line_at u text (line_of_run c.from c.alignment run)) (current_left u text d) (all_marked u c.method default (later_lines text d)));
           ready = (
-            record { from-to = p.ready.from-to; to_end = p.ready.to_end; sound = sound.0; head = p.ready.head },
+            record { from_to = p.ready.from_to; to_end = p.ready.to_end; sound = sound.0; head = p.ready.head },
             rw f (converted_reads_back u text c.from c.to c.alignment run spans),
           );
         }
@@ -117,7 +117,7 @@ module _ (u : Rule) (default : Alignment) (text : List ℕ) (s c : LineComposer)
         record {
           pulled-lines = p.same ∙ later-left ∙ ap (λ (l : List ℕ). all_lines u c.method default (lines_from c.to l)) z;
           pulled-marked = λ before.
-              p.same-marked before ∙ later-marked before ∙ ap (λ (l : List ℕ). with_mark before true ∷ all_marked u c.method default (lines_from c.to l)) z;
+              p.same_marked before ∙ later-marked before ∙ ap (λ (l : List ℕ). with_mark before true ∷ all_marked u c.method default (lines_from c.to l)) z;
           ready = tt;
         }
 
@@ -128,13 +128,13 @@ module _ (u : Rule) (default : Alignment) (text : List ℕ) (s c : LineComposer)
       pub composing_opens : Composing u default text s n
       unfolding waiting
       composing_opens =
-          let further : n.from ≡ s.from → ⊥ = λ k. omega (arith, f.from, p.forward, p.ready.from-to) in
+          let further : n.from ≡ s.from → ⊥ = λ k. omega (arith, f.from, p.forward, p.ready.from_to) in
           record {
             ready = opened-ready u c.method default text c.to n opened_next;
             same = p.same ∙ later-left ∙ sym (opened-left u c.method default text c.to n opened_next);
-            forward = omega (arith, f.from, p.forward, p.ready.from-to);
-            same-marked = λ before.
-                p.same-marked before ∙ later-marked before
+            forward = omega (arith, f.from, p.forward, p.ready.from_to);
+            same_marked = λ before.
+                p.same_marked before ∙ later-marked before
                 ∙ rw (ne_eqb n.from s.from further, opened-marked u c.method default text c.to n opened_next);
           }
 
@@ -150,7 +150,7 @@ unfolding remaining_lines lines remaining_marked marked_lines
 started u method text w n e f h =
     let z : line_runs u method Left (take (0 - 0) (drop 0 text)) w ≡ [] = rw f (closed_none u _ n method Left) in
     record {
-      ready = record { from-to = omega arith; to_end = omega arith; sound = rw f (closed_sound u _ n method (rw e (starts-sound u method _))); head = (opens-start text h).head };
+      ready = record { from_to = omega arith; to_end = omega arith; sound = rw f (closed_sound u _ n method (rw e (starts-sound u method _))); head = (opens-start text h).head };
       lines_left = λ default. rw z;
-      marked-left = λ default before. rw z;
+      marked_left = λ default before. rw z;
     }

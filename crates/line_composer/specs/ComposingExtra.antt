@@ -45,7 +45,7 @@ remaining_marked u default text before c = marked (before ∷ current_left u tex
 
 -- invariant of the state
 pub record Ready (u : Rule) (text : List ℕ) (c : LineComposer) : Type 0 where
-  pub from-to : c.from ≤ c.to
+  pub from_to : c.from ≤ c.to
   pub to_end : c.to ≤ length text
   pub sound : MethodInvariant u c.method (part text c) c.wrapper
   pub head : c.to < length text → is_head (get_or text c.to 0) ≡ true
@@ -62,7 +62,7 @@ pub record Opened (u : Rule) (method : Method) (default : Alignment) (text : Lis
 pub record Started (u : Rule) (method : Method) (text : List ℕ) (c : LineComposer) : Type 0 where
   pub ready : Ready u text c
   pub lines_left : (default : Alignment) → remaining_lines u default text c ≡ lines u method default text
-  pub marked-left : (default : Alignment) (before : Line) → remaining_marked u default text before c ≡ with_mark before true ∷ marked_lines u method default text
+  pub marked_left : (default : Alignment) (before : Line) → remaining_marked u default text before c ≡ with_mark before true ∷ marked_lines u method default text
 
 -- a returned line has the fields of its glyphs, and lies in the text
 pub record ReadsBack (u : Rule) (text : List ℕ) (line : WrappedLine) : Type 0 where

@@ -81,23 +81,23 @@ shown_renumbered u k offset shown (g ∷ gs) =
 
 -- ---- the limit
 
-shown-narrow : (u : Rule) (offset shown : ℕ) (gs : List Glyph) → shown ≤ u.limit → total (shown_from u offset shown gs) + shown ≤ u.limit
+shown_narrow : (u : Rule) (offset shown : ℕ) (gs : List Glyph) → shown ≤ u.limit → total (shown_from u offset shown gs) + shown ≤ u.limit
 unfolding ends
-shown-narrow u offset shown [] h = omega arith
-shown-narrow u offset shown (g ∷ gs) h =
-    cond_cases Narrow (is_over_wide u g) _ _ (λ _. shown-narrow u offset shown gs h)
+shown_narrow u offset shown [] h = omega arith
+shown_narrow u offset shown (g ∷ gs) h =
+    cond_cases Narrow (is_over_wide u g) _ _ (λ _. shown_narrow u offset shown gs h)
     (λ _.
     cond_cases Narrow (ends u shown g) _ _ (λ _. omega arith)
     (λ e.
-    cond_cases Narrow (swallows offset g) _ _ (λ _. shown-narrow u (offset - g.width) shown gs h)
-    (λ _. omega (arith, shown-narrow u 0 (shown + g.width) gs (ltb-false u.limit (shown + g.width) e)))))
+    cond_cases Narrow (swallows offset g) _ _ (λ _. shown_narrow u (offset - g.width) shown gs h)
+    (λ _. omega (arith, shown_narrow u 0 (shown + g.width) gs (ltb-false u.limit (shown + g.width) e)))))
   where
     Narrow : List Glyph → Type 0
     Narrow l = total l + shown ≤ u.limit
 
 -- The glyphs shown are no wider than the limit.
 pub truncated_narrow : (u : Rule) (offset : ℕ) (gs : List Glyph) → total (shown_from u offset 0 gs) ≤ u.limit
-truncated_narrow u offset gs = omega (arith, shown-narrow u offset 0 gs (omega arith))
+truncated_narrow u offset gs = omega (arith, shown_narrow u offset 0 gs (omega arith))
 
 -- ---- the line of a text line
 

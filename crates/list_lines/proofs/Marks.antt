@@ -101,7 +101,7 @@ module _ (call : Call) where
         let o : owned call (text_lines call) (entries_of call) ≡ map own (text_lines call) = ap (owned call (text_lines call)) e ∙ owned-is (text_lines call) in
         record {
           one_each = ap (map (count_of is_marked)) o ∙ one-each_of (text_lines call);
-          last-each = ap (map (map entry_mark)) o ∙ last-each_of (text_lines call);
+          last_each = ap (map (map entry_mark)) o ∙ last-each_of (text_lines call);
           as_many = ap (count_of is_marked) e ∙ as_many_of (text_lines call);
         }
 

@@ -13,7 +13,7 @@ use Rattle.text.proofs.Bools.{cond_cases}
 use Rattle.refuse.specs.declared.Refusal.TheVariants.{TextLength, Limit}
 use Rattle.refuse.specs.declared.Verdict.TheVariants.{Accepted}
 use Rattle.refuse.specs.Causes.{most_accepted, text_causes, line_causes}
-use Rattle.refuse.proofs.Accepted.{text-short, limit-low}
+use Rattle.refuse.proofs.Accepted.{text-short, limit_low}
 use Rattle.refuse.proofs.Calls.{no_cause}
 use Rattle.wrapping.specs.declared.Rule.{Rule}
 use Rattle.wrapping.specs.Wrapping.{is_over_wide, not_over_wide}
@@ -96,7 +96,7 @@ module _ (call : Call) (a : verdict_of call ≡ Accepted) where
 
   low : call.limit ≤ 4096
   unfolding verdict_of causes_of line_causes text_causes
-  low = limit-low most_accepted call.limit (no_cause (causes_of most_accepted call) Limit a)
+  low = limit_low most_accepted call.limit (no_cause (causes_of most_accepted call) Limit a)
 
   module _ (i : ℕ) (none : MarkedLine) (h : i < length (lines_of call)) where
     abbrev line : Line

@@ -40,6 +40,6 @@ pub record OneMarkEach (call : Call) : Type 0 where
   -- every text line owns exactly one marked entry
   pub one_each : map (count_of is_marked) (owned call (text_lines call) (entries_of call)) ≡ map (λ (line : TextLine). 1) (text_lines call)
   -- it is the last that the text line owns
-  pub last-each : map (map entry_mark) (owned call (text_lines call) (entries_of call)) ≡ map (λ (line : TextLine). last_only (length (composed_of call line))) (text_lines call)
+  pub last_each : map (map entry_mark) (owned call (text_lines call) (entries_of call)) ≡ map (λ (line : TextLine). last_only (length (composed_of call line))) (text_lines call)
   -- no other entry is marked
   pub as_many : count_of is_marked (entries_of call) ≡ length (text_lines call)

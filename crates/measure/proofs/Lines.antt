@@ -58,8 +58,8 @@ module _ (a : AmbiguousWidth) (b : Block) (titles : List ℕ) (wrap : Wrap) (wid
       record { fits = omega (arith, sound.short, lines-few a wrap width text) }
 
 -- `line_width`
-pub width-sum-fits : (a : AmbiguousWidth) (b : Block) (text : List ℕ) (line : ℕ) (taken : Space) (sum : ℕ) → line ≡ widest a (lines_from 0 text) → taken ≡ horizontal_space b → sum ≡ both taken
+pub width_sum_fits : (a : AmbiguousWidth) (b : Block) (text : List ℕ) (line : ℕ) (taken : Space) (sum : ℕ) → line ≡ widest a (lines_from 0 text) → taken ≡ horizontal_space b → sum ≡ both taken
     → TextAccepted text → Fits w32 (line + sum)
-width-sum-fits a b text line taken sum l t s sound =
+width_sum_fits a b text line taken sum l t s sound =
     let few : sum ≤ 2 * 65535 = rw (s, t) (horizontal_small b) in
     record { fits = omega (arith, sound.short, widest-narrow a text) }

@@ -19,7 +19,7 @@ use Rattle.nothing_lost.specs.Glyphs.{glyphs_of_all}
 use Rattle.text.proofs.Bools.{cases}
 use Rattle.nothing_lost.proofs.Lists.{glyphs-append}
 use Rattle.nothing_lost.proofs.Steps.{last-gathers, at-least-one-glyphs, wrap-from-empty}
-use Rattle.wrapping.proofs.Ways.{filled, appended-ways, filled-ways, step-ways}
+use Rattle.wrapping.proofs.Ways.{filled, appended-ways, filled_ways, step-ways}
 use Rattle.wrapping.proofs.Splits.{fitting-split}
 
 module _ (test : Glyph → Bool) where
@@ -50,7 +50,7 @@ module _ (test : Glyph → Bool) where
   unfolding after held emptied
   filled-count u s g =
       let parts = ap (count_of test) (sym (fitting-split (u.limit - total s.row) s.spaces)) in
-      filled-ways u s g (λ (t : Step). after t ≡ held s + count_of test (g ∷ []))
+      filled_ways u s g (λ (t : Step). after t ≡ held s + count_of test (g ∷ []))
       (λ _ _. simp (count-append, append-nil) (omega (arith, simp count-append at parts)))
       (λ _ _. simp append-nil (omega (arith, simp count-append at parts, appended-count (emptied u s) g)))
       (λ _. omega (arith, appended-count s g))
@@ -97,9 +97,9 @@ numbered_once a n k (r ∷ rs) h l =
     (λ e. let same = eqb-true k n e in omega (arith, numbered-none a n (suc k) rs (omega arith)))
     (λ e. let other = eqb-false k n e in omega (arith, numbered_once a n (suc k) rs (omega arith) (omega arith)))
 
-all-counted : (gs : List Glyph) → count_of (λ _. true) gs ≡ length gs
-all-counted [] = refl
-all-counted (g ∷ gs) = omega (arith, all-counted gs)
+all_counted : (gs : List Glyph) → count_of (λ _. true) gs ≡ length gs
+all_counted [] = refl
+all_counted (g ∷ gs) = omega (arith, all_counted gs)
 
 module _ (u : Rule) (gs : List Glyph) (h : 0 < u.limit) where
   pub accounted : (test : Glyph → Bool) →
@@ -108,7 +108,7 @@ module _ (u : Rule) (gs : List Glyph) (h : 0 < u.limit) where
   accounted test = rw (wrap-from-empty u gs h, at-least-one-glyphs) (omega (arith, from-count test u empty_pending gs))
 
   pub accounted_lengths : length (glyphs_of_all (wrap u gs).lines) + length (wrap u gs).dropped + length (over_wides u gs) ≡ length gs
-  accounted_lengths = simp all-counted at (accounted (λ _. true))
+  accounted_lengths = simp all_counted at (accounted (λ _. true))
 
 -- wrapping emits no more glyphs than a text line has
 pub wrapped-few : (u : Rule) (gs : List Glyph) → length (glyphs_of_all (wrap u gs).lines) ≤ length gs

@@ -15,7 +15,7 @@ use Rattle.text.proofs.Bools.{neither, cond_cases, cases}
 use Rattle.wrapping.specs.declared.Rule.{Rule}
 use Rattle.wrapping.specs.Wrapping.{Pending, Step, Wrapped, empty, empty_pending, is_over_wide, must_join, takes_spaces, gathered, joined, full, fitting, after_fitting, emptied, appended, step, last_lines, at_least_one, wrap_from, wrap}
 use Rattle.nothing_lost.specs.Glyphs.{Widths, NoWider, none, one}
-use Rattle.wrapping.proofs.Ways.{filled, appended-ways, filled-ways, step-ways}
+use Rattle.wrapping.proofs.Ways.{filled, appended-ways, filled_ways, step-ways}
 use Rattle.wrapping.proofs.Splits.{fitting-split}
 use Rattle.wrapping.proofs.ListRuns.{total-append}
 
@@ -143,7 +143,7 @@ module _ (u : Rule) (bounds : WidthBounds) (t : bounds.tight + 1 ≡ u.limit + b
         let left = total-after (u.limit - total s.row) s.spaces in
         let z' : WidthsBounded (emptied u s) = record { row = none; spaces = widths-after _ s.spaces z.spaces; word = z.word } in
         let a' : Ahead (emptied u s) g.width = record { word = a.word; spaces = λ e. omega (arith, a.spaces e) } in
-        filled-ways u s g (λ (t : Step). Narrow t)
+        filled_ways u s g (λ (t : Step). Narrow t)
         (λ _ _.
         let b : Ahead (emptied u s) 0 = record { word = omega (arith, a.word); spaces = λ e. omega (arith, a'.spaces e) } in
         record { lines = one r none; bounded = record { sized = z'; ahead = b; below = λ e. absurd (true≢false e) } })

@@ -11,12 +11,12 @@ use Rattle.text.specs.Line.{Glyph, total}
 use Rattle.wrapping.specs.declared.Rule.{Rule}
 use Rattle.wrapping.specs.Wrapping.{Pending, Step, Wrapped, empty, empty_pending, takes_spaces, gathered, joined, full, step, last_lines, at_least_one, wrap_from, wrap}
 use Rattle.text.proofs.Bools.{cond_cases}
-use Rattle.wrapping.proofs.Ways.{filled, filled-ways, step-ways}
+use Rattle.wrapping.proofs.Ways.{filled, filled_ways, step-ways}
 
 -- a glyph emits at most one line
 filled-few : (u : Rule) (s : Pending) (g : Glyph) → length (filled u s g).lines ≤ 1
 filled-few u s g =
-    filled-ways u s g (λ (t : Step). length t.lines ≤ 1)
+    filled_ways u s g (λ (t : Step). length t.lines ≤ 1)
     (λ _ _. omega arith) (λ _ _. omega arith) (λ _. omega arith)
 
 step-few : (u : Rule) (s : Pending) (g : Glyph) → length (step u s g).lines ≤ 1
@@ -63,7 +63,7 @@ unfilled : (u : Rule) (s : Pending) (g : Glyph) → 0 < u.limit → total s.row 
 unfolding full
 unfilled u s g h e =
     let f : full u s g ≡ false = simp (lt-leb u.limit (total s.row) (omega arith), e, lt-leb u.limit 0 h, and-false) in
-    filled-ways u s g (λ (t : Step). t.lines ≡ [])
+    filled_ways u s g (λ (t : Step). t.lines ≡ [])
     (λ b _. absurd (false≢true (sym f ∙ b))) (λ b _. absurd (false≢true (sym f ∙ b))) (λ _. refl)
 
 first-none : (u : Rule) (g : Glyph) → 0 < u.limit → (step u empty_pending g).lines ≡ []

@@ -1,4 +1,4 @@
--- Theorem `blank-elsewhere`: an inner cell without a glyph has the blank symbol, since any other symbol would be read there.
+-- Theorem `blank_elsewhere`: an inner cell without a glyph has the blank symbol, since any other symbol would be read there.
 use Prim.Native.Nat.{ℕ, zero, suc, ◌+◌, ◌*◌, ◌<◌, ◌≤◌}
 use mathlib.Core.Path.{◌≡◌, refl, sym, ap, ◌∙◌}
 use mathlib.Core.Bool.{Bool, true, false, ◌&&◌, ◌||◌, or-true, true≢false, and-eq-true_iff}
@@ -53,9 +53,9 @@ is_read : (page row column cell : ℕ) → eqb (cell_from cell).symbol blank_sym
 unfolding look
 is_read page row column cell e = simp (e, eq-eqb page page refl, eq-eqb row row refl, eq-eqb column column refl)
 
-pub blank-elsewhere : (i : Call) → pages_read i ≡ map seen (placements i) → BlankElsewhere i
+pub blank_elsewhere : (i : Call) → pages_read i ≡ map seen (placements i) → BlankElsewhere i
 unfolding pages_read
-blank-elsewhere i places page row column there inner none =
+blank_elsewhere i places page row column there inner none =
     let cell : ℕ = get_or (pair_cells (page_call i page)) (row * i.columns + column) 0 in
     let test : Seen → Bool = is_read_at page row column in
     let at = inside (inner_area i) column row inner in

@@ -46,19 +46,19 @@ use Rattle.pages.proofs.Screen.{inner-some}
 
 -- glyphs have the same counts from column a as from column b; true if they fit the area from both
 record SameFrom (area a b : ℕ) (gs : List Glyph) : Type 0 where
-  pub same-placed : count_of (is_placed area) (starts_from a gs) ≡ count_of (is_placed area) (starts_from b gs)
-  pub same-clipped : count_of (is_clipped area) (starts_from a gs) ≡ count_of (is_clipped area) (starts_from b gs)
+  pub same_placed : count_of (is_placed area) (starts_from a gs) ≡ count_of (is_placed area) (starts_from b gs)
+  pub same_clipped : count_of (is_clipped area) (starts_from a gs) ≡ count_of (is_clipped area) (starts_from b gs)
 
 same_from : (area a b : ℕ) (gs : List Glyph) → a + total gs ≤ area → b + total gs ≤ area → SameFrom area a b gs
 unfolding is_placed is_clipped
-same_from area a b [] p q = record { same-placed = refl; same-clipped = refl }
+same_from area a b [] p q = record { same_placed = refl; same_clipped = refl }
 same_from area a b (g ∷ gs) p q =
     let first = within-area area a g.width (omega arith) in
     let second = within-area area b g.width (omega arith) in
     let rest = same_from area (a + g.width) (b + g.width) gs (omega arith) (omega arith) in
     record {
-      same-placed = rw (first.0, second.0, rest.same-placed);
-      same-clipped = rw (first.1, second.1, rest.same-clipped);
+      same_placed = rw (first.0, second.0, rest.same_placed);
+      same_clipped = rw (first.1, second.1, rest.same_clipped);
     }
 
 -- a line has the same counts as drawn and from column 0; one that doesn't fit starts at 0 anyway
@@ -75,7 +75,7 @@ drawn-counts area line =
     (λ e.
     let fits = ltb-false area width e in
     let same = same_from area start 0 line.glyphs (offset-fits line.alignment area width fits) (omega arith) in
-    (same.same-placed, same.same-clipped))
+    (same.same_placed, same.same_clipped))
 
 -- summing a count over lines counts their glyphs, each line starting at 0
 sum-starts : (test : Start → Bool) (count : Line → ℕ) → ((line : Line) → count line ≡ count_of test (starts_from 0 line.glyphs))
@@ -152,9 +152,9 @@ module _ (i : Call) (w : WrappedNotice i) (accepted : (scroll : ℕ) → BothAcc
       ∙ sum-starts test count of-line (composed_lines i)
       ∙ ap (λ (ls : List Line). count_of test (starts ls)) (wrapped-lines i w)
 
-  pub same-counts : Reached i → tally.verdict_of (pages_tally i w.trim) ≡ Accepted → SameCounts i w.trim
+  pub same_counts : Reached i → tally.verdict_of (pages_tally i w.trim) ≡ Accepted → SameCounts i w.trim
   unfolding pages_of line_counts tally.counts_of
-  same-counts reached answered =
+  same_counts reached answered =
       let width : ℕ = (inner_area i).width in
       let tally = tally_own (rule_of i.notice.ambiguous width w.trim) i.notice.alignment i.text (inner-some i w).0 in
       record {

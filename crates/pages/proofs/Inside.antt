@@ -17,7 +17,7 @@ use Rattle.buffer.proofs.Within.{cell_inside}
 use Rattle.place.specs.declared.Place.{Place}
 use Rattle.place.specs.declared.Place.TheVariants.{ZeroWidth, Placed, Halved, Outside}
 use Rattle.place.specs.Place.{counts_as_placed, cells_taken}
-use Rattle.place.proofs.Places.{taken-inside}
+use Rattle.place.proofs.Places.{taken_inside}
 use Rattle.line_composer.specs.Places.{place_in, is_placed}
 use Rattle.render_line.proofs.RowDrawn.{right-sum, bottom-sum}
 use Rattle.draw_text.specs.Call as draw-text
@@ -39,7 +39,7 @@ module _ (screen : Screen) (count : ℕ) (area : Rect) (there : AreaOnScreen scr
   glyph-inside : (s : Start) (row k : ℕ) → row < area.height → k < cells_taken (place_in area.width s) s.glyph.width
       → contains area (area.x + s.start + k) (area.y + row) ≡ true
   glyph-inside s row k down taken =
-      let across : s.start + k < area.width = taken-inside area.width s.start s.glyph.width k taken in
+      let across : s.start + k < area.width = taken_inside area.width s.start s.glyph.width k taken in
       cell_inside _ _ _ _ (area.x + s.start + k) (area.y + row) (omega arith) (omega (arith, right-sum screen count area there)) (omega arith) (omega (arith, bottom-sum screen count area there))
 
   all-inside : (s : Start) (row k : ℕ) → row < area.height → is_placed area.width s ≡ true → k < s.glyph.width
@@ -48,7 +48,7 @@ module _ (screen : Screen) (count : ℕ) (area : Rect) (there : AreaOnScreen scr
   all-inside s row k down placed wide = glyph-inside s row k down (omega (arith, placed_takes (place_in area.width s) s.glyph.width placed))
 
   area-inside : TextInside area
-  area-inside = record { placed-inside = all-inside; taken-inside = glyph-inside }
+  area-inside = record { placed_inside = all-inside; taken_inside = glyph-inside }
 
 pub text-inside : (i : Call) → DrawnNotice i → TextInside (inner_area i)
 text-inside i d = area-inside (screen_in i) (length i.cells) (inner_area i) (drawn-there i d)
@@ -62,4 +62,4 @@ laid-inside call accepted some =
     let met = meet call.area (area_of screen) in
     let s = (composable call Accepted (sym accepted) refl).1 in
     area-inside screen count met
-    (record { on_screen = meeting_on_screen screen count met s.columns s.size call.area refl some; few-columns = s.few-columns; few-rows = s.few-rows })
+    (record { on_screen = meeting_on_screen screen count met s.columns s.size call.area refl some; few_columns = s.few_columns; few_rows = s.few_rows })

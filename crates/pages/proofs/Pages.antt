@@ -14,10 +14,10 @@ use Rattle.pages.specs.Reading.{Seen, seen, OneCell, WrappedNotice, Reached, Not
 use Rattle.pages.proofs.Fit.{Fit}
 use Rattle.pages.proofs.Screen.{accepted-at, inner-some}
 use Rattle.pages.proofs.Read.{pages-read}
-use Rattle.pages.proofs.Blank.{blank-elsewhere}
-use Rattle.pages.proofs.Reached.{wrapped-lines, reached_16, text-accepted}
+use Rattle.pages.proofs.Blank.{blank_elsewhere}
+use Rattle.pages.proofs.Reached.{wrapped-lines, reached_16, text_accepted}
 use Rattle.pages.proofs.Text.{fit_text, placed-glyphs}
-use Rattle.pages.proofs.Counts.{same-counts}
+use Rattle.pages.proofs.Counts.{same_counts}
 
 -- every page's scroll row fits in 16 bits and its calls are accepted
 pages-reached : (i : Call) → WrappedNotice i → Reached i
@@ -42,16 +42,16 @@ pages i w cells =
           ∙ ap (map (λ (g : Glyph). g.symbol)) glyphs;
       places = places;
       glyphs = glyphs;
-      blank-elsewhere = blank-elsewhere i places;
+      blank_elsewhere = blank_elsewhere i places;
     }
 
 pub page-counts : (i : Call) (w : WrappedNotice i) → SameCounts i w.trim
-page-counts i w = same-counts i w (accepted-at i w) (pages-reached i w) (text-accepted i w)
+page-counts i w = same_counts i w (accepted-at i w) (pages-reached i w) (text_accepted i w)
 
 pub demand_three : DemandThree
 demand_three =
     record {
       nothing_lost = pages;
-      all-counted = λ call a h. let both = tally_counts call a h in record { all-glyphs = both.0; all-whitespace = both.1 };
-      same-counts = page-counts;
+      all_counted = λ call a h. let both = tally_counts call a h in record { all_glyphs = both.0; all_whitespace = both.1 };
+      same_counts = page-counts;
     }

@@ -48,21 +48,21 @@ module _ (i : Call) (w : WrappedNotice i) where
   pub text-short : length i.text ≤ 16384
   text-short = (text-sound i (accepted-whole i w.accepted)).short
 
-  pub few-columns : (inner_area i).width ≤ 512
+  pub few_columns : (inner_area i).width ≤ 512
   unfolding inner_area inner_area_of
-  few-columns =
+  few_columns =
       omega (
         arith,
         inner-narrow i.notice.block i.titles (meet i.area (area_of (screen_in i))),
-        (screen_sized i w).most-columns,
+        (screen_sized i w).most_columns,
       )
 
-  pub text-accepted : tally.verdict_of (pages_tally i w.trim) ≡ Accepted
+  pub text_accepted : tally.verdict_of (pages_tally i w.trim) ≡ Accepted
   unfolding verdict_of causes_of screen_causes text_causes line_causes tally.verdict_of tally.causes_of
-  text-accepted =
+  text_accepted =
       let causes = causes_of most_accepted i in
       let whole = accepted-whole i w.accepted in
-      rw (no_cause causes TextLength whole, no_cause causes TextHeads whole, le-ltb 4096 (inner_area i).width (omega (arith, few-columns)))
+      rw (no_cause causes TextLength whole, no_cause causes TextHeads whole, le-ltb 4096 (inner_area i).width (omega (arith, few_columns)))
 
   -- the notice's lines are wrapped, and no more than the text's records
   pub wrapped-lines : composed_lines i ≡ lines (rule_of i.notice.ambiguous (inner_area i).width w.trim) WordWrap i.notice.alignment i.text

@@ -48,7 +48,7 @@ module _ (i : Call) (some : is_empty (inner_area i) ≡ false) where
   inner-there s =
       inner-on_screen (screen_in i) (length i.cells) i.notice.block i.titles (met i)
       (meeting_on_screen (screen_in i) (length i.cells) (met i) s.columns s.size i.area refl some-met)
-      s.few-columns s.few-rows some
+      s.few_columns s.few_rows some
 
 -- an accepted notice with a non-empty inner area, wrapped or not
 module _ (i : Call) (d : DrawnNotice i) where
@@ -79,7 +79,7 @@ module _ (i : Call) (w : WrappedNotice i) where
   screen_sized = sized most_accepted i.columns i.rows (length i.cells) (screen_right i (accepted-whole i w.accepted))
 
   pub all-blank : length (blank_cells i) ≡ length i.cells
-  all-blank = length-replicate (i.columns * i.rows) blank_cell ∙ sym screen_sized.all-cells
+  all-blank = length-replicate (i.columns * i.rows) blank_cell ∙ sym screen_sized.all_cells
 
   -- no cause depends on the scroll row or on the contents of cells
   whole-at : (scroll : ℕ) → verdict_of (call_at i scroll) ≡ Accepted

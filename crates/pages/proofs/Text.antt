@@ -12,7 +12,7 @@ use Rattle.text.specs.declared.Alignment.{Alignment}
 use Rattle.text.specs.Line.{Glyph, TextLine, lines_from, glyphs_of, glyphs_from, total, Start, starts_from, Opens}
 use Rattle.text.specs.Lists.{count_of}
 use Rattle.text.proofs.Lists.{count-append}
-use Rattle.text.proofs.LineGlyphs.{line_glyphs, all-glyphs}
+use Rattle.text.proofs.LineGlyphs.{line_glyphs, all_glyphs}
 use Rattle.cell.specs.Cell.{blank_symbol}
 use Rattle.layout.specs.declared.Rect.{Rect}
 use Rattle.wrapping.specs.declared.Rule.{Rule}
@@ -136,7 +136,7 @@ all_placed inner number (line ∷ rest) f =
 
 module _ (u : Rule) (text : List ℕ) (opens : Opens text) where
   same-glyphs : line_glyphs u.ambiguous (lines_from 0 text) ≡ glyphs_from u.ambiguous 0 text
-  same-glyphs = all-glyphs u.ambiguous 0 text (opens-none text opens)
+  same-glyphs = all_glyphs u.ambiguous 0 text (opens-none text opens)
 
   lines_fit : OneCell (glyphs_from u.ambiguous 0 text) → count_of unfit (line_glyphs u.ambiguous (lines_from 0 text)) ≡ 0
   lines_fit cells = ap (count_of unfit) same-glyphs ∙ none-unfit (glyphs_from u.ambiguous 0 text) cells

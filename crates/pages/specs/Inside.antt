@@ -18,7 +18,7 @@ pub record DrawnNotice (i : Call) : Type 0 where
 -- Of an area that a text is laid into: for every glyph, wherever it starts as drawn, on every row of the area, counted from 0: `k` columns
 -- right of its first cell is a cell of the area, for each cell of a placed glyph, and for each cell that a glyph takes, placed or halved.
 pub record TextInside (area : Rect) : Type 0 where
-  pub placed-inside : (s : Start) (row k : ℕ) → row < area.height → is_placed area.width s ≡ true → k < s.glyph.width
+  pub placed_inside : (s : Start) (row k : ℕ) → row < area.height → is_placed area.width s ≡ true → k < s.glyph.width
       → contains area (area.x + s.start + k) (area.y + row) ≡ true
-  pub taken-inside : (s : Start) (row k : ℕ) → row < area.height → k < cells_taken (place_in area.width s) s.glyph.width
+  pub taken_inside : (s : Start) (row k : ℕ) → row < area.height → k < cells_taken (place_in area.width s) s.glyph.width
       → contains area (area.x + s.start + k) (area.y + row) ≡ true

@@ -92,15 +92,15 @@ pub record NothingLost (i : Call) : Type 0 where
   pub places : pages_read i ≡ map seen (placements i)
   -- "Each is there once, in text order"
   pub glyphs : map (λ (p : Placement). p.glyph) (placements i) ≡ solids (glyphs_from i.notice.ambiguous 0 i.text)
-  pub blank-elsewhere : BlankElsewhere i
+  pub blank_elsewhere : BlankElsewhere i
 
 -- Demand 3, the counts of a tally call, for glyphs of any width: "placed + clipped + zero-width + over-wide + dropped = glyphs",
 -- "and every dropped glyph is whitespace".
 pub record AllCounted (call : tally.Call) : Type 0 where
-  pub all-glyphs :
+  pub all_glyphs :
       let c = tally.counts_of call in
       c.placed + c.clipped + c.zero_width + c.over_wide + c.dropped ≡ length (glyphs_from call.ambiguous 0 call.text)
-  pub all-whitespace : solids (dropped (tally.rule_in call) call.text) ≡ []
+  pub all_whitespace : solids (dropped (tally.rule_in call) call.text) ≡ []
 
 -- the tally of a notice's text at the inner width
 abbrev pub pages_tally : Call → Bool → tally.Call
@@ -119,5 +119,5 @@ pub record SameCounts (i : Call) (trim : Bool) : Type 0 where
 -- limit above 0, for glyphs of any width; and the pages' counts, which are the tally's.
 pub record DemandThree : Type 0 where
   pub nothing_lost : (i : Call) → WrappedNotice i → OneCell (glyphs_from i.notice.ambiguous 0 i.text) → NothingLost i
-  pub all-counted : (call : tally.Call) → tally.verdict_of call ≡ Accepted → 0 < call.limit → AllCounted call
-  pub same-counts : (i : Call) (w : WrappedNotice i) → SameCounts i w.trim
+  pub all_counted : (call : tally.Call) → tally.verdict_of call ≡ Accepted → 0 < call.limit → AllCounted call
+  pub same_counts : (i : Call) (w : WrappedNotice i) → SameCounts i w.trim

@@ -35,16 +35,16 @@ module _ (s : Screen) (n m : ℕ) (area spared r : Rect) where
   unfolding below
   below-on_screen e on also same left top = rw e (between_on_screen s n m _ _ _ _ area on same (omega arith) (omega arith) (omega arith) (omega arith))
 
-  pub left-on_screen : r ≡ left_of area spared → OnScreen s n area → OnScreen s n spared → m ≡ n → Fits w16 area.x → Fits w16 area.y → Fits w16 spared.y
+  pub left_on_screen : r ≡ left_of area spared → OnScreen s n area → OnScreen s n spared → m ≡ n → Fits w16 area.x → Fits w16 area.y → Fits w16 spared.y
       → OnScreen s m r
   unfolding left_of
-  left-on_screen e on also same left top upper =
+  left_on_screen e on also same left top upper =
       rw e (between_on_screen s n m _ _ _ _ area on same (omega arith) (omega arith) (omega arith) (omega arith))
 
-  pub right-on_screen : r ≡ right_from area spared → OnScreen s n area → OnScreen s n spared → m ≡ n → Fits w16 area.x → Fits w16 area.y → Fits w16 spared.y
+  pub right_on_screen : r ≡ right_from area spared → OnScreen s n area → OnScreen s n spared → m ≡ n → Fits w16 area.x → Fits w16 area.y → Fits w16 spared.y
       → OnScreen s m r
   unfolding right_from
-  right-on_screen e on also same left top upper =
+  right_on_screen e on also same left top upper =
       rw e (between_on_screen s n m _ _ _ _ area on same (omega arith) (omega arith) (omega arith) (omega arith))
 
-pub ruleset parts-on-screen = (above-on_screen, below-on_screen, left-on_screen, right-on_screen)
+pub ruleset parts-on-screen = (above-on_screen, below-on_screen, left_on_screen, right_on_screen)

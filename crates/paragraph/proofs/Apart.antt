@@ -27,7 +27,7 @@ use Rattle.paragraph.proofs.Frames.{empty-inner, outer_some}
 -- an area on a screen meets it in itself
 met_itself : (screen : Screen) (r : Rect) → screen.columns < 2 ^ 15 → screen.rows < 2 ^ 15 → right_of r ≤ screen.columns → bottom_of r ≤ screen.rows
     → meet r (area_of screen) ≡ r
-met_itself screen r few-columns few-rows right bottom =
+met_itself screen r few_columns few_rows right bottom =
     let m : Rect = meet r (area_of screen) in
     let x : m.x ≡ r.x = omega arith in
     let y : m.y ≡ r.y = omega arith in
@@ -67,8 +67,8 @@ module _ (screen : Screen) (count : ℕ) (there : HasCells screen count) (titles
   unfolding inner_area_of
   inner-met some =
       let met-on = meeting_on_screen screen count met there.columns there.size area refl (outer_some b titles met some) in
-      let on = inner-on_screen screen count b titles met met-on there.few-columns there.few-rows some in
-      met_itself screen (inner_of b titles met) there.few-columns there.few-rows on.on_screen.right on.on_screen.bottom
+      let on = inner-on_screen screen count b titles met met-on there.few_columns there.few_rows some in
+      met_itself screen (inner_of b titles met) there.few_columns there.few_rows on.on_screen.right on.on_screen.bottom
 
   -- the text into the inner area, met with the screen or not
   same-inside : (styles text : List ℕ) (s : TextSettings) (column row cell : ℕ)

@@ -62,19 +62,19 @@ module _ (columns : ℕ) (styles : List ℕ) (screen : Screen) (titles : List Ti
         only_spared columns (not (is_empty (meet area (area_of screen)))) _ cells some (rw h)
 
     -- a non-empty meeting gets the notice's style and the frame
-    pub frame-drawn : empty ≡ false → (next : List ℕ)
+    pub frame_drawn : empty ≡ false → (next : List ℕ)
         → next ≡ drawn columns (in_order (over met (styled (style_at styles number)) ∷ frame styles screen titles b met ∷ [])) cells
         → next ≡ drawn columns (frame_of styles screen titles number b area) cells
     unfolding frame_of
-    frame-drawn g next p =
+    frame_drawn g next p =
         let h : is_empty (meet area (area_of screen)) ≡ false = rw met-is_meeting at (sym f ∙ g) in
         only_drawn columns (not (is_empty (meet area (area_of screen)))) _ cells some next (rw h) (rw met-is_meeting at p)
 
 -- a screen with cells has a column
-pub some-columns : (screen : Screen) (count : ℕ) → HasCells screen count → 0 < screen.columns
-some-columns screen count h = h.columns
+pub some_columns : (screen : Screen) (count : ℕ) → HasCells screen count → 0 < screen.columns
+some_columns screen count h = h.columns
 
-pub ruleset frame-laws = (style_and_frame, frame-left, frame-drawn, some-columns)
+pub ruleset frame-laws = (style_and_frame, frame-left, frame_drawn, some_columns)
 
 -- the result of `inner_area`
 pub inner_of_met : (screen : Screen) (titles : List ℕ) (b : Block) (area all met inner : Rect) → all ≡ area_of screen → met ≡ meet area all

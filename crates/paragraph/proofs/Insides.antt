@@ -26,7 +26,7 @@ use Rattle.paragraph.specs.Apart.{paragraph_of, paragraph_counts}
 -- a non-empty inner area of an area on the screen is on the screen
 pub inner-on_screen : (screen : Screen) (count : ℕ) (b : Block) (titles : List ℕ) (met : Rect) → OnScreen screen count met
     → screen.columns < 2 ^ 15 → screen.rows < 2 ^ 15 → is_empty (inner_of b titles met) ≡ false → AreaOnScreen screen count (inner_of b titles met)
-inner-on_screen screen count b titles met on few-columns few-rows e =
+inner-on_screen screen count b titles met on few_columns few_rows e =
     let inner : Rect = inner_of b titles met in
     let sizes = not-empty inner e in
     let across = on.right in
@@ -34,8 +34,8 @@ inner-on_screen screen count b titles met on few-columns few-rows e =
     let within = inside b titles met (omega arith) (omega arith) sizes.0 sizes.1 in
     record {
       on_screen = record { columns = on.columns; size = on.size; right = omega (arith, within.right); bottom = omega (arith, within.bottom) };
-      few-columns = few-columns;
-      few-rows = few-rows;
+      few_columns = few_columns;
+      few_rows = few_rows;
     }
 
 -- in an empty area no cell is drawn
@@ -68,10 +68,10 @@ module _ (screen : Screen) (text : List ℕ) (s : TextSettings) (area all met : 
     text-left g some = inside-empty columns styles text s (meet area (area_of screen)) cells (none-met g) some
 
     -- a non-empty meeting gets its style, then its lines
-    pub text-drawn : empty ≡ false → (last : List ℕ) → last ≡ drawn columns (lines_on styles text s met) cells
+    pub text_drawn : empty ≡ false → (last : List ℕ) → last ≡ drawn columns (lines_on styles text s met) cells
         → last ≡ drawn columns (paragraph_of styles screen text s area) cells
     unfolding paragraph_of inside_of notice_lines lines_on text_options_of
-    text-drawn g last p = rw (some-met g) (rw met-is_meeting at p)
+    text_drawn g last p = rw (some-met g) (rw met-is_meeting at p)
 
   pub text-none : empty ≡ true → no_draw_counts ≡ paragraph_counts screen text s area
   unfolding paragraph_counts inside_counts
@@ -85,6 +85,6 @@ module _ (screen : Screen) (text : List ℕ) (s : TextSettings) (area all met : 
 pub area-there : (screen : Screen) (count : ℕ) (area all met : Rect) (empty : Bool) → HasCells screen count → all ≡ area_of screen → met ≡ meet area all
     → empty ≡ is_empty met → empty ≡ false → AreaOnScreen screen count met
 area-there screen count area all met empty h a m f g =
-    record { on_screen = met-on_screen screen count area all met empty h a m f g; few-columns = h.few-columns; few-rows = h.few-rows }
+    record { on_screen = met-on_screen screen count area all met empty h a m f g; few_columns = h.few_columns; few_rows = h.few_rows }
 
-pub ruleset inside-laws = (text-left, text-drawn, text-none, text-counted, area-there)
+pub ruleset inside-laws = (text-left, text_drawn, text-none, text-counted, area-there)

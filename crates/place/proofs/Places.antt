@@ -1,5 +1,5 @@
 -- The place of a glyph: one law for each path through `of_glyph`, and what each place says of start and width.
--- Theorems `counted_once`: a glyph of width above 0 is placed or clipped; `taken-inside`: no cell that a glyph takes is at the edge or
+-- Theorems `counted_once`: a glyph of width above 0 is placed or clipped; `taken_inside`: no cell that a glyph takes is at the edge or
 -- past it.
 use Prim.Native.Nat.{ℕ, ◌+◌, ◌≤◌, ◌<◌}
 use mathlib.Core.Path.{◌≡◌, refl}
@@ -58,8 +58,8 @@ counted_once edge start width some =
     by_place edge start width (λ p. counts_as_clipped p ≡ not (counts_as_placed p)) (λ none. absurd (some none)) (λ _ _. refl) (λ _ _ _. refl) (λ _ _ _. refl)
 
 -- no glyph takes a cell at the edge or past it
-pub taken-inside : (edge start width k : ℕ) → k < cells_taken (place_of edge start width) width → start + k < edge
-taken-inside edge start width k =
+pub taken_inside : (edge start width k : ℕ) → k < cells_taken (place_of edge start width) width → start + k < edge
+taken_inside edge start width k =
     by_place edge start width (λ p. k < cells_taken p width → start + k < edge)
     (λ _ h. absurd (omega arith))
     (λ _ _ h. absurd (omega arith))

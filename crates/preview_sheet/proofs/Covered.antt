@@ -261,7 +261,7 @@ module _ (o : Opening) (first : ℕ) (styles titles text : List ℕ) where
             (λ framed.
             by_verdict (draw-text.verdict_of (text_call wide)) (contains (inner_area wide) (column + k) row ≡ true)
             (λ laid.
-            let drawn : DrawnNotice wide = record { accepted = record { frame-accepted = framed; text-accepted = laid }; some_cell = some } in
+            let drawn : DrawnNotice wide = record { accepted = record { frame_accepted = framed; text_accepted = laid }; some_cell = some } in
             taken_in_area o first styles titles text drawn row column within k covered)
             (λ why refused.
             let kept = framed-symbol wide framed some column row within in

@@ -35,7 +35,7 @@ use Rattle.draw_notice.proofs.Pair.{accepted-whole}
 use Rattle.pages.specs.Pages.{inner_area, composed_lines, page_count, pages_of, scroll_of, page_call}
 use Rattle.pages.specs.Reading.{WrappedNotice}
 use Rattle.pages.proofs.Screen.{screen_sized, inner-some}
-use Rattle.pages.proofs.Reached.{few-columns, left-lines, reached_16}
+use Rattle.pages.proofs.Reached.{few_columns, left-lines, reached_16}
 use Rattle.flat.specs.FlatExtra.{ambiguous_named, shadow_named, block_from, notice_from, wrap_named}
 use Rattle.preview_file.specs.declared.Opening.{Opening}
 use Rattle.preview_sheet.specs.declared.Fitting.TheVariants.{Fits}
@@ -92,7 +92,7 @@ module _ (o : Opening) (styles titles text cells : List ℕ) where
     count-accepted =
         let causes = causes_of most_accepted notice_call in
         let whole = accepted-whole notice_call w.accepted in
-        rw (no_cause causes TextLength whole, no_cause causes TextHeads whole, le-ltb 4096 (inner_area notice_call).width (omega (arith, few-columns notice_call w))) refl
+        rw (no_cause causes TextLength whole, no_cause causes TextHeads whole, le-ltb 4096 (inner_area notice_call).width (omega (arith, few_columns notice_call w))) refl
 
     lines-counted : count.count_of count_call ≡ length (composed_lines notice_call)
     unfolding lines_at notice_from
@@ -127,4 +127,4 @@ module _ (o : Opening) (styles titles text cells : List ℕ) where
           → call_at o (first_shown page) styles titles text (replicate (length cells) blank_cell) ≡ page_call notice_call page
       same-call page there =
           ap (λ (first : ℕ). call_at o first styles titles text (replicate (length cells) blank_cell)) (same_first page there)
-          ∙ ap (λ (n : ℕ). call_at o (scroll_of notice_call page) styles titles text (replicate n blank_cell)) (screen_sized notice_call w).all-cells
+          ∙ ap (λ (n : ℕ). call_at o (scroll_of notice_call page) styles titles text (replicate n blank_cell)) (screen_sized notice_call w).all_cells

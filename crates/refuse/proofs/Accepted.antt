@@ -20,10 +20,10 @@ use Rattle.refuse.proofs.Calls.{no_cause}
 
 -- the screen, if cause 1 doesn't hold
 pub record ScreenAccepted (most : Ceilings) (columns rows cells : ℕ) : Type 0 where
-  pub some-columns : 0 < columns
-  pub most-columns : columns ≤ most.columns
-  pub most-rows : rows ≤ most.rows
-  pub all-cells : cells ≡ columns * rows
+  pub some_columns : 0 < columns
+  pub most_columns : columns ≤ most.columns
+  pub most_rows : rows ≤ most.rows
+  pub all_cells : cells ≡ columns * rows
 
 pub sized : (most : Ceilings) (columns rows cells : ℕ) → screen_wrong most columns rows cells ≡ false → ScreenAccepted most columns rows cells
 unfolding screen_wrong
@@ -34,10 +34,10 @@ sized most columns rows cells e =
     let across = (and-eq-true_iff (leb 1 columns) (leb columns most.columns)).0 (not-false _ both-sizes.0) in
     let down = (and-eq-true_iff (leb 1 rows) (leb rows most.rows)).0 (not-false _ both-sizes.1) in
     record {
-      some-columns = leb-true 1 columns across.0;
-      most-columns = leb-true columns most.columns across.1;
-      most-rows = leb-true rows most.rows down.1;
-      all-cells = eqb-true cells (columns * rows) (not-false _ right.1);
+      some_columns = leb-true 1 columns across.0;
+      most_columns = leb-true columns most.columns across.1;
+      most_rows = leb-true rows most.rows down.1;
+      all_cells = eqb-true cells (columns * rows) (not-false _ right.1);
     }
 
 -- cause 3 doesn't hold
@@ -71,17 +71,17 @@ sound text l h =
     record { short = short; few = omega arith; opens = text-opens text h }
 
 -- cause 8 doesn't hold
-pub limit-low : (most : Ceilings) (limit : ℕ) → limit_wrong most limit ≡ false → limit ≤ most.limit
-limit-low most limit e = ltb-false most.limit limit e
+pub limit_low : (most : Ceilings) (limit : ℕ) → limit_wrong most limit ≡ false → limit ≤ most.limit
+limit_low most limit e = ltb-false most.limit limit e
 
 -- v is the verdict of a call that composes the lines of a text at a limit
 module _ (text : List ℕ) (limit : ℕ) (v : Verdict) (e : v ≡ first_cause (line_causes most_accepted text limit)) (a : v ≡ Accepted) where
-  pub lines-sound : TextAccepted text
+  pub lines_sound : TextAccepted text
   unfolding line_causes text_causes
-  lines-sound =
+  lines_sound =
       let causes = line_causes most_accepted text limit in
       sound text (no_cause causes TextLength (sym e ∙ a)) (no_cause causes TextHeads (sym e ∙ a))
 
-  pub lines-limit : limit ≤ most_accepted.limit
+  pub lines_limit : limit ≤ most_accepted.limit
   unfolding line_causes text_causes
-  lines-limit = limit-low most_accepted limit (no_cause (line_causes most_accepted text limit) Limit (sym e ∙ a))
+  lines_limit = limit_low most_accepted limit (no_cause (line_causes most_accepted text limit) Limit (sym e ∙ a))

@@ -29,13 +29,13 @@ module _ (columns : ℕ) (styles : List ℕ) (screen : Screen) (titles : List Ti
   borders_titles-drawn met next last p q = drawn_also columns _ (titles_on styles b met titles) cells next last p q
 
   -- style, borders and titles, shadow
-  pub frame-drawn : (met : Rect) (style : ℕ) (first second last : List ℕ) → style ≡ style_at styles b.style
+  pub frame_drawn : (met : Rect) (style : ℕ) (first second last : List ℕ) → style ≡ style_at styles b.style
       → first ≡ drawn columns (over met (inked (Style style))) cells
       → second ≡ drawn columns (in_order (sides styles b met ∷ corners styles b met ∷ titles_on styles b met titles ∷ [])) first
       → last ≡ drawn columns (shadow_of styles screen met b.shadow) second
       → last ≡ drawn columns (frame styles screen titles b met) cells
   unfolding frame inked
-  frame-drawn met style first second last e p q r =
+  frame_drawn met style first second last e p q r =
       first_then columns _ (sides styles b met ∷ corners styles b met ∷ titles_on styles b met titles ∷ shadow_of styles screen met b.shadow ∷ []) cells first last
       (rw e at p) (drawn_also columns _ (shadow_of styles screen met b.shadow) first second last q r)
 
@@ -67,10 +67,10 @@ pub met-not-empty : (met : Rect) (empty : Bool) → empty ≡ is_empty met → e
 met-not-empty met empty f g = sym f ∙ g
 
 -- a screen with cells has fewer than 2^15 columns and rows
-pub few-columns : (screen : Screen) (n : ℕ) → HasCells screen n → screen.columns < 2 ^ 15
-few-columns screen n h = h.few-columns
+pub few_columns : (screen : Screen) (n : ℕ) → HasCells screen n → screen.columns < 2 ^ 15
+few_columns screen n h = h.few_columns
 
-pub few-rows : (screen : Screen) (n : ℕ) → HasCells screen n → screen.rows < 2 ^ 15
-few-rows screen n h = h.few-rows
+pub few_rows : (screen : Screen) (n : ℕ) → HasCells screen n → screen.rows < 2 ^ 15
+few_rows screen n h = h.few_rows
 
-pub ruleset frames = (borders_titles-drawn, frame-drawn, block-unchanged, block-drawn, met-on_screen, met-not-empty, few-columns, few-rows)
+pub ruleset frames = (borders_titles-drawn, frame_drawn, block-unchanged, block-drawn, met-on_screen, met-not-empty, few_columns, few_rows)

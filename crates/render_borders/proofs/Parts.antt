@@ -20,37 +20,37 @@ part-on_screen s m n r part on same across down =
 -- the sides and corners of a non-empty rectangle on the screen; m is the count of cells at the start of the function, n the count
 -- now, which is equal
 module _ (s : Screen) (m n : ℕ) (r : Rect) (on : OnScreen s m r) (some : is_empty r ≡ false) (same : n ≡ m) (edge : Edge) where
-  pub left-on_screen : (b : Block) → edge ≡ left_edge b r → OnScreen s n edge.part
-  left-on_screen b e = let sizes = not-empty r some in rw e (part-on_screen s m n r _ on same (omega arith) (omega arith))
+  pub left_on_screen : (b : Block) → edge ≡ left_edge b r → OnScreen s n edge.part
+  left_on_screen b e = let sizes = not-empty r some in rw e (part-on_screen s m n r _ on same (omega arith) (omega arith))
 
-  pub top-on_screen : (b : Block) → edge ≡ top_edge b r → OnScreen s n edge.part
-  top-on_screen b e = let sizes = not-empty r some in rw e (part-on_screen s m n r _ on same (omega arith) (omega arith))
+  pub top_on_screen : (b : Block) → edge ≡ top_edge b r → OnScreen s n edge.part
+  top_on_screen b e = let sizes = not-empty r some in rw e (part-on_screen s m n r _ on same (omega arith) (omega arith))
 
-  pub right-on_screen : (b : Block) → edge ≡ right_edge b r → OnScreen s n edge.part
-  right-on_screen b e = let sizes = not-empty r some in rw e (part-on_screen s m n r _ on same (omega arith) (omega arith))
+  pub right_on_screen : (b : Block) → edge ≡ right_edge b r → OnScreen s n edge.part
+  right_on_screen b e = let sizes = not-empty r some in rw e (part-on_screen s m n r _ on same (omega arith) (omega arith))
 
-  pub bottom-on_screen : (b : Block) → edge ≡ bottom_edge b r → OnScreen s n edge.part
-  bottom-on_screen b e = let sizes = not-empty r some in rw e (part-on_screen s m n r _ on same (omega arith) (omega arith))
+  pub bottom_on_screen : (b : Block) → edge ≡ bottom_edge b r → OnScreen s n edge.part
+  bottom_on_screen b e = let sizes = not-empty r some in rw e (part-on_screen s m n r _ on same (omega arith) (omega arith))
 
-  pub bottom-right-on_screen : (b : Block) → edge ≡ bottom_right_edge b r → OnScreen s n edge.part
-  bottom-right-on_screen b e = let sizes = not-empty r some in rw e (part-on_screen s m n r _ on same (omega arith) (omega arith))
+  pub bottom_right_on_screen : (b : Block) → edge ≡ bottom_right_edge b r → OnScreen s n edge.part
+  bottom_right_on_screen b e = let sizes = not-empty r some in rw e (part-on_screen s m n r _ on same (omega arith) (omega arith))
 
-  pub top-right-on_screen : (b : Block) → edge ≡ top_right_edge b r → OnScreen s n edge.part
-  top-right-on_screen b e = let sizes = not-empty r some in rw e (part-on_screen s m n r _ on same (omega arith) (omega arith))
+  pub top_right_on_screen : (b : Block) → edge ≡ top_right_edge b r → OnScreen s n edge.part
+  top_right_on_screen b e = let sizes = not-empty r some in rw e (part-on_screen s m n r _ on same (omega arith) (omega arith))
 
-  pub bottom-left-on_screen : (b : Block) → edge ≡ bottom_left_edge b r → OnScreen s n edge.part
-  bottom-left-on_screen b e = let sizes = not-empty r some in rw e (part-on_screen s m n r _ on same (omega arith) (omega arith))
+  pub bottom_left_on_screen : (b : Block) → edge ≡ bottom_left_edge b r → OnScreen s n edge.part
+  bottom_left_on_screen b e = let sizes = not-empty r some in rw e (part-on_screen s m n r _ on same (omega arith) (omega arith))
 
-  pub top-left-on_screen : (b : Block) → edge ≡ top_left_edge b r → OnScreen s n edge.part
-  top-left-on_screen b e = let sizes = not-empty r some in rw e (part-on_screen s m n r _ on same (omega arith) (omega arith))
+  pub top_left_on_screen : (b : Block) → edge ≡ top_left_edge b r → OnScreen s n edge.part
+  top_left_on_screen b e = let sizes = not-empty r some in rw e (part-on_screen s m n r _ on same (omega arith) (omega arith))
 
 pub ruleset parts-on-screen = (
-  left-on_screen,
-  top-on_screen,
-  right-on_screen,
-  bottom-on_screen,
-  bottom-right-on_screen,
-  top-right-on_screen,
-  bottom-left-on_screen,
-  top-left-on_screen,
+  left_on_screen,
+  top_on_screen,
+  right_on_screen,
+  bottom_on_screen,
+  bottom_right_on_screen,
+  top_right_on_screen,
+  bottom_left_on_screen,
+  top_left_on_screen,
 )

@@ -39,15 +39,15 @@ starts_left u records column i = starts_from column (not_over_wide u (numbered u
 -- Invariant of `write_glyphs`: the glyphs before record i are written. Writing the others on the row gives the same cells as
 -- writing all on the old row, and the counts so far plus those of the others are those of all.
 pub record Writing (styles : List ℕ) (style text-style : ℕ) (u : Rule) (records old row : List ℕ) (counts : GlyphCounts) (column i : ℕ) : Type 0 where
-  pub style-read : text-style ≡ style_at styles style
+  pub style_read : text-style ≡ style_at styles style
   pub reached : i ≤ length records
   pub same_length : length row ≡ length old
   pub near : column ≤ 7 * i
   pub few : counts.placed + counts.clipped ≤ i
-  pub same-cells : changed (glyphs_on styles style (length old) (starts_left u records column i)) row
+  pub same_cells : changed (glyphs_on styles style (length old) (starts_left u records column i)) row
       ≡ changed (glyphs_on styles style (length old) (starts_of u 0 records)) old
-  pub same-placed : counts.placed + count_of (is_placed (length old)) (starts_left u records column i) ≡ count_of (is_placed (length old)) (starts_of u 0 records)
-  pub same-clipped : counts.clipped + count_of (is_clipped (length old)) (starts_left u records column i) ≡ count_of (is_clipped (length old)) (starts_of u 0 records)
+  pub same_placed : counts.placed + count_of (is_placed (length old)) (starts_left u records column i) ≡ count_of (is_placed (length old)) (starts_of u 0 records)
+  pub same_clipped : counts.clipped + count_of (is_clipped (length old)) (starts_left u records column i) ≡ count_of (is_clipped (length old)) (starts_of u 0 records)
 
 -- a glyph written by its place is drawn by the rule, whatever its record number
 by_rule : (a : AmbiguousWidth) (styles : List ℕ) (style area number column word : ℕ) (row : List ℕ)
@@ -63,14 +63,14 @@ module _ (styles : List ℕ) (style text-style : ℕ) (u : Rule) (records old : 
   pub writing_starts : text-style ≡ style_at styles style → Writing styles style text-style u records old old (record { placed = 0; clipped = 0 }) 0 0
   writing_starts t =
       record {
-        style-read = t;
+        style_read = t;
         reached = omega arith;
         same_length = refl;
         near = omega arith;
         few = omega arith;
-        same-cells = refl;
-        same-placed = omega arith;
-        same-clipped = omega arith;
+        same_cells = refl;
+        same_placed = omega arith;
+        same_clipped = omega arith;
       }
 
   module _ (row : List ℕ) (counts : GlyphCounts) (column i : ℕ) (w : Writing styles style text-style u records old row counts column i) where
@@ -78,9 +78,9 @@ module _ (styles : List ℕ) (style text-style : ℕ) (u : Rule) (records old : 
     writing_done h =
         let none : drop i records ≡ [] = drop_of_length-le records h in
         record {
-          cells = sym (changed-none row) ∙ (rw none at w.same-cells);
-          is-placed = sym (add-zero counts.placed) ∙ (rw none at w.same-placed);
-          is-clipped = sym (add-zero counts.clipped) ∙ (rw none at w.same-clipped);
+          cells = sym (changed-none row) ∙ (rw none at w.same_cells);
+          is-placed = sym (add-zero counts.placed) ∙ (rw none at w.same_placed);
+          is-clipped = sym (add-zero counts.clipped) ∙ (rw none at w.same_clipped);
         }
 
     module _ (h : i < length records) (width : ℕ) (e : width ≡ width_of u.ambiguous (get_or records i 0)) where
@@ -103,14 +103,14 @@ module _ (styles : List ℕ) (style text-style : ℕ) (u : Rule) (records old : 
       writing_skips : u.limit < width → Writing styles style text-style u records old row counts column (i + 1)
       writing_skips o =
           record {
-            style-read = w.style-read;
+            style_read = w.style_read;
             reached = omega arith;
             same_length = w.same_length;
             near = omega (arith, w.near);
             few = omega (arith, w.few);
-            same-cells = rw (skipped o) at w.same-cells;
-            same-placed = rw (skipped o) at w.same-placed;
-            same-clipped = rw (skipped o) at w.same-clipped;
+            same_cells = rw (skipped o) at w.same_cells;
+            same_placed = rw (skipped o) at w.same_placed;
+            same_clipped = rw (skipped o) at w.same_clipped;
           }
 
       -- a turn on a glyph of the line writes it by its place, and counts it
@@ -122,17 +122,17 @@ module _ (styles : List ℕ) (style text-style : ℕ) (u : Rule) (records old : 
           let others : List Start = starts_left u records (column + width) (i + 1) in
           let at_edge : place ≡ place_of (length old) column (width_of u.ambiguous (get_or records i 0)) = rw (w.same_length, e) at p in
           let d : next ≡ changed (glyph_on styles style (length old) here) row
-          = q ∙ rw (w.style-read, at_edge) (by_rule u.ambiguous styles style (length old) i column (get_or records i 0) row) in
+          = q ∙ rw (w.style_read, at_edge) (by_rule u.ambiguous styles style (length old) i column (get_or records i 0) row) in
           let both = place_counts counts place in
           record {
-            style-read = w.style-read;
+            style_read = w.style_read;
             reached = omega arith;
             same_length = rw d (length-changed _ row ∙ w.same_length);
             near = omega (arith, w.near, small);
             few = omega (arith, w.few, place_one counts place);
-            same-cells = rw d (changed_then _ _ row) ∙ (rw (kept f) at w.same-cells);
-            same-placed = rw (both.0, at_edge) (counted (is_placed (length old)) counts.placed here others ∙ (rw (kept f) at w.same-placed));
-            same-clipped = rw (both.1, at_edge) (counted (is_clipped (length old)) counts.clipped here others ∙ (rw (kept f) at w.same-clipped));
+            same_cells = rw d (changed_then _ _ row) ∙ (rw (kept f) at w.same_cells);
+            same_placed = rw (both.0, at_edge) (counted (is_placed (length old)) counts.placed here others ∙ (rw (kept f) at w.same_placed));
+            same_clipped = rw (both.1, at_edge) (counted (is_clipped (length old)) counts.clipped here others ∙ (rw (kept f) at w.same_clipped));
           }
 
     -- what `fitting` answers of record i

@@ -27,10 +27,10 @@ width_of_glyphs u text line t = ap (λ (x : WrappedLine). x.width) t.is
 module _ (s : Screen) (n : ℕ) (r : Rect) (a : AreaOnScreen s n r) where
   -- right and bottom of an area on the screen don't saturate
   pub right-sum : right_of r ≡ r.x + r.width
-  right-sum = omega (arith, a.on_screen.right, a.few-columns)
+  right-sum = omega (arith, a.on_screen.right, a.few_columns)
 
   pub bottom-sum : bottom_of r ≡ r.y + r.height
-  bottom-sum = omega (arith, a.on_screen.bottom, a.few-rows)
+  bottom-sum = omega (arith, a.on_screen.bottom, a.few_rows)
 
   -- a row of the area ends within the cells
   pub row-end : (row : ℕ) → row < r.height → (r.y + row) * s.columns + right_of r ≤ n

@@ -115,7 +115,7 @@ module _ (s : Screen) (styles text : List ℕ) (area : Rect) (options : TextOpti
     area_stays = rw t.drawing.same_length t.on_screen
 
     pub next_row : row < area.height → Fits w16 (row + 1)
-    next_row h = record { fits = omega (arith, bottom-sum s (length old) area t.on_screen, t.on_screen.on_screen.bottom, t.on_screen.few-rows) }
+    next_row h = record { fits = omega (arith, bottom-sum s (length old) area t.on_screen, t.on_screen.on_screen.bottom, t.on_screen.few_rows) }
 
     module _ (o : NextLine) (p : PulledLine options.rule options.default_alignment text c o) where
       module _ (line : WrappedLine) (d : LineComposer) (e : o ≡ OneLine line d) where

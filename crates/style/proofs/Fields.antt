@@ -8,10 +8,10 @@ use Rattle.style.specs.Style.{Style, style_from, style_packed}
 
 -- each field below the first bit fits in its bits
 pub record Fits (s : Style) : Type 0 where
-  pub foreground-fits : s.foreground < 2 ^ 8
-  pub background-fits : s.background < 2 ^ 8
-  pub add-fits : s.add < 2 ^ 9
-  pub remove-fits : s.remove < 2 ^ 9
+  pub foreground_fits : s.foreground < 2 ^ 8
+  pub background_fits : s.background < 2 ^ 8
+  pub add_fits : s.add < 2 ^ 9
+  pub remove_fits : s.remove < 2 ^ 9
   pub zeros_fit : s.zeros < 2 ^ 28
 
 bit_small : (on : Bool) → cond on 1 0 < 2
@@ -29,36 +29,36 @@ module _ (i j : ℕ) (hi : i < 2) (hj : j < 2) (s : Style) (h : Fits s) where
 
   foreground_given_back : word / 2 ^ 63 % 2 ≡ i
   foreground_given_back =
-      let q : word / 2 ^ 63 ≡ i = omega (arith, h.foreground-fits, h.background-fits, h.add-fits, h.remove-fits, h.zeros_fit) in
+      let q : word / 2 ^ 63 ≡ i = omega (arith, h.foreground_fits, h.background_fits, h.add_fits, h.remove_fits, h.zeros_fit) in
       omega arith
 
   foreground_back : word / 2 ^ 55 % 2 ^ 8 ≡ s.foreground
   foreground_back =
-      let q : word / 2 ^ 55 ≡ i * 2 ^ 8 + s.foreground = omega (arith, h.background-fits, h.add-fits, h.remove-fits, h.zeros_fit) in
-      omega (arith, h.foreground-fits)
+      let q : word / 2 ^ 55 ≡ i * 2 ^ 8 + s.foreground = omega (arith, h.background_fits, h.add_fits, h.remove_fits, h.zeros_fit) in
+      omega (arith, h.foreground_fits)
 
   background_given_back : word / 2 ^ 54 % 2 ≡ j
   background_given_back =
-      let q : word / 2 ^ 54 ≡ i * 2 ^ 9 + s.foreground * 2 + j = omega (arith, h.background-fits, h.add-fits, h.remove-fits, h.zeros_fit) in
+      let q : word / 2 ^ 54 ≡ i * 2 ^ 9 + s.foreground * 2 + j = omega (arith, h.background_fits, h.add_fits, h.remove_fits, h.zeros_fit) in
       omega arith
 
   background_back : word / 2 ^ 46 % 2 ^ 8 ≡ s.background
   background_back =
       let q : word / 2 ^ 46 ≡ i * 2 ^ 17 + s.foreground * 2 ^ 9 + j * 2 ^ 8 + s.background =
-      omega (arith, h.add-fits, h.remove-fits, h.zeros_fit) in
-      omega (arith, h.background-fits)
+      omega (arith, h.add_fits, h.remove_fits, h.zeros_fit) in
+      omega (arith, h.background_fits)
 
   add_back : word / 2 ^ 37 % 2 ^ 9 ≡ s.add
   add_back =
       let q : word / 2 ^ 37 ≡ i * 2 ^ 26 + s.foreground * 2 ^ 18 + j * 2 ^ 17 + s.background * 2 ^ 9 + s.add =
-      omega (arith, h.remove-fits, h.zeros_fit) in
-      omega (arith, h.add-fits)
+      omega (arith, h.remove_fits, h.zeros_fit) in
+      omega (arith, h.add_fits)
 
   remove_back : word / 2 ^ 28 % 2 ^ 9 ≡ s.remove
   remove_back =
       let q : word / 2 ^ 28 ≡ i * 2 ^ 35 + s.foreground * 2 ^ 27 + j * 2 ^ 26 + s.background * 2 ^ 18 + s.add * 2 ^ 9 + s.remove =
       omega (arith, h.zeros_fit) in
-      omega (arith, h.remove-fits)
+      omega (arith, h.remove_fits)
 
   zeros_back : word % 2 ^ 28 ≡ s.zeros
   zeros_back = omega (arith, h.zeros_fit)

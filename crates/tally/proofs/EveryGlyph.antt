@@ -1,6 +1,6 @@
 -- Theorem `counts`: a tally misses no glyph. At a limit above 0 the counts of glyphs placed, clipped, zero-width, over-wide and
 -- dropped add up to the number of glyphs, the records that aren't heads.
--- Theorem `all-whitespace`: every dropped glyph is whitespace.
+-- Theorem `all_whitespace`: every dropped glyph is whitespace.
 -- Theorem `tally_counts`: both, for every accepted tally call with a limit above 0.
 -- Theorem `default-alignment_irrelevant`: no count depends on the notice's default alignment.
 use Prim.Native.Nat.{ℕ, ◌+◌, ◌<◌}
@@ -12,7 +12,7 @@ use lib.ListN.{length, length-map}
 use Rattle.text.specs.declared.Alignment.{Alignment}
 use Rattle.text.specs.declared.Alignment.TheVariants.{Left}
 use Rattle.text.specs.Line.{Glyph, lines_from, glyphs_from, Opens}
-use Rattle.text.proofs.LineGlyphs.{all-glyphs}
+use Rattle.text.proofs.LineGlyphs.{all_glyphs}
 use Rattle.text.proofs.TextLines.{opens-none}
 use Rattle.refuse.specs.declared.Refusal.TheVariants.{TextHeads}
 use Rattle.refuse.specs.declared.Verdict.TheVariants.{Accepted}
@@ -26,7 +26,7 @@ use Rattle.line_composer.specs.declared.Method.TheVariants.{WordWrap}
 use Rattle.line_composer.specs.Lines.{Line, aligned, lines, skipped, dropped}
 use Rattle.line_composer.specs.Places.{starts}
 use Rattle.tally_lines.specs.TallyingExtra.{line_counts}
-use Rattle.tally_lines.proofs.Ways.{all-counted}
+use Rattle.tally_lines.proofs.Ways.{all_counted}
 use Rattle.tally_lines.proofs.Emitted.{lists, lines-wrapped, emitted-length}
 use Rattle.tally.specs.Tally.{composed, tally_of}
 use Rattle.tally.specs.Call.{Call, rule_in, causes_of, verdict_of, counts_of}
@@ -35,7 +35,7 @@ use Rattle.tally.proofs.Accounted.{skipped-length, all-accounted, all-blank}
 -- a text that opens with a head has no glyph outside its lines, so its over-wide glyphs are those of its lines
 pub skipped-glyphs : (u : Rule) (text : List ℕ) → Opens text → length (over_wides u (glyphs_from u.ambiguous 0 text)) ≡ length (skipped u text)
 unfolding skipped
-skipped-glyphs u text o = rw (all-glyphs u.ambiguous 0 text (opens-none text o)) at (skipped-length u (lines_from 0 text))
+skipped-glyphs u text o = rw (all_glyphs u.ambiguous 0 text (opens-none text o)) at (skipped-length u (lines_from 0 text))
 
 pub counts : (u : Rule) (text : List ℕ) → Opens text → 0 < u.limit →
     let c = tally_of u text in
@@ -45,14 +45,14 @@ counts u text o h =
     rw (ne_eqb u.limit 0 (λ (e : u.limit ≡ 0). omega arith))
     (omega (
       arith,
-      all-counted u.limit (starts (composed u text)),
+      all_counted u.limit (starts (composed u text)),
       emitted-length u Left text,
-      rw (all-glyphs u.ambiguous 0 text (opens-none text o)) at (all-accounted u (lines_from 0 text) h),
+      rw (all_glyphs u.ambiguous 0 text (opens-none text o)) at (all-accounted u (lines_from 0 text) h),
     ))
 
-pub all-whitespace : (u : Rule) (text : List ℕ) → solids (dropped u text) ≡ []
+pub all_whitespace : (u : Rule) (text : List ℕ) → solids (dropped u text) ≡ []
 unfolding dropped
-all-whitespace u text = all-blank u (lines_from 0 text)
+all_whitespace u text = all-blank u (lines_from 0 text)
 
 -- an accepted text opens with a head
 opened : (call : Call) → verdict_of call ≡ Accepted → Opens call.text
@@ -64,7 +64,7 @@ pub tally_counts : (call : Call) → verdict_of call ≡ Accepted → 0 < call.l
     (c.placed + c.clipped + c.zero_width + c.over_wide + c.dropped ≡ length (glyphs_from call.ambiguous 0 call.text))
     × (solids (dropped (rule_in call) call.text) ≡ [])
 unfolding counts_of
-tally_counts call a h = (rw a (counts (rule_in call) call.text (opened call a) h), all-whitespace (rule_in call) call.text)
+tally_counts call a h = (rw a (counts (rule_in call) call.text (opened call a) h), all_whitespace (rule_in call) call.text)
 
 -- counts of lines depend on their glyphs only, not on their alignment
 left-starts : (ls : List Line) → starts (map (aligned Left) (lists ls)) ≡ starts ls

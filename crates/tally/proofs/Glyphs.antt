@@ -22,14 +22,14 @@ after u text i = glyphs_from u.ambiguous i (drop i text)
 -- Invariant of `read_glyph_counts`: i records were read; the counts so far plus those of the remaining records are those of the text.
 pub record Passing (u : Rule) (text : List ℕ) (glyphs over i : ℕ) : Type 0 where
   pub within : i ≤ length text
-  pub glyphs-few : glyphs ≤ i
-  pub over-few : over ≤ i
+  pub glyphs_few : glyphs ≤ i
+  pub over_few : over ≤ i
   pub all : glyphs + length (after u text i) ≡ length (glyphs_from u.ambiguous 0 text)
   pub wide : over + length (over_wides u (after u text i)) ≡ length (over_wides u (glyphs_from u.ambiguous 0 text))
 
 module _ (u : Rule) (text : List ℕ) where
   pub passing_starts : Passing u text 0 0 0
-  passing_starts = record { within = omega arith; glyphs-few = omega arith; over-few = omega arith; all = omega arith; wide = omega arith }
+  passing_starts = record { within = omega arith; glyphs_few = omega arith; over_few = omega arith; all = omega arith; wide = omega arith }
 
   module _ (glyphs over i : ℕ) (p : Passing u text glyphs over i) where
     module _ (h : i < length text) (b : Bool) (e : b ≡ is_head (get_or text i 0)) where
@@ -38,8 +38,8 @@ module _ (u : Rule) (text : List ℕ) where
           let k : after u text i ≡ after u text (i + 1) = rw (add-one, drop-cons text i 0 h, ← e, t) in
           record {
             within = omega arith;
-            glyphs-few = omega (arith, p.glyphs-few);
-            over-few = omega (arith, p.over-few);
+            glyphs_few = omega (arith, p.glyphs_few);
+            over_few = omega (arith, p.over_few);
             all = rw k at p.all;
             wide = rw k at p.wide;
           }
@@ -54,8 +54,8 @@ module _ (u : Rule) (text : List ℕ) where
             let t : ltb u.limit (width_of u.ambiguous (get_or text i 0)) ≡ true = lt-ltb u.limit (width_of u.ambiguous (get_or text i 0)) (omega arith) in
             record {
               within = omega arith;
-              glyphs-few = omega (arith, p.glyphs-few);
-              over-few = omega (arith, p.over-few);
+              glyphs_few = omega (arith, p.glyphs_few);
+              over_few = omega (arith, p.over_few);
               all = omega (arith, rw glyph-first at p.all);
               wide = omega (arith, rw (glyph-first, t) at p.wide);
             }
@@ -66,8 +66,8 @@ module _ (u : Rule) (text : List ℕ) where
             let t : ltb u.limit (width_of u.ambiguous (get_or text i 0)) ≡ false = le-ltb u.limit (width_of u.ambiguous (get_or text i 0)) (omega arith) in
             record {
               within = omega arith;
-              glyphs-few = omega (arith, p.glyphs-few);
-              over-few = omega (arith, p.over-few);
+              glyphs_few = omega (arith, p.glyphs_few);
+              over_few = omega (arith, p.over_few);
               all = omega (arith, rw glyph-first at p.all);
               wide = rw (glyph-first, t) at p.wide;
             }

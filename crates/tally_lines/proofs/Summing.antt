@@ -19,7 +19,7 @@ use Rattle.line_composer.proofs.Bounds.{lines-short}
 use Rattle.count_lines.proofs.Counting.{Counting, counting_starts, counting_goes, counting_less}
 use Rattle.tally_lines.specs.declared.LineCounts.{LineCounts}
 use Rattle.tally_lines.specs.TallyingExtra.{empty_lines, sum, line_counts}
-use Rattle.tally_lines.proofs.Ways.{all-counted}
+use Rattle.tally_lines.proofs.Ways.{all_counted}
 use Rattle.tally_lines.proofs.Sums.{sum-none, none-sum, sum_assoc, first-line}
 use Rattle.tally_lines.proofs.Emitted.{text-emits}
 
@@ -30,7 +30,7 @@ Few text c = (c.lines ≤ length text) × (c.placed + c.clipped + c.zero_width �
 few : (u : Rule) (default : Alignment) (text : List ℕ) → Few text (line_counts u.limit (lines u WordWrap default text))
 unfolding Few line_counts
 few u default text =
-    (lines-short u default text, omega (arith, all-counted u.limit (starts (lines u WordWrap default text)), text-emits u default text))
+    (lines-short u default text, omega (arith, all_counted u.limit (starts (lines u WordWrap default text)), text-emits u default text))
 
 -- Invariant of `line_counts`: the text is short enough, and the counts of the lines pulled plus those of the remaining lines are
 -- those of all lines.

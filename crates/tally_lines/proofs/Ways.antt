@@ -53,10 +53,10 @@ module _ (limit : ℕ) (s : Start) where
       refl
 
 -- the three counts add up to the number of glyphs
-pub all-counted : (limit : ℕ) (ss : List Start) → count_of (is_placed limit) ss + count_of (is_clipped limit) ss + count_of is_zero_width ss ≡ length ss
-all-counted limit [] = omega arith
-all-counted limit (s ∷ ss) =
-    let later = all-counted limit ss in
+pub all_counted : (limit : ℕ) (ss : List Start) → count_of (is_placed limit) ss + count_of (is_clipped limit) ss + count_of is_zero_width ss ≡ length ss
+all_counted limit [] = omega arith
+all_counted limit (s ∷ ss) =
+    let later = all_counted limit ss in
     ways limit s _
     (λ b. simp (b.of_zero_width, b.of_placed, b.of_clipped) (omega arith))
     (λ b. simp (b.of_zero_width, b.of_placed, b.of_clipped) (omega arith))

@@ -6,5 +6,5 @@ use Rattle.buffer.specs.declared.Screen.{Screen}
 pub record Accepted (screen : Screen) : Type 0 where
   pub columns : 0 < screen.columns
   pub rows : 0 < screen.rows
-  pub most-columns : screen.columns ≤ 512
-  pub most-rows : screen.rows ≤ 256
+  pub most_columns : screen.columns ≤ 512
+  pub most_rows : screen.rows ≤ 256

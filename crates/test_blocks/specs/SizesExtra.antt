@@ -7,4 +7,4 @@ pub record Writable (case : Case) : Type 0 where
   pub titles : case.titles ≤ 16
   pub glyphs : case.glyphs ≤ 256
   pub styles : 0 < case.styles
-  pub most-styles : case.styles ≤ 8
+  pub most_styles : case.styles ≤ 8

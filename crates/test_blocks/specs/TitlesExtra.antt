@@ -7,4 +7,4 @@ pub record Bounded (manner : Manner) : Type 0 where
   pub titles : manner.titles ≤ 16
   pub glyphs : manner.glyphs ≤ 256
   pub styles : 0 < manner.styles
-  pub most-styles : manner.styles ≤ 8
+  pub most_styles : manner.styles ≤ 8

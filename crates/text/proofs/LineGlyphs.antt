@@ -27,8 +27,8 @@ split-glyphs a number (r ∷ rs) = go (is_head r) (split-glyphs a (suc number) r
     go false ih = ap {B = List Glyph} (λ (gs : List Glyph). glyph_from a number r ∷ gs) ih
 
 -- with no glyph before the first head, the lines have all glyphs
-pub all-glyphs : (a : AmbiguousWidth) (number : ℕ) (rs : List ℕ) → until_head rs ≡ [] → line_glyphs a (lines_from number rs) ≡ glyphs_from a number rs
-all-glyphs a number rs e = rw e at (split-glyphs a number rs)
+pub all_glyphs : (a : AmbiguousWidth) (number : ℕ) (rs : List ℕ) → until_head rs ≡ [] → line_glyphs a (lines_from number rs) ≡ glyphs_from a number rs
+all_glyphs a number rs e = rw e at (split-glyphs a number rs)
 
 -- there are at most as many glyphs as records
 pub glyphs-short : (a : AmbiguousWidth) (number : ℕ) (rs : List ℕ) → length (glyphs_from a number rs) ≤ length rs

@@ -89,7 +89,7 @@ module _ (s : Screen) (r : Rect) (styles : List ℕ) (alignment : Alignment) (gl
       ≡ drawn s.columns (in_row r.x (right_of r) r.y (title_line styles alignment r.width glyphs)) cells
   line-drawn right part a e h =
       rw e (row-borrowed s.columns r.x (right_of r) r.y (title_line styles alignment r.width glyphs) cells part
-      a.on_screen.columns (omega (arith, a.few-columns, a.on_screen.right)) a.on_screen.right (row-end s (length cells) r a) (rw e at h))
+      a.on_screen.columns (omega (arith, a.few_columns, a.on_screen.right)) a.on_screen.right (row-end s (length cells) r a) (rw e at h))
 
   -- the titles style, then the line
   pub title-drawn : (number style : ℕ) (next last : List ℕ) → TitleArea s (length cells) r → Fits w16 s.rows → style ≡ style_at styles number
@@ -101,4 +101,4 @@ module _ (s : Screen) (r : Rect) (styles : List ℕ) (alignment : Alignment) (gl
       first_then s.columns _ (inside r (λ column row. title_line styles alignment r.width glyphs column) ∷ []) cells next last (rw e at p)
       (q
       ∙ drawn-same s.columns _ _ next a.on_screen.columns
-      (λ column row cell _. row_inside r (title_line styles alignment r.width glyphs) column row cell a.one-row (omega (arith, a.in_rows, fits.fits))))
+      (λ column row cell _. row_inside r (title_line styles alignment r.width glyphs) column row cell a.one_row (omega (arith, a.in_rows, fits.fits))))

@@ -18,8 +18,8 @@ use Rattle.titles.specs.Titles.{with_x, with_width, past_title, centered_from, c
 use Rattle.titles.specs.PlacingExtra.{center_place, AreaFits}
 
 -- a non-empty rectangle has a column
-some-columns : (r : Rect) → is_empty r ≡ false → 0 < r.width
-some-columns r h =
+some_columns : (r : Rect) → is_empty r ≡ false → 0 < r.width
+some_columns r h =
     let n = eqb-false r.width 0 (neither (eqb r.width 0) (eqb r.height 0) h).0 in
     omega (arith, n)
 
@@ -39,7 +39,7 @@ pub record TestedArea (s : Screen) (cells : ℕ) (area : Rect) (empty : Bool) : 
 module _ (s : Screen) (cells : ℕ) (area : Rect) where
   -- its right edge doesn't saturate
   pub edge-within : TitleArea s cells area → area.x + area.width < 2 ^ 15
-  edge-within f = omega (arith, f.on_screen.right, f.few-columns)
+  edge-within f = omega (arith, f.on_screen.right, f.few_columns)
 
   -- columns that end within it lie on the screen
   columns_fit : (x width : ℕ) → TitleArea s cells area → x + width ≤ area.x + area.width → TitleArea s cells (with_x x (with_width width area))
@@ -49,12 +49,12 @@ module _ (s : Screen) (cells : ℕ) (area : Rect) where
             record {
               columns = f.on_screen.columns;
               size = f.on_screen.size;
-              right = omega (arith, h, f.on_screen.right, f.few-columns);
+              right = omega (arith, h, f.on_screen.right, f.few_columns);
               bottom = f.on_screen.bottom;
             };
-        one-row = f.one-row;
+        one_row = f.one_row;
         in_rows = f.in_rows;
-        few-columns = f.few-columns;
+        few_columns = f.few_columns;
       }
 
   -- a non-empty area lies on the screen
@@ -71,7 +71,7 @@ module _ (s : Screen) (cells : ℕ) (area : Rect) where
 -- the area remaining after a title
 pub past_fits : (s : Screen) (cells : ℕ) (area : Rect) (width : ℕ) → TitleArea s cells area → AreaFits s cells (past_title width area)
 past_fits s cells area width f h =
-    let k : 0 < (past_title width area).width = some-columns (past_title width area) h in
+    let k : 0 < (past_title width area).width = some_columns (past_title width area) h in
     let e : area.x + area.width < 2 ^ 15 = edge-within s cells area f in
     columns_fit s cells area (past_title width area).x (past_title width area).width f (past-edge area.x area.width width e k)
   where
@@ -93,6 +93,6 @@ center-area-fits s cells area total p fits e = rw e (go (leb total area.width) r
         → AreaFits s cells (cond {A = Place} b (record { area = middle; offset = 0; truncates = false }) (record { area = area; offset = center_offset total area; truncates = true })).area
     go true e h =
         let k : total ≤ area.width = leb-true total area.width e in
-        let f : TitleArea s cells area = fits (non_empty_with_width middle area.x area.width h (omega (arith, some-columns middle h))) in
+        let f : TitleArea s cells area = fits (non_empty_with_width middle area.x area.width h (omega (arith, some_columns middle h))) in
         columns_fit s cells area middle.x total f (middle-edge area.x area.width (edge-within s cells area f) k)
     go false e h = fits h

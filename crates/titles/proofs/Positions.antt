@@ -62,9 +62,9 @@ module _ (s : Screen) (n : ℕ) (met : Rect) (some : is_empty met ≡ false) (on
                   right = right-inside met.x met.width (taken (at_left b)) (taken (at_right b)) on.right (omega (arith, k));
                   bottom = omega (arith, row_inside position);
                 };
-            one-row = refl;
+            one_row = refl;
             in_rows = row_inside position;
-            few-columns = few;
+            few_columns = few;
           }
 
 pub titles-area-high : (b : Block) (position : TitlePosition) (met area : Rect) → area ≡ titles_area b position met → area.height ≡ 1

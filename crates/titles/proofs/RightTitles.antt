@@ -48,13 +48,13 @@ module _ (s : Screen) (n : ℕ) (area : Rect) (t : TitleArea s n area) where
   row_fits x width h =
       record {
         on_screen = record { columns = t.on_screen.columns; size = t.on_screen.size; right = h; bottom = t.on_screen.bottom };
-        one-row = t.one-row;
+        one_row = t.one_row;
         in_rows = t.in_rows;
-        few-columns = t.few-columns;
+        few_columns = t.few_columns;
       }
 
   pub part-fits : (width : ℕ) (part : Rect) → part ≡ right_part width area → TitleArea s n part
-  part-fits width part e = rw e (row_fits _ _ (part-ends area.x area.width width s.columns t.on_screen.right t.few-columns))
+  part-fits width part e = rw e (row_fits _ _ (part-ends area.x area.width width s.columns t.on_screen.right t.few_columns))
 
   left-fits : (width : ℕ) → TitleArea s n (before_title width area)
   left-fits width = row_fits _ _ (left-ends area.x area.width width s.columns t.on_screen.right)

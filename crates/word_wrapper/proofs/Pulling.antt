@@ -53,9 +53,9 @@ module _ (u : Rule) (records : List ℕ) (s : WordWrapper) (h : WrapperInvariant
             record {
               left = k.left;
               is_row = k.is_row;
-              is-spaces = k.is-spaces;
+              is_spaces = k.is_spaces;
               is_word = k.is_word;
-              is-solid = k.is-solid;
+              is_solid = k.is_solid;
               split = k.split;
               wordless = k.wordless;
               within = k.within;

@@ -17,7 +17,7 @@ use Rattle.wrapping.specs.RunsExtra.{run_of}
 use Rattle.word_wrapper.specs.StepsExtra.{join_run, join_if_due_run, emit_row_run, skip_glyph_run, append_glyph_run, append_or_drop_run, emit_or_append_run, step_run}
 use Rattle.word_wrapper.specs.PullsExtra.{Shows, emitted_of, next_of}
 use Rattle.wrapping.proofs.ListRuns.{Read}
-use Rattle.wrapping.proofs.Ways.{filled, emits, joining, filled-ways, step-ways}
+use Rattle.wrapping.proofs.Ways.{filled, emits, joining, filled_ways, step-ways}
 use Rattle.word_wrapper.proofs.States.{row_read, spaces-empty, join_tests_agree, full_tests_agree, join-shows, emptied-shows, wide-shows, dropped-shows, appended-shows}
 
 empty_nil : (l : List Glyph) → empty l ≡ true → l ≡ []
@@ -96,7 +96,7 @@ module _ (u : Rule) (records : List ℕ) (s : WordWrapper) (t : Pending) (g : Gl
   unfolding emit_or_append_run
   filled_matches =
       rw (full_tests_agree u records s t n.shows g)
-      (filled-ways u t g
+      (filled_ways u t g
       (λ (r : Step).
       Matches u records s
       (cond (full u t g) (Emitted (append_or_drop_run (emit_row_run u records s) g.width g.whitespace) s.row) (Continued (append_glyph_run s g.width g.whitespace)))

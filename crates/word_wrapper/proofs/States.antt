@@ -25,7 +25,7 @@ module _ (u : Rule) (records : List ℕ) (s : WordWrapper) (t : Pending) (h : Sh
   pub shows-sum : s.row.width + s.spaces.width + s.word.width ≤ 7 * s.at
   shows-sum =
       let r : s.row.width ≡ total t.row = ap (λ (x : Run). x.width) h.is_row ∙ run_width t.row in
-      let p : s.spaces.width ≡ total t.spaces = ap (λ (x : Run). x.width) h.is-spaces ∙ run_width t.spaces in
+      let p : s.spaces.width ≡ total t.spaces = ap (λ (x : Run). x.width) h.is_spaces ∙ run_width t.spaces in
       let w : s.word.width ≡ total t.word = ap (λ (x : Run). x.width) h.is_word ∙ run_width t.word in
       omega (arith, simp total-append at (ap total h.split), total_bound u 0 (take s.at records), length-take-le s.at records h.within)
 
@@ -37,22 +37,22 @@ module _ (u : Rule) (records : List ℕ) (s : WordWrapper) (t : Pending) (h : Sh
       glyphs_run u s.at records (h.left ++ t.row) t.spaces t.word h.within (h.split ∙ sym (append_assoc h.left t.row (t.spaces ++ t.word)))
 
   pub shows-spaces : Spans u records s.spaces
-  shows-spaces = rw h.is-spaces spaces-read.spans
+  shows-spaces = rw h.is_spaces spaces-read.spans
 
   pub spaces-empty : eqb s.spaces.end 0 ≡ empty t.spaces
-  spaces-empty = rw h.is-spaces (run_empty t.spaces)
+  spaces-empty = rw h.is_spaces (run_empty t.spaces)
 
   pub join_tests_agree : (g : Glyph) → joins u (pending_of s) g.width g.whitespace ≡ must_join u t g
   unfolding joins overflowing must_join
-  join_tests_agree g = simp (h.is_row, h.is-spaces, h.is_word, h.is-solid, run_empty, run_width)
+  join_tests_agree g = simp (h.is_row, h.is_spaces, h.is_word, h.is_solid, run_empty, run_width)
 
   pub full_tests_agree : (g : Glyph) → full_run u (pending_of s) g.width ≡ full u t g
   unfolding full_run full
-  full_tests_agree g = simp (h.is_row, h.is-spaces, h.is_word, run_width)
+  full_tests_agree g = simp (h.is_row, h.is_spaces, h.is_word, run_width)
 
   pub gathered_agree : gather_run u.trim (pending_of s) ≡ run_of (gathered u t)
   unfolding gather_run gathered takes_spaces
-  gathered_agree = rw (h.is_row, h.is-spaces, h.is_word) (both u.trim t.row t.spaces t.word)
+  gathered_agree = rw (h.is_row, h.is_spaces, h.is_word) (both u.trim t.row t.spaces t.word)
     where
       both : (trim : Bool) (row spaces word : List Glyph) →
           cond (eqb (run_of row).end 0) (cond trim (run_of word) (append_run (run_of spaces) (run_of word))) (append_run (append_run (run_of row) (run_of spaces)) (run_of word))
@@ -74,9 +74,9 @@ module _ (u : Rule) (records : List ℕ) (s : WordWrapper) (t : Pending) (h : Sh
       record {
         left = h.left ++ unjoined u t;
         is_row = gathered_agree;
-        is-spaces = refl;
+        is_spaces = refl;
         is_word = refl;
-        is-solid = h.is-solid;
+        is_solid = h.is_solid;
         split = split-gathered;
         wordless = λ _. refl;
         within = h.within;
@@ -97,9 +97,9 @@ module _ (u : Rule) (records : List ℕ) (s : WordWrapper) (t : Pending) (h : Sh
       record {
         left = h.left ++ (t.row ++ fitting room t.spaces);
         is_row = refl;
-        is-spaces = rw (h.is-spaces, spaces-read.glyphs, w);
+        is_spaces = rw (h.is_spaces, spaces-read.glyphs, w);
         is_word = h.is_word;
-        is-solid = h.is-solid;
+        is_solid = h.is_solid;
         split = h.split ∙ ap (λ (x : List Glyph). h.left ++ (t.row ++ (x ++ t.word))) (fitting-split room t.spaces) ∙ simp append_assoc;
         wordless = h.wordless;
         within = h.within;
@@ -118,9 +118,9 @@ module _ (u : Rule) (records : List ℕ) (s : WordWrapper) (t : Pending) (h : Sh
         record {
           left = h.left;
           is_row = h.is_row;
-          is-spaces = h.is-spaces;
+          is_spaces = h.is_spaces;
           is_word = h.is_word;
-          is-solid = h.is-solid;
+          is_solid = h.is_solid;
           split = read_next ∙ rw (o, append-nil);
           wordless = h.wordless;
           within = omega arith;
@@ -133,9 +133,9 @@ module _ (u : Rule) (records : List ℕ) (s : WordWrapper) (t : Pending) (h : Sh
           record {
             left = h.left ++ (g ∷ []);
             is_row = h.is_row;
-            is-spaces = h.is-spaces;
+            is_spaces = h.is_spaces;
             is_word = h.is_word;
-            is-solid = h.is-solid;
+            is_solid = h.is_solid;
             split = read_next ∙ simp (o, a, b, c, append-nil);
             wordless = h.wordless;
             within = omega arith;
@@ -160,9 +160,9 @@ module _ (u : Rule) (records : List ℕ) (s : WordWrapper) (t : Pending) (h : Sh
               record {
                 left = h.left;
                 is_row = h.is_row;
-                is-spaces = rw (h.is-spaces, ← number_is) (sym (run_push t.spaces g));
+                is_spaces = rw (h.is_spaces, ← number_is) (sym (run_push t.spaces g));
                 is_word = h.is_word;
-                is-solid = refl;
+                is_solid = refl;
                 split = read_next ∙ simp (o, p refl, append-nil, append_assoc);
                 wordless = λ _. p refl;
                 within = omega arith;
@@ -171,9 +171,9 @@ module _ (u : Rule) (records : List ℕ) (s : WordWrapper) (t : Pending) (h : Sh
               record {
                 left = h.left;
                 is_row = h.is_row;
-                is-spaces = h.is-spaces;
+                is_spaces = h.is_spaces;
                 is_word = rw (h.is_word, ← number_is) (sym (run_push t.word g));
-                is-solid = refl;
+                is_solid = refl;
                 split = read_next ∙ simp (o, append_assoc);
                 wordless = λ z. absurd (true≢false z);
                 within = omega arith;

@@ -94,9 +94,9 @@ start-shows u records =
     record {
       left = [];
       is_row = refl;
-      is-spaces = refl;
+      is_spaces = refl;
       is_word = refl;
-      is-solid = refl;
+      is_solid = refl;
       split = refl;
       wordless = λ _. refl;
       within = omega arith;

@@ -17,9 +17,9 @@ use Rattle.word_wrapper.specs.StepsExtra.{step_run, finish_run}
 pub record Shows (u : Rule) (records : List ℕ) (s : WordWrapper) (t : Pending) : Type 0 where
   pub left : List Glyph
   pub is_row : s.row ≡ run_of t.row
-  pub is-spaces : s.spaces ≡ run_of t.spaces
+  pub is_spaces : s.spaces ≡ run_of t.spaces
   pub is_word : s.word ≡ run_of t.word
-  pub is-solid : s.solid ≡ t.solid
+  pub is_solid : s.solid ≡ t.solid
   pub split : not_over_wide u (numbered u.ambiguous 0 (take s.at records)) ≡ left ++ (t.row ++ (t.spaces ++ t.word))
   pub wordless : t.solid ≡ false → t.word ≡ []
   pub within : s.at ≤ length records

@@ -76,11 +76,11 @@ module _ (u : Rule) (records : List ℕ) (a : Run) where
         unfolding is_over_wide glyphs_from
         next_kept = next_glyph ∙ rw (← e, le-ltb u.limit w o, add-one i)
 
-        sum-later : a.width ≡ (room₀ - room) + (w + total (glyphs_from u records a (i + 1)))
-        sum-later = d.sum ∙ ap (λ (n : ℕ). (room₀ - room) + n) (ap total next_kept ∙ rw e)
+        sum_later : a.width ≡ (room₀ - room) + (w + total (glyphs_from u records a (i + 1)))
+        sum_later = d.sum ∙ ap (λ (n : ℕ). (room₀ - room) + n) (ap total next_kept ∙ rw e)
 
         pub dropping_enough : room₀ - room ≤ a.width
-        dropping_enough = omega (arith, sum-later)
+        dropping_enough = omega (arith, sum_later)
 
         pub dropping_goes : w ≤ room → Dropping u records a room₀ (room - w) (i + 1)
         dropping_goes f =
@@ -88,7 +88,7 @@ module _ (u : Rule) (records : List ℕ) (a : Run) where
               within = d.within;
               same = d.same ∙ ap (after_fitting room) next_kept ∙ rw (← e, le-leb w room f);
               less = omega (arith, d.less);
-              sum = omega (arith, sum-later, d.less);
+              sum = omega (arith, sum_later, d.less);
               last = end_again a.end (i + 1) (glyphs_from u records a (i + 1)) (rw next_kept at d.last);
             }
 
@@ -98,7 +98,7 @@ module _ (u : Rule) (records : List ℕ) (a : Run) where
             let q : after_fitting room₀ (glyphs_in u records a) ≡ glyph ∷ glyphs_from u records a (i + 1)
             = d.same ∙ ap (after_fitting room) next_kept ∙ rw (← e, lt-leb w room f) in
             let l : end_from (i + 1) (glyphs_from u records a (i + 1)) ≡ a.end = rw next_kept at d.last in
-            let v : a.width - (room₀ - room) ≡ width_of u.ambiguous (get_or records i 0) + total (glyphs_from u records a (i + 1)) = omega (arith, sum-later) in
+            let v : a.width - (room₀ - room) ≡ width_of u.ambiguous (get_or records i 0) + total (glyphs_from u records a (i + 1)) = omega (arith, sum_later) in
             rw q (cc)
 
 pub ruleset dropping = (dropping_starts, dropping_ends, dropping_skips, dropping_enough, dropping_goes, dropping_stops)

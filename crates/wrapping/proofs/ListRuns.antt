@@ -149,9 +149,9 @@ glyphs_run u n records p (g ∷ l) q h e =
     let o = upto_glyphs u g.number (drop g.number (take end records)) (g ∷ l) [] (x ∙ sym (append-nil (g ∷ l))) in
     record { glyphs = x; spans = record { glyphs = ap run_of (sym x); within = omega arith; ordered = o.0 } }
 
-pub spans-width : (u : Rule) (records : List ℕ) (line : Run) → Spans u records line → line.width ≤ 6 * length records
+pub spans_width : (u : Rule) (records : List ℕ) (line : Run) → Spans u records line → line.width ≤ 6 * length records
 unfolding glyphs_in
-spans-width u records line h =
+spans_width u records line h =
     omega (
       arith,
       ap (λ (r : Run). r.width) h.glyphs,

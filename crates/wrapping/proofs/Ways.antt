@@ -41,13 +41,13 @@ joining u s g =
     record { lines = next.lines; dropped = unjoined u s ++ next.dropped; pending = next.pending; done = next.done }
 
 module _ (u : Rule) (s : Pending) (g : Glyph) (P : Step → Type 0) where
-  pub filled-ways :
+  pub filled_ways :
       (full u s g ≡ true → drops (emptied u s) g ≡ true → P (emits u s (g ∷ []) (emptied u s) true))
       → (full u s g ≡ true → drops (emptied u s) g ≡ false → P (emits u s [] (appended (emptied u s) g) false))
       → (full u s g ≡ false → P (silent (appended s g)))
       → P (filled u s g)
   unfolding ◌then◌ emit_step append_step
-  filled-ways drop emit append = cond_cases (λ (r : Step). P (onward r)) (full u s g) _ _ (λ e. go e (drops (emptied u s) g) refl) append
+  filled_ways drop emit append = cond_cases (λ (r : Step). P (onward r)) (full u s g) _ _ (λ e. go e (drops (emptied u s) g) refl) append
     where
       onward : Step → Step
       onward r =

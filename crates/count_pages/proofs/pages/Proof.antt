@@ -1,5 +1,5 @@
 -- `count_pages::pages` meets its contract.
-use Rattle.draw_notice.proofs.Answers.{few-columns, few-rows, composable}
+use Rattle.draw_notice.proofs.Answers.{few_columns, few_rows, composable}
 use Rattle.count_pages.proofs.Answers.{pages_refused, pages-none, inner_sizes, few-lines, lines_fit, pages-counted}
 use mathlib.Core.Path.{sym, ◌∙◌}
 use native.Mathlib.Omega.{arith}
@@ -11,10 +11,10 @@ returns : tie.Need-returns
 returns c = pages_refused _ _ c.before.before.before.draw-notice-verdict.ensures _ (search rules)
 
 cast-t14 : tie.Need-overflow-cast-t14
-cast-t14 c = record { fits = few-columns _ _ c.before.before.draw-notice-verdict.ensures (search rules) }
+cast-t14 c = record { fits = few_columns _ _ c.before.before.draw-notice-verdict.ensures (search rules) }
 
 cast-t15 : tie.Need-overflow-cast-t15
-cast-t15 c = record { fits = few-rows _ _ c.before.before.draw-notice-verdict.ensures (search rules) }
+cast-t15 c = record { fits = few_rows _ _ c.before.before.draw-notice-verdict.ensures (search rules) }
 
 returns-2 : tie.Need-returns-2
 returns-2 c =

@@ -1,6 +1,6 @@
 -- `draw_frame::draw_frame` meets its contract.
 use Rattle.draw_frame.specs.Call.{drawing_of, inner_in}
-use Rattle.draw_frame.proofs.Answers.{frame_refused, frame-drawn, few-columns, few-rows, drawable}
+use Rattle.draw_frame.proofs.Answers.{frame_refused, frame_drawn, few_columns, few_rows, drawable}
 use borrow.Author.Rules.{rules}
 use Rattle.draw_frame.proofs.draw_frame.Statement.{statement}
 use Rattle.draw_frame.proofs.draw_frame.Tie as tie
@@ -9,10 +9,10 @@ returns : tie.Need-returns
 returns c = frame_refused _ _ c.before.before.before.draw-frame-verdict.ensures _ (search rules)
 
 cast-t15 : tie.Need-overflow-cast-t15
-cast-t15 c = record { fits = few-columns _ _ c.before.before.draw-frame-verdict.ensures (search rules) }
+cast-t15 c = record { fits = few_columns _ _ c.before.before.draw-frame-verdict.ensures (search rules) }
 
 cast-t16 : tie.Need-overflow-cast-t16
-cast-t16 c = record { fits = few-rows _ _ c.before.before.draw-frame-verdict.ensures (search rules) }
+cast-t16 c = record { fits = few_rows _ _ c.before.before.draw-frame-verdict.ensures (search rules) }
 
 render-frame-requires : tie.Need-render-frame-requires
 render-frame-requires c κs = drawable _ _ c.before.before.before.draw-frame-verdict.ensures (search rules)
@@ -21,7 +21,7 @@ returns-2 : tie.Need-returns-2
 unfolding drawing_of inner_in
 returns-2 c =
     let framed = c.before.before.before in
-    frame-drawn _ _ framed.before.before.before.before.draw-frame-verdict.ensures (search rules) _ _ c.inner-area.ensures framed.render-frame.ensures
+    frame_drawn _ _ framed.before.before.before.before.draw-frame-verdict.ensures (search rules) _ _ c.inner-area.ensures framed.render-frame.ensures
 
 pub draw_frame_spec : {M : Type 1} → statement M
 draw_frame_spec =

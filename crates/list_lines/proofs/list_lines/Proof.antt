@@ -1,5 +1,5 @@
 -- `list_lines::list_lines` meets its contract.
-use Rattle.refuse.proofs.Accepted.{lines-sound, lines-limit}
+use Rattle.refuse.proofs.Accepted.{lines_sound, lines_limit}
 use Rattle.list_lines.specs.Call.{lines_of, marked_lines_of}
 use Rattle.list_lines.proofs.Answers.{list_refused, list-short, list-room, list_written}
 use native.Mathlib.Omega.{arith}
@@ -21,7 +21,7 @@ enum_told c = search rules
 
 count-lines-requires : tie.Need-count-lines-requires
 count-lines-requires c κs =
-    let right = lines-sound _ _ _ c.before.before.line-verdict.ensures (search rules) in
+    let right = lines_sound _ _ _ c.before.before.line-verdict.ensures (search rules) in
     (right.few, right.opens)
 
 list-too-short-requires : tie.Need-list-too-short-requires
@@ -35,8 +35,8 @@ returns-2 c =
 write-lines-requires : tie.Need-write-lines-requires
 write-lines-requires c κs =
     let checked = c.before.before.before.before.before.before.line-verdict.ensures in
-    let right = lines-sound _ _ _ checked (search rules) in
-    let low = lines-limit _ _ _ checked (search rules) in
+    let right = lines_sound _ _ _ checked (search rules) in
+    let low = lines_limit _ _ _ checked (search rules) in
     ((omega (arith, right.short), right.opens, omega arith), list-room _ _ _ _ c.before.before.before.count-lines.ensures c.before.before.list-too-short.ensures c.before.if1.false)
 
 same_length : tie.Need-same-length

@@ -1,7 +1,7 @@
 -- `measure::line_width` meets its contract.
 use Rattle.measure_text.proofs.Lines.{width-sum}
 use Rattle.measure.proofs.Answers.{width_refused, width-answered, width-sound}
-use Rattle.measure.proofs.Lines.{width-sum-fits}
+use Rattle.measure.proofs.Lines.{width_sum_fits}
 use borrow.Author.Rules.{rules}
 use Rattle.measure.proofs.line_width.Statement.{statement}
 use Rattle.measure.proofs.line_width.Tie as tie
@@ -35,7 +35,7 @@ add-sum : tie.Need-overflow-add-sum
 add-sum c =
     let checked = c.before.before.before.before.before in
     let sound = width-sound _ _ checked.line-width-verdict.ensures (search rules) in
-    search width-sum-fits
+    search width_sum_fits
 
 returns-2 : tie.Need-returns-2
 returns-2 c =

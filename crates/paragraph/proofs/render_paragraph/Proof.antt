@@ -1,5 +1,5 @@
 -- `paragraph::render_paragraph` meets its contract.
-use Rattle.paragraph.proofs.Frames.{some-columns}
+use Rattle.paragraph.proofs.Frames.{some_columns}
 use Rattle.paragraph.proofs.Insides.{inside-laws}
 use Rattle.render_block.proofs.Frames.{met-not-empty}
 use borrow.Author.Rules.{rules}
@@ -16,7 +16,7 @@ is-empty-requires : tie.Need-is-empty-requires
 is-empty-requires c κs = search rules
 
 returns : tie.Need-returns
-returns c = (search (inside-laws, some-columns), search inside-laws)
+returns c = (search (inside-laws, some_columns), search inside-laws)
 
 render-text-requires : tie.Need-render-text-requires
 render-text-requires c κs = ((search rules, search met-not-empty), search inside-laws)

@@ -1,5 +1,5 @@
 -- `tally::tally` meets its contract.
-use Rattle.refuse.proofs.Accepted.{lines-sound}
+use Rattle.refuse.proofs.Accepted.{lines_sound}
 use Rattle.tally.proofs.Answers.{tally_refused, tally_counted}
 use borrow.Author.Rules.{rules}
 use Rattle.tally.proofs.tally.Statement.{statement}
@@ -19,7 +19,7 @@ enum_told c = search rules
 
 text-counts-requires : tie.Need-text-counts-requires
 text-counts-requires c κs =
-    let right = lines-sound _ _ _ c.before.before.line-verdict.ensures (search rules) in
+    let right = lines_sound _ _ _ c.before.before.line-verdict.ensures (search rules) in
     (right.few, right.opens)
 
 returns-2 : tie.Need-returns-2

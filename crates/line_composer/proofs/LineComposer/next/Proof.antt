@@ -1,7 +1,7 @@
 -- `line_composer::LineComposer::next` meets its contract.
 use Prim.Native.Nat.{◌-◌}
 use lib.ListN.{length}
-use Rattle.line_composer.proofs.Pulling.{Composing, composing, part-short, first_fits, end_fits}
+use Rattle.line_composer.proofs.Pulling.{Composing, composing, part_short, first_fits, end_fits}
 use native.Mathlib.Omega.{arith}
 use borrow.Author.Rules.{rules}
 use Rattle.line_composer.proofs.LineComposer.next.Statement.{statement}
@@ -29,7 +29,7 @@ part-next-line-end : tie.Need-slice-bounds-next-line-end invariant_loop decrease
 part-next-line-end c = omega arith
 
 next-line-requires : tie.Need-next-line-requires invariant_loop decreases_loop
-next-line-requires c κs = (search rules, search part-short)
+next-line-requires c κs = (search rules, search part_short)
 
 enum-known-run : tie.Need-enum-known-run invariant_loop decreases_loop
 enum-known-run c = search rules

@@ -1,0 +1,12 @@
+-- `buffer::fill::fill` meets its contract.
+use Prim.Native.Nat.{◌-◌}
+use lib.ListN.{length}
+use Rattle.buffer.proofs.Filling.{Filling, filling}
+use borrow.Author.Rules.{rules}
+use Rattle.buffer.proofs.fill.fill.Given as goal
+
+abbrev pub invariant-loop-i : goal.invariant-loop-i
+invariant-loop-i l = Filling l.initial.cells l.cell l.cells l.i
+
+abbrev pub decreases-loop-i : goal.decreases-loop-i
+decreases-loop-i l = length l.initial.cells - l.i

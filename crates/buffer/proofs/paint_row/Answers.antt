@@ -1,0 +1,16 @@
+-- `buffer::paint_row` meets its contract.
+use Prim.Native.Nat.{◌-◌}
+use lib.ListN.{length}
+use Rattle.buffer.specs.InkExtra.{inked}
+use Rattle.buffer.proofs.Changed.{Changing, changing}
+use borrow.Author.Rules.{rules}
+use Rattle.buffer.proofs.paint_row.Goals as goal
+
+pub loop-i-init : goal.loop-i-init
+loop-i-init c = search changing
+
+pub loop-i-preserved : goal.loop-i-preserved
+loop-i-preserved c = search changing
+
+pub returns : goal.returns
+returns c = search changing
