@@ -1,21 +1,25 @@
 // Reads an input to its end and keeps its start.
-ghost use Rattle.std.specs.Prelude.{◌+◌, ◌%◌, ◌<◌, ◌≤◌, IfOk, length};
+ghost use Rattle.std.specs.Prelude.{◌+◌, ◌%◌, ◌^◌, ◌<◌, ◌≤◌, IfOk, IfSome, length};
 ghost use Rattle.std.specs.Io.{ReadsAtMost};
-ghost use Rattle.listlines_run.specs.CutExtra.{Cut};
+ghost use Rattle.listlines_run.specs.CutExtra.{Cut, Kept};
+ghost use Rattle.listlines_run.specs.SkippedExtra.{Skipped, LeftOver};
 
 use read_input::read_full;
 use std::io;
 use std::io::Read;
 
 // Reads once and discards the bytes. Returns their count: 0 at the end of the input.
-fn skip_some(input: &mut impl Read) -> io::Result<usize> {
+fn skip_some<R: Read>(input: &mut R) -> io::Result<usize>
+    ensures { IfOk result (Skipped (R.remaining input.old) (R.remaining input.new)) }
+{
     let mut chunk = [0u8; 4096];
     input.read(&mut chunk)
 }
 
 // Reads the input to its end and returns the count of bytes read, modulo 4. The turns are bounded, so that the loop terminates.
-fn skip_rest(input: &mut impl Read) -> io::Result<usize>
-    ensures { IfOk result (λ over. over < 4) }
+fn skip_rest<R: Read>(input: &mut R) -> io::Result<usize>
+    ensures bound { IfOk result (λ over. over < 4) }
+    ensures count { IfOk result (LeftOver (R.remaining input.old)) }
 {
     let mut over = 0;
     for _ in 0..u64::MAX {
@@ -40,9 +44,11 @@ fn cut(full: usize, over: usize) -> usize
 
 // Reads an input to its end. Returns how many bytes of the buffer to parse: all that were read or, if the input is longer, as
 // many as give the same result (theorem `cut-same`).
-pub fn read_all(input: &mut impl Read, buffer: &mut [u8]) -> io::Result<usize>
+pub fn read_all<R: Read>(input: &mut R, buffer: &mut [u8]) -> io::Result<usize>
     requires { 3 ≤ length buffer.old }
-    ensures { ReadsAtMost result buffer.new }
+    ensures bound { ReadsAtMost result buffer.new }
+    ensures kept { IfOk result (λ at. IfSome (R.remaining input.old) (λ bytes.
+        length bytes < 2 ^ 64 → Kept (length buffer.new) bytes at buffer.new)) }
 {
     let read = read_full(input, buffer)?;
     if read < buffer.len() {
