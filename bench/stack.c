@@ -1,9 +1,10 @@
 /* Measures the stack that each function of the archive takes, on a stack painted beforehand. For gcc on x86-64, from the
    repository's root:
 
-     rt staticlib notice_c
-     gcc -O2 -std=c11 -Wall -Wextra -maccumulate-outgoing-args -Iinclude bench/stack.c target/staticlib/libnotice_c.a -o target/stack
-     target/stack
+     (cd crates/notice_c && rt lib)
+     mkdir -p bench/target
+     gcc -O2 -std=c11 -Wall -Wextra -maccumulate-outgoing-args -Iinclude bench/stack.c crates/notice_c/out/libnotice_c.a -o bench/target/stack
+     bench/target/stack
 
    Each call is made on notices of every alignment, wrap, shadow and ambiguous width with sixteen titles, and the deepest byte
    written counts.

@@ -1,5 +1,5 @@
 /* C and C++ interface of the framed notice on x86-64: the functions exported by the archive that
-   `rt staticlib notice_c` builds (target/staticlib/libnotice_c.a). The functions are proved
+   `rt lib` in crates/notice_c builds (crates/notice_c/out/libnotice_c.a). The functions are proved
    (crates/notice_c); this header, its inline functions included, is written by hand. Link with
    `cc program.c libnotice_c.a`; no other library is needed.
 
@@ -65,8 +65,8 @@
    pointer with length 0 is fine. The calls keep nothing afterwards, allocate nothing and have no state:
    calls on different cells and lists may run at the same time.
 
-   Stack use is bounded, as no function calls itself. In the archive built here notice_draw_frame takes the
-   most, at most 1,448 bytes whatever it is given. Arguments and answer are in the caller's frame besides,
+   Stack use is bounded, as no function calls itself. In the archive of an older kit, rattle-kit-5, the most was
+   notice_draw_frame's, at most 1,448 bytes whatever it is given. Arguments and answer are in the caller's frame besides,
    under 200 bytes. This is read from the machine code, not proved: `tools/stack` prints the bytes of each
    call of any archive. */
 #ifndef NOTICE_H

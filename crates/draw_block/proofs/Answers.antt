@@ -1,7 +1,7 @@
 -- The call `draw_block`: its answers and drawing, the numbers of its answers, the order of its causes, and the preconditions that
 -- an accepted call meets.
 use Prim.Native.Nat.{ℕ, ◌<◌, ◌^◌}
-use mathlib.Core.Path.{◌≡◌, refl, sym, ap, ◌∙◌}
+use mathlib.Core.Path.{◌≡◌, refl, sym, ◌∙◌}
 use mathlib.Core.Bool.{false}
 use mathlib.Core.List.{List}
 use lib.ListN.{length}

@@ -1,7 +1,5 @@
 -- `append_bytes::put_all` meets its contract.
-use Prim.Native.Nat.{◌-◌}
-use lib.ListN.{length}
-use Rattle.append_bytes.proofs.Writing.{Putting, putting}
+use Rattle.append_bytes.proofs.Writing.{putting}
 use borrow.Author.Rules.{rules}
 use Rattle.append_bytes.proofs.put_all.Goals as goal
 

@@ -1,8 +1,7 @@
 -- `append_bytes::put_all` meets its contract.
 use Prim.Native.Nat.{◌-◌}
 use lib.ListN.{length}
-use Rattle.append_bytes.proofs.Writing.{Putting, putting}
-use borrow.Author.Rules.{rules}
+use Rattle.append_bytes.proofs.Writing.{Putting}
 use Rattle.append_bytes.proofs.put_all.Given as goal
 
 abbrev pub invariant-loop-i : goal.invariant-loop-i

@@ -1,6 +1,5 @@
 -- `buffer::ink_cell` meets its contract.
 use Rattle.buffer.proofs.Inks.{inks}
-use borrow.Author.Rules.{rules}
 use Rattle.buffer.proofs.ink_cell.Goals as goal
 
 pub set_symbol-requires : goal.set_symbol-requires

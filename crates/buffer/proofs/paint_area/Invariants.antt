@@ -1,9 +1,7 @@
 -- `buffer::paint_area` meets its contract.
 use Prim.Native.Nat.{◌-◌}
 use Rattle.buffer.specs.InkExtra.{inked}
-use Rattle.buffer.proofs.Rows.{DrawingRows, drawing-rows}
-use Rattle.buffer.proofs.Over.{drawing-area}
-use borrow.Author.Rules.{rules}
+use Rattle.buffer.proofs.Rows.{DrawingRows}
 use Rattle.buffer.proofs.paint_area.Given as goal
 
 abbrev pub invariant-loop-y : goal.invariant-loop-y

@@ -1,9 +1,5 @@
 -- `buffer::paint_row` meets its contract.
-use Prim.Native.Nat.{◌-◌}
-use lib.ListN.{length}
-use Rattle.buffer.specs.InkExtra.{inked}
-use Rattle.buffer.proofs.Changed.{Changing, changing}
-use borrow.Author.Rules.{rules}
+use Rattle.buffer.proofs.Changed.{changing}
 use Rattle.buffer.proofs.paint_row.Goals as goal
 
 pub loop-i-init : goal.loop-i-init

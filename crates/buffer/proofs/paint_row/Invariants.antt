@@ -2,8 +2,7 @@
 use Prim.Native.Nat.{◌-◌}
 use lib.ListN.{length}
 use Rattle.buffer.specs.InkExtra.{inked}
-use Rattle.buffer.proofs.Changed.{Changing, changing}
-use borrow.Author.Rules.{rules}
+use Rattle.buffer.proofs.Changed.{Changing}
 use Rattle.buffer.proofs.paint_row.Given as goal
 
 abbrev pub invariant-loop-i : goal.invariant-loop-i

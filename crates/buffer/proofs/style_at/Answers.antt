@@ -1,6 +1,5 @@
 -- `buffer::style_at` meets its contract.
 use lib.ListN.{get_or-eq_default}
-use borrow.Author.Rules.{rules}
 use Rattle.buffer.proofs.style_at.Goals as goal
 
 pub returns : goal.returns

@@ -2,7 +2,6 @@
 use mathlib.Core.Path.{refl}
 use native.Mathlib.Nat.{lt_of_le_of_lt}
 use lib.Bits.{and_le_l, or_lt}
-use borrow.Author.Rules.{rules}
 use Rattle.cell.proofs.modified.Goals as goal
 
 pub returns : goal.returns

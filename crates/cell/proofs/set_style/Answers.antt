@@ -1,6 +1,5 @@
 -- `cell::set_style` meets its contract.
 use Rattle.cell.specs.Cell.{styled}
-use borrow.Author.Rules.{rules}
 use Rattle.cell.proofs.set_style.Goals as goal
 
 pub returns : goal.returns

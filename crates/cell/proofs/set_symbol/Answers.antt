@@ -2,7 +2,6 @@
 use Rattle.cell.proofs.Fields.{below-symbol}
 use Rattle.cell.specs.Cell.{with_symbol}
 use native.Mathlib.Omega.{arith}
-use borrow.Author.Rules.{rules}
 use Rattle.cell.proofs.set_symbol.Goals as goal
 
 pub returns : goal.returns

@@ -1,6 +1,5 @@
 -- `listlines_input::is_incomplete` meets its contract.
 use Rattle.listlines_input.proofs.Parsing.{tests}
-use borrow.Author.Rules.{rules}
 use Rattle.listlines_input.proofs.is_incomplete.Goals as goal
 
 pub returns-then-input-lt3 : goal.returns-then-input-lt3

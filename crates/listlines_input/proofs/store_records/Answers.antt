@@ -1,7 +1,5 @@
 -- `listlines_input::store_records` meets its contract.
-use Prim.Native.Nat.{◌-◌}
-use Rattle.listlines_input.proofs.Parsing.{Storing, storing}
-use borrow.Author.Rules.{rules}
+use Rattle.listlines_input.proofs.Parsing.{storing}
 use Rattle.listlines_input.proofs.store_records.Goals as goal
 
 pub loop-i-init : goal.loop-i-init

@@ -1,7 +1,6 @@
 -- `listlines_input::store_records` meets its contract.
 use Prim.Native.Nat.{◌-◌}
-use Rattle.listlines_input.proofs.Parsing.{Storing, storing}
-use borrow.Author.Rules.{rules}
+use Rattle.listlines_input.proofs.Parsing.{Storing}
 use Rattle.listlines_input.proofs.store_records.Given as goal
 
 abbrev pub invariant-loop-i : goal.invariant-loop-i

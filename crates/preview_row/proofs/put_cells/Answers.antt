@@ -1,7 +1,5 @@
 -- `preview_row::put_cells` meets its contract.
-use Prim.Native.Nat.{◌-◌}
-use lib.ListN.{length}
-use Rattle.preview_row.proofs.Rows.{Penning, penning}
+use Rattle.preview_row.proofs.Rows.{penning}
 use borrow.Author.Rules.{rules}
 use Rattle.preview_row.proofs.put_cells.Goals as goal
 

@@ -1,8 +1,7 @@
 -- `preview_row::put_cells` meets its contract.
 use Prim.Native.Nat.{◌-◌}
 use lib.ListN.{length}
-use Rattle.preview_row.proofs.Rows.{Penning, penning}
-use borrow.Author.Rules.{rules}
+use Rattle.preview_row.proofs.Rows.{Penning}
 use Rattle.preview_row.proofs.put_cells.Given as goal
 
 abbrev pub invariant-loop-i : goal.invariant-loop-i

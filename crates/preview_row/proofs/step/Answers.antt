@@ -1,6 +1,5 @@
 -- `preview_row::step` meets its contract.
 use Rattle.preview_row.proofs.Rows.{steps}
-use borrow.Author.Rules.{rules}
 use Rattle.preview_row.proofs.step.Goals as goal
 
 pub returns-then-pen-gt0-clause-written : goal.returns-then-pen-gt0-clause-written

@@ -1,6 +1,5 @@
 -- `preview_sgr::put_codes` meets its contract.
-use Prim.Native.Nat.{◌-◌}
-use Rattle.preview_sgr.proofs.Sequences.{Coding, coding}
+use Rattle.preview_sgr.proofs.Sequences.{coding}
 use borrow.Author.Rules.{rules}
 use Rattle.preview_sgr.proofs.put_codes.Goals as goal
 

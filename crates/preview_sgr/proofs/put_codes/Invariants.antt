@@ -1,7 +1,6 @@
 -- `preview_sgr::put_codes` meets its contract.
 use Prim.Native.Nat.{◌-◌}
-use Rattle.preview_sgr.proofs.Sequences.{Coding, coding}
-use borrow.Author.Rules.{rules}
+use Rattle.preview_sgr.proofs.Sequences.{Coding}
 use Rattle.preview_sgr.proofs.put_codes.Given as goal
 
 abbrev pub invariant-loop-number : goal.invariant-loop-number

@@ -1,8 +1,5 @@
 -- `test_sums::sum_entries` meets its contract.
-use borrow.Author.Rules.{rules}
-use Prim.Native.Nat.{◌-◌}
-use lib.ListN.{length}
-use Rattle.test_sums.proofs.Summing.{Summing, summing}
+use Rattle.test_sums.proofs.Summing.{summing}
 use Rattle.test_sums.proofs.sum_entries.Goals as goal
 
 pub loop-i-init : goal.loop-i-init

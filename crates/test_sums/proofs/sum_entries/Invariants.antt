@@ -1,8 +1,7 @@
 -- `test_sums::sum_entries` meets its contract.
-use borrow.Author.Rules.{rules}
 use Prim.Native.Nat.{◌-◌}
 use lib.ListN.{length}
-use Rattle.test_sums.proofs.Summing.{Summing, summing}
+use Rattle.test_sums.proofs.Summing.{Summing}
 use Rattle.test_sums.proofs.sum_entries.Given as goal
 
 abbrev pub invariant-loop-i : goal.invariant-loop-i

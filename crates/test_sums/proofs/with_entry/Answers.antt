@@ -1,5 +1,4 @@
 -- `test_sums::with_entry` meets its contract.
-use borrow.Author.Rules.{rules}
 use Rattle.test_sums.specs.SumsExtra.{with_entry}
 use Rattle.test_sums.proofs.with_entry.Goals as goal
 

@@ -1,7 +1,5 @@
 -- `buffer::fill::fill` meets its contract.
-use Prim.Native.Nat.{◌-◌}
-use lib.ListN.{length}
-use Rattle.buffer.proofs.Filling.{Filling, filling}
+use Rattle.buffer.proofs.Filling.{filling}
 use borrow.Author.Rules.{rules}
 use Rattle.buffer.proofs.fill.fill.Goals as goal
 

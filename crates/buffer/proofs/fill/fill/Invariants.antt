@@ -1,8 +1,7 @@
 -- `buffer::fill::fill` meets its contract.
 use Prim.Native.Nat.{◌-◌}
 use lib.ListN.{length}
-use Rattle.buffer.proofs.Filling.{Filling, filling}
-use borrow.Author.Rules.{rules}
+use Rattle.buffer.proofs.Filling.{Filling}
 use Rattle.buffer.proofs.fill.fill.Given as goal
 
 abbrev pub invariant-loop-i : goal.invariant-loop-i

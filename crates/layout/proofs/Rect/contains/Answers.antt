@@ -1,6 +1,5 @@
 -- `layout::Rect::contains` meets its contract.
 use Rattle.layout.proofs.Cells.{containing}
-use borrow.Author.Rules.{rules}
 use Rattle.layout.proofs.Rect.contains.Goals as goal
 
 pub returns-then-in_columns : goal.returns-then-in_columns

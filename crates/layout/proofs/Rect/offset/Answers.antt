@@ -1,6 +1,5 @@
 -- `layout::Rect::offset` meets its contract.
 use mir.Facts.{to_z-of_z}
-use borrow.Author.Rules.{rules}
 use Rattle.layout.proofs.Rect.offset.Goals as goal
 
 pub returns : goal.returns

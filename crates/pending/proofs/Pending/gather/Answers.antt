@@ -2,7 +2,6 @@
 use Rattle.wrapping.proofs.RunLaws.{append-width}
 use Rattle.pending.proofs.TestLaws.{gather_word, gather_spaces, gather_row}
 use native.Mathlib.Omega.{arith}
-use borrow.Author.Rules.{rules}
 use Rattle.pending.proofs.Pending.gather.Goals as goal
 
 pub returns-then-trim : goal.returns-then-trim

@@ -1,6 +1,5 @@
 -- `pending::Pending::is_full` meets its contract.
 use Rattle.pending.proofs.TestLaws.{full-row, full-all, full-not}
-use borrow.Author.Rules.{rules}
 use Rattle.pending.proofs.Pending.is_full.Goals as goal
 
 pub returns-then-rule-self : goal.returns-then-rule-self

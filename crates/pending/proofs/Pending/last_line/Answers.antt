@@ -1,6 +1,5 @@
 -- `pending::Pending::last_line` meets its contract.
 use Rattle.pending.proofs.TestLaws.{last-nothing, last-first, last-spaces, last_row}
-use borrow.Author.Rules.{rules}
 use Rattle.pending.proofs.Pending.last_line.Goals as goal
 
 pub returns-then-emitted : goal.returns-then-emitted

@@ -1,6 +1,5 @@
 -- `pending::Pending::must_join` meets its contract.
 use Rattle.pending.proofs.TestLaws.{joins-word, joins-over, joins-not}
-use borrow.Author.Rules.{rules}
 use Rattle.pending.proofs.Pending.must_join.Goals as goal
 
 pub returns-then-ends_word : goal.returns-then-ends_word

@@ -1,6 +1,5 @@
 -- `pending::Pending::overflows` meets its contract.
 use Rattle.pending.proofs.TestLaws.{over_word, over-spaces, over-both}
-use borrow.Author.Rules.{rules}
 use Rattle.pending.proofs.Pending.overflows.Goals as goal
 
 pub returns-then-rule-self : goal.returns-then-rule-self

@@ -1,6 +1,5 @@
 -- `place::Place::of_glyph` meets its contract.
 use Rattle.place.proofs.Places.{places}
-use borrow.Author.Rules.{rules}
 use Rattle.place.proofs.Place.of_glyph.Goals as goal
 
 pub returns-then-width-eq0 : goal.returns-then-width-eq0

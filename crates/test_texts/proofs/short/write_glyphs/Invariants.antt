@@ -1,10 +1,7 @@
 -- `test_texts::short::write_glyphs` meets its contract.
 -- a digit is below 8
-use borrow.Author.Rules.{rules}
-use Prim.Native.Nat.{ℕ, ◌-◌, ◌%◌, ◌≤◌, ◌<◌}
-use native.Mathlib.Nat.{mod-lt}
-use native.Mathlib.Omega.{arith}
-use lib.ListN.{length, length-set}
+use Prim.Native.Nat.{◌-◌, ◌≤◌}
+use lib.ListN.{length}
 use mathlib.Core.Path.{◌≡◌}
 use Rattle.test_texts.proofs.short.write_glyphs.Given as goal
 

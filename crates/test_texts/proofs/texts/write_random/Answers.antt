@@ -1,8 +1,6 @@
 -- `test_texts::texts::write_random` meets its contract.
 use borrow.Author.Rules.{rules}
-use Prim.Native.Nat.{◌-◌, ◌≤◌}
-use lib.ListN.{length, length-set}
-use mathlib.Core.Path.{◌≡◌}
+use lib.ListN.{length-set}
 use Rattle.test_texts.proofs.texts.write_random.Goals as goal
 
 pub loop-i-preserved : goal.loop-i-preserved

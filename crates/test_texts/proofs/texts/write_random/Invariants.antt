@@ -1,7 +1,6 @@
 -- `test_texts::texts::write_random` meets its contract.
-use borrow.Author.Rules.{rules}
 use Prim.Native.Nat.{◌-◌, ◌≤◌}
-use lib.ListN.{length, length-set}
+use lib.ListN.{length}
 use mathlib.Core.Path.{◌≡◌}
 use Rattle.test_texts.proofs.texts.write_random.Given as goal
 

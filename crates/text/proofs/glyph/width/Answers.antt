@@ -1,6 +1,5 @@
 -- `text::glyph::width` meets its contract.
 use Rattle.text.proofs.Reading.{reading}
-use borrow.Author.Rules.{rules}
 use Rattle.text.proofs.glyph.width.Goals as goal
 
 pub returns-then-code-eq-AMBIGUOUS : goal.returns-then-code-eq-AMBIGUOUS

@@ -1,6 +1,5 @@
 -- `text::head::resolve_position` meets its contract.
 use Rattle.text.proofs.Resolving.{resolving}
-use borrow.Author.Rules.{rules}
 use Rattle.text.proofs.head.resolve_position.Goals as goal
 
 pub returns-in-0 : goal.returns-in-0

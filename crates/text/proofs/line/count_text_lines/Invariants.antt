@@ -1,10 +1,8 @@
 -- `text::line::count_text_lines` meets its contract.
 use Prim.Native.Nat.{◌-◌}
-use mathlib.Core.Logic.{⊎_elim}
 use lib.ListN.{length}
 use Rattle.text.specs.Record.{is_head}
-use Rattle.text.proofs.Counting.{Counting, counting, heads-counted}
-use borrow.Author.Rules.{rules}
+use Rattle.text.proofs.Counting.{Counting}
 use Rattle.text.proofs.line.count_text_lines.Given as goal
 
 abbrev pub invariant-loop-i : goal.invariant-loop-i

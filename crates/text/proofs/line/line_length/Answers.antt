@@ -1,8 +1,5 @@
 -- `text::line::line_length` meets its contract.
-use Prim.Native.Nat.{◌-◌}
-use lib.ListN.{length}
-use Rattle.text.proofs.TextLines.{Measuring, measuring}
-use borrow.Author.Rules.{rules}
+use Rattle.text.proofs.TextLines.{measuring}
 use Rattle.text.proofs.line.line_length.Goals as goal
 
 pub loop-i-init : goal.loop-i-init

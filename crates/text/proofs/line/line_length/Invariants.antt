@@ -1,8 +1,7 @@
 -- `text::line::line_length` meets its contract.
 use Prim.Native.Nat.{◌-◌}
 use lib.ListN.{length}
-use Rattle.text.proofs.TextLines.{Measuring, measuring}
-use borrow.Author.Rules.{rules}
+use Rattle.text.proofs.TextLines.{Measuring}
 use Rattle.text.proofs.line.line_length.Given as goal
 
 abbrev pub invariant-loop-i : goal.invariant-loop-i

@@ -1,6 +1,5 @@
 -- `wrapping::Rule::fitting` meets its contract.
 use Rattle.wrapping.proofs.Fittings.{fittings}
-use borrow.Author.Rules.{rules}
 use Rattle.wrapping.proofs.Rule.fitting.Goals as goal
 
 pub returns-then-code-widest_plain : goal.returns-then-code-widest_plain

@@ -1,9 +1,8 @@
 -- `wrapping::Run::after_fitting` meets its contract.
-use Prim.Native.Nat.{◌-◌}
 use native.Mathlib.Omega.{arith}
 use borrow.Author.Rules.{rules, scaled_Fits}
 use lib.ListN.{length}
-use Rattle.wrapping.proofs.Fitting.{Dropping, dropping, dropping_ends}
+use Rattle.wrapping.proofs.Fitting.{dropping, dropping_ends}
 use Rattle.wrapping.proofs.Run.after_fitting.Goals as goal
 
 pub loop-i-init : goal.loop-i-init

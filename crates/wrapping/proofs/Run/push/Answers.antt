@@ -1,6 +1,5 @@
 -- `wrapping::Run::push` meets its contract.
 use Rattle.wrapping.proofs.RunLaws.{laws}
-use borrow.Author.Rules.{rules}
 use Rattle.wrapping.proofs.Run.push.Goals as goal
 
 pub returns-then-self-eq0 : goal.returns-then-self-eq0

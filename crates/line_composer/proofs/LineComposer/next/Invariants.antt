@@ -1,0 +1,11 @@
+-- `line_composer::LineComposer::next` meets its contract.
+use Prim.Native.Nat.{◌-◌}
+use lib.ListN.{length}
+use Rattle.line_composer.proofs.Pulling.{Composing}
+use Rattle.line_composer.proofs.LineComposer.next.Given as goal
+
+abbrev pub invariant-loop-run : goal.invariant-loop-run
+invariant-loop-run l = Composing l.rule l.default_alignment l.text l.initial.composer l.composer
+
+abbrev pub decreases-loop-run : goal.decreases-loop-run
+decreases-loop-run l = length l.text - l.composer.to
