@@ -1,6 +1,8 @@
 // Prints the composed lines of the text on standard input.
 #![tactic(auto)]
 
-fn main() {
-    listlines_run::run(libc::STDIN_FILENO);
+use std::io;
+
+fn main(rt: HostRuntime) -> io::Result<()> {
+    listlines_run::run(&mut rt.stdin(), &mut io::writer(&rt))
 }

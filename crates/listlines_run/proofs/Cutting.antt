@@ -1,17 +1,17 @@
 -- An input longer than the buffer gives the same result, and the same output, as the part of it that the program parses.
-use Prim.Native.Nat.{ℕ, ◌+◌, ◌-◌, ◌*◌, ◌%◌, ◌≤◌}
-use mathlib.Core.Path.{◌≡◌, refl}
+use Prim.Native.Nat.{ℕ, ◌+◌, ◌-◌, ◌*◌, ◌%◌, ◌<◌, ◌≤◌}
+use mathlib.Core.Path.{◌≡◌, refl, ap, ◌∙◌}
 use mathlib.Core.Bool.{Bool, true, false, not, cond}
 use mathlib.Core.List.{List}
 use native.Mathlib.Omega.{arith}
-use borrow.Author.Tests.{lt-ltb}
-use lib.Dec.{eqb}
+use borrow.Author.Tests.{lt-ltb, ltb-true, ltb-false}
+use lib.Dec.{eqb, ltb}
 use lib.ListN.{length, take}
-use lib.Seq.{length-take-le, get_or-take}
+use lib.Seq.{length-take-le, get_or-take, take-length}
 use Rattle.listlines_input.specs.declared.Parsed.TheVariants.{Refused}
 use Rattle.listlines_input.specs.Input.{records_of, most_records, trim_wrong, too_many, parsed_of}
 use Rattle.listlines_run.specs.Printed.{printed, printed_of}
-use Rattle.listlines_run.specs.CutExtra.{buffered, Cut}
+use Rattle.listlines_run.specs.CutExtra.{buffered, Cut, Kept}
 use Rattle.listlines_input.proofs.Parsing.{records-count, rest-incomplete}
 
 -- with over 4,096 records, the bytes after the last whole record and the trim byte decide the refusal
@@ -41,3 +41,11 @@ unfolding printed_of
 cut-printed-same input over at h o c =
     rw (cut-same input over at h o c, long_refused input (omega arith))
     (refused_same (not (eqb ((length input - 3) % 4) 0)) (trim_wrong input) (records_of (take at input)) (records_of input))
+
+-- what is kept of an input gives its output
+pub kept-printed-same : (input : List ℕ) (at : ℕ) (buffer : List ℕ) → Kept buffered input at buffer → printed_of (take at buffer) ≡ printed_of input
+kept-printed-same input at buffer k = ap printed_of k.start ∙ go (ltb (length input) buffered) (ltb-true (length input) buffered) (ltb-false (length input) buffered)
+  where
+    go : (t : Bool) → (t ≡ true → length input < buffered) → (t ≡ false → buffered ≤ length input) → printed_of (take at input) ≡ printed_of input
+    go true e f = ap printed_of (ap (λ (n : ℕ). take n input) (k.all (e refl)) ∙ take-length input)
+    go false e f = cut-printed-same input ((length input - buffered) % 4) at (f refl) refl (k.cut (f refl))

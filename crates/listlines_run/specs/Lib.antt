@@ -1,3 +1,4 @@
 pub mod Program
 pub mod Printed
 pub mod CutExtra
+pub mod SkippedExtra

@@ -1,15 +1,17 @@
 // The program `listlines`: reads a limit, a trim byte and records, and prints the composed lines or the number of the refusal.
 #![tactic(auto)]
 
-ghost use Rattle.std.specs.Prelude.{◌≡◌, ◌+◌, ◌*◌, ◌≤◌, length, take};
+ghost use Rattle.std.specs.Prelude.{◌≡◌, ◌+◌, ◌*◌, ◌^◌, ◌<◌, ◌≤◌, OnOk, IfSome, length, take};
+ghost use Rattle.std.specs.Io.KnownBytes.{Appends};
 ghost use Rattle.io.specs.Counts.{IsPrefixLen};
 ghost use Rattle.listlines_input.specs.Input.{most_records};
 ghost use Rattle.listlines_run.specs.Program.{answer_for, answer_of, list_of};
 ghost use Rattle.listlines_run.specs.Printed.{printed_of};
 
-use libc::STDOUT_FILENO;
 use list_lines::ListAnswer;
 use listlines_input::Parsed;
+use std::io;
+use std::io::{Read, Write};
 use text::{Alignment, AmbiguousWidth};
 
 mod read;
@@ -71,13 +73,17 @@ fn output_for(input: &[u8], text: &mut [u32], list: &mut [u64], output: &mut [u8
     }
 }
 
-// Runs the program: reads from a descriptor, prints to standard output.
-pub fn run(fd: i32) {
+// Runs the program: reads an input to its end, and writes the output. Where the bytes that a reader has left and those that a writer
+// holds are known, the output of all of them is written.
+pub fn run<R: Read, W: Write>(input: &mut R, output: &mut W) -> io::Result<()>
+    ensures { OnOk result (IfSome (R.remaining input.old) (λ bytes.
+        length bytes < 2 ^ 64 → Appends (W.contents output.old) (W.contents output.new) (printed_of bytes))) }
+{
     let mut buffer = [0u8; 16394];
-    let length = read::read_all(fd, &mut buffer);
+    let length = read::read_all(input, &mut buffer)?;
     let mut text = [0u32; 4096];
     let mut list = [0u64; 4096];
-    let mut output = [0u8; 122892];
-    let bytes = output_for(&buffer[..length], &mut text, &mut list, &mut output);
-    io::write_all(STDOUT_FILENO, &output[..bytes]);
+    let mut bytes = [0u8; 122892];
+    let printed = output_for(&buffer[..length], &mut text, &mut list, &mut bytes);
+    output.write_all(&bytes[..printed])
 }

@@ -1,30 +1,35 @@
 // Reads an input to its end and keeps its start.
-ghost use Rattle.std.specs.Prelude.{◌+◌, ◌%◌, ◌<◌, ◌≤◌, length};
-ghost use Rattle.io.specs.Counts.{IsPrefixLen};
-ghost use Rattle.listlines_run.specs.CutExtra.{Cut};
+ghost use Rattle.std.specs.Prelude.{◌+◌, ◌%◌, ◌^◌, ◌<◌, ◌≤◌, IfOk, IfSome, length};
+ghost use Rattle.std.specs.Io.{ReadsAtMost};
+ghost use Rattle.listlines_run.specs.CutExtra.{Cut, Kept};
+ghost use Rattle.listlines_run.specs.SkippedExtra.{Skipped, LeftOver};
 
-// Reads once and discards the bytes. Returns their count: 0 at the end of the input or if the read fails.
-fn skip_some(fd: i32) -> usize {
-    let mut chunk = io::buffer();
-    let got = libc::read(fd, &mut chunk);
-    io::count(got, &chunk)
+use read_input::read_full;
+use std::io;
+use std::io::Read;
+
+// Reads once and discards the bytes. Returns their count: 0 at the end of the input.
+fn skip_some<R: Read>(input: &mut R) -> io::Result<usize>
+    ensures { IfOk result (Skipped (R.remaining input.old) (R.remaining input.new)) }
+{
+    let mut chunk = [0u8; 4096];
+    input.read(&mut chunk)
 }
 
-// Reads the input to its end and returns the count of bytes read, modulo 4. `turns` decreases, so that the loop terminates.
-fn skip_rest(fd: i32) -> usize
-    ensures { result < 4 }
+// Reads the input to its end and returns the count of bytes read, modulo 4. The turns are bounded, so that the loop terminates.
+fn skip_rest<R: Read>(input: &mut R) -> io::Result<usize>
+    ensures bound { IfOk result (λ over. over < 4) }
+    ensures count { IfOk result (LeftOver (R.remaining input.old)) }
 {
-    let mut over: usize = 0;
-    let mut turns = u64::MAX;
-    while turns > 0 {
-        let n = skip_some(fd);
+    let mut over = 0;
+    for _ in 0..u64::MAX {
+        let n = skip_some(input)?;
         if n == 0 {
-            return over;
+            break;
         }
         over = (over + n % 4) % 4;
-        turns -= 1;
     }
-    over
+    Ok(over)
 }
 
 // Returns where to cut the full buffer of an input that has `over` more bytes, modulo 4: as many bytes follow the last whole
@@ -39,14 +44,16 @@ fn cut(full: usize, over: usize) -> usize
 
 // Reads an input to its end. Returns how many bytes of the buffer to parse: all that were read or, if the input is longer, as
 // many as give the same result (theorem `cut-same`).
-pub fn read_all(fd: i32, buffer: &mut [u8]) -> usize
+pub fn read_all<R: Read>(input: &mut R, buffer: &mut [u8]) -> io::Result<usize>
     requires { 3 ≤ length buffer.old }
-    ensures { IsPrefixLen result buffer.new }
+    ensures bound { ReadsAtMost result buffer.new }
+    ensures kept { IfOk result (λ at. IfSome (R.remaining input.old) (λ bytes.
+        length bytes < 2 ^ 64 → Kept (length buffer.new) bytes at buffer.new)) }
 {
-    let read = io::read_full(fd, buffer);
+    let read = read_full(input, buffer)?;
     if read < buffer.len() {
-        return read;
+        return Ok(read);
     }
-    let over = skip_rest(fd);
-    cut(read, over)
+    let over = skip_rest(input)?;
+    Ok(cut(read, over))
 }

@@ -1,6 +1,8 @@
 // Reads a packed notice from a file or standard input, and prints it.
 #![tactic(auto)]
 
-fn main() {
-    preview_run::run();
+use std::io;
+
+fn main(rt: HostRuntime) -> io::Result<()> {
+    preview_run::run(&rt)
 }

@@ -3,6 +3,8 @@ ghost use Rattle.std.specs.Prelude.{◌≤◌};
 
 use crate::Asked;
 use preview_sheet::paging::Pages;
+use std::env::FillError;
+use std::rt::Env;
 
 // Kind of an argument.
 #[derive(Clone, Copy)]
@@ -29,26 +31,22 @@ pub enum Request {
 }
 
 fn meaning(argument: &[u8]) -> Argument {
-    if check::same(argument, b"wide") {
-        return Argument::Wide;
+    match argument {
+        b"wide" => Argument::Wide,
+        b"ansi" => Argument::Ansi,
+        b"page" => Argument::Page,
+        _ => Argument::Other,
     }
-    if check::same(argument, b"ansi") {
-        return Argument::Ansi;
-    }
-    if check::same(argument, b"page") {
-        return Argument::Page;
-    }
-    Argument::Other
 }
 
-// Returns the kind of argument `number`, counted from 1.
-fn argument_at(number: usize) -> Argument {
-    if os::arg_count() <= number {
-        return Argument::Missing;
+// Returns the kind of argument `number`, counted from 1. One of over 4,096 bytes is `Other`.
+fn argument_at(rt: &impl Env, number: usize) -> Argument {
+    let mut buffer = [0u8; 4096];
+    match rt.arg(number, &mut buffer) {
+        Ok(length) => meaning(&buffer[..length]),
+        Err(FillError::NotPresent) => Argument::Missing,
+        Err(FillError::TooLong) => Argument::Other,
     }
-    let mut buffer = io::buffer();
-    let length = os::arg(number, &mut buffer);
-    meaning(&buffer[..length])
 }
 
 // Parses a decimal number below 1,000,000,000.
@@ -83,18 +81,17 @@ fn digit_value(digit: u8) -> u64
 }
 
 // Parses argument `number` as a decimal number.
-fn number_at(number: usize) -> Numeral {
-    if os::arg_count() <= number {
-        return Numeral::Wrong;
+fn number_at(rt: &impl Env, number: usize) -> Numeral {
+    let mut buffer = [0u8; 4096];
+    match rt.arg(number, &mut buffer) {
+        Ok(length) => numeral_of(&buffer[..length]),
+        Err(_) => Numeral::Wrong,
     }
-    let mut buffer = io::buffer();
-    let length = os::arg(number, &mut buffer);
-    numeral_of(&buffer[..length])
 }
 
 // Returns a request for all pages, if argument `number` is missing.
-fn at_the_end(number: usize, wide: bool, ansi: bool, from_file: bool) -> Request {
-    match argument_at(number) {
+fn at_the_end(rt: &impl Env, number: usize, wide: bool, ansi: bool, from_file: bool) -> Request {
+    match argument_at(rt, number) {
         Argument::Missing => Request::Show {
             asked: Asked {
                 wide,
@@ -108,13 +105,13 @@ fn at_the_end(number: usize, wide: bool, ansi: bool, from_file: bool) -> Request
 }
 
 // Returns a request for the page that argument `number`, the last, gives.
-fn with_page(number: usize, wide: bool, ansi: bool, from_file: bool) -> Request
+fn with_page(rt: &impl Env, number: usize, wide: bool, ansi: bool, from_file: bool) -> Request
     requires { number ≤ 5 }
 {
-    let Numeral::Value(page) = number_at(number) else {
+    let Numeral::Value(page) = number_at(rt, number) else {
         return Request::Wrong;
     };
-    let Argument::Missing = argument_at(number + 1) else {
+    let Argument::Missing = argument_at(rt, number + 1) else {
         return Request::Wrong;
     };
     Request::Show {
@@ -128,39 +125,39 @@ fn with_page(number: usize, wide: bool, ansi: bool, from_file: bool) -> Request
 }
 
 // Parses the arguments from `number` on: `page` and a number, or none.
-fn from_page(number: usize, wide: bool, ansi: bool, from_file: bool) -> Request
+fn from_page(rt: &impl Env, number: usize, wide: bool, ansi: bool, from_file: bool) -> Request
     requires { number ≤ 4 }
 {
-    match argument_at(number) {
-        Argument::Page => with_page(number + 1, wide, ansi, from_file),
-        _ => at_the_end(number, wide, ansi, from_file),
+    match argument_at(rt, number) {
+        Argument::Page => with_page(rt, number + 1, wide, ansi, from_file),
+        _ => at_the_end(rt, number, wide, ansi, from_file),
     }
 }
 
 // Parses the arguments from `number` on: `ansi`, then `page` and a number, each optional.
-fn from_ansi(number: usize, wide: bool, from_file: bool) -> Request
+fn from_ansi(rt: &impl Env, number: usize, wide: bool, from_file: bool) -> Request
     requires { number ≤ 3 }
 {
-    match argument_at(number) {
-        Argument::Ansi => from_page(number + 1, wide, true, from_file),
-        _ => from_page(number, wide, false, from_file),
+    match argument_at(rt, number) {
+        Argument::Ansi => from_page(rt, number + 1, wide, true, from_file),
+        _ => from_page(rt, number, wide, false, from_file),
     }
 }
 
 // Parses the arguments from `number` on: `wide`, `ansi`, then `page` and a number, each optional.
-fn from_wide(number: usize, from_file: bool) -> Request
+fn from_wide(rt: &impl Env, number: usize, from_file: bool) -> Request
     requires { number ≤ 2 }
 {
-    match argument_at(number) {
-        Argument::Wide => from_ansi(number + 1, true, from_file),
-        _ => from_ansi(number, false, from_file),
+    match argument_at(rt, number) {
+        Argument::Wide => from_ansi(rt, number + 1, true, from_file),
+        _ => from_ansi(rt, number, false, from_file),
     }
 }
 
 // Parses all arguments.
-pub fn requested() -> Request {
-    match argument_at(1) {
-        Argument::Other => from_wide(2, true),
-        _ => from_wide(1, false),
+pub fn requested(rt: &impl Env) -> Request {
+    match argument_at(rt, 1) {
+        Argument::Other => from_wide(rt, 2, true),
+        _ => from_wide(rt, 1, false),
     }
 }

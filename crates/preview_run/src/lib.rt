@@ -5,8 +5,12 @@ mod arguments;
 mod showing;
 
 use arguments::Request;
-use libc::STDIN_FILENO;
 use preview_sheet::paging::Pages;
+use read_input::read_full;
+use std::fs::File;
+use std::io;
+use std::io::Read;
+use std::rt::{Env, Files};
 
 // Options: whether ambiguous glyphs are read wide, whether to print escape sequences for colours and modifiers, and which pages to
 // show.
@@ -17,39 +21,48 @@ pub struct Asked {
     pub pages: Pages,
 }
 
-// Shows the notice read from a descriptor. Reads one byte more than is accepted, so that longer inputs are noticed.
-pub fn show(fd: i32, asked: Asked) {
-    let mut input = [0u8; 131073];
+// Shows the notice read from an input. Reads one byte more than is accepted, so that longer inputs are noticed.
+pub fn show(rt: &impl Print, input: &mut impl Read, asked: Asked) -> io::Result<()> {
+    let mut bytes = [0u8; 131073];
     let mut styles = [0u64; 256];
     let mut titles = [0u32; 8192];
     let mut text = [0u32; 24576];
-    let length = io::read_full(fd, &mut input);
-    showing::show_input(&input[..length], asked, &mut styles, &mut titles, &mut text);
+    let length = read_full(input, &mut bytes)?;
+    showing::show_input(
+        rt,
+        &bytes[..length],
+        asked,
+        &mut styles,
+        &mut titles,
+        &mut text,
+    )
+}
+
+// Opens the file named by the first argument, if it can be opened. A name that isn't UTF-8 can't.
+fn open<R: Env + Files>(rt: &R) -> Option<R::File> {
+    let mut path = [0u8; 4096];
+    let length = rt.arg(1, &mut path).ok()?;
+    let name = str::from_utf8(&path[..length]).ok()?;
+    File::open(rt, name).ok()
 }
 
 // Shows the notice in the file named by the first argument.
-fn show_file(asked: Asked) {
-    let mut path = io::buffer();
-    let length = os::arg(1, &mut path);
-    let fd = os::open_read(&path[..length]);
-    if fd < 0 {
-        preview_messages::not_opened();
-        return;
+fn show_file(rt: &(impl Env + Files + Print), asked: Asked) -> io::Result<()> {
+    match open(rt) {
+        Some(mut file) => show(rt, &mut file, asked),
+        None => preview_messages::not_opened(rt),
     }
-    show(fd, asked);
-    libc::close(fd);
 }
 
 // Runs the program.
-pub fn run() {
-    match arguments::requested() {
-        Request::Wrong => preview_messages::usage(),
+pub fn run(rt: &(impl Env + Files + Input + Print)) -> io::Result<()> {
+    match arguments::requested(rt) {
+        Request::Wrong => preview_messages::usage(rt),
         Request::Show { asked, from_file } => {
             if from_file {
-                show_file(asked);
-                return;
+                return show_file(rt, asked);
             }
-            show(STDIN_FILENO, asked);
+            show(rt, &mut rt.reader(), asked)
         }
     }
 }

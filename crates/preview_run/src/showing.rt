@@ -6,6 +6,7 @@ use crate::Asked;
 use notice::{AmbiguousWidth, DrawAnswer, DrawCounts, PagesAnswer, TallyAnswer, Wrap};
 use preview_file::{Opening, Parsed};
 use preview_sheet::{Fitting, Measure, paging, widths};
+use std::io;
 
 // A page: its number, the count of pages, and its first line.
 #[derive(Clone, Copy)]
@@ -22,21 +23,23 @@ fn blank_width() -> u64 {
 
 // Marks the cells of a drawn page with the widths and prints it.
 fn print_page(
+    rt: &impl Print,
     page: Page,
     columns: u16,
     ansi: bool,
     rows: DrawCounts,
     cells: &mut [u64],
     wide_cells: &[u64],
-) {
+) -> io::Result<()> {
     widths::mark(cells, wide_cells);
-    preview_messages::page(page.number, page.pages);
-    preview_messages::rows(cells, columns as usize, ansi);
-    preview_messages::counts(rows);
+    preview_messages::page(rt, page.number, page.pages)?;
+    preview_messages::rows(rt, cells, columns as usize, ansi)?;
+    preview_messages::counts(rt, rows)
 }
 
 // Draws and prints a page, if it is asked for.
 fn show_page(
+    rt: &impl Print,
     opening: Opening,
     page: Page,
     asked: Asked,
@@ -47,10 +50,10 @@ fn show_page(
     wide_text: &[u32],
     cells: &mut [u64],
     wide_cells: &mut [u64],
-) {
+) -> io::Result<()> {
     let shown = asked.pages;
     if !shown.has(page.number) {
-        return;
+        return Ok(());
     }
     let first = page.first;
     let wide = preview_sheet::widened(opening);
@@ -64,15 +67,24 @@ fn show_page(
         wide_cells,
     );
     match preview_sheet::draw(opening, first, cell::blank(), styles, titles, text, cells) {
-        DrawAnswer::Refused(why) => preview_messages::refused(why.number()),
+        DrawAnswer::Refused(why) => preview_messages::refused(rt, why.number()),
         DrawAnswer::Counts(rows) => {
-            print_page(page, opening.columns, asked.ansi, rows, cells, wide_cells)
+            print_page(
+                rt,
+                page,
+                opening.columns,
+                asked.ansi,
+                rows,
+                cells,
+                wide_cells,
+            )
         }
     }
 }
 
 // Shows the pages that are asked for.
 fn show_pages(
+    rt: &impl Print,
     opening: Opening,
     pages: u64,
     height: u16,
@@ -84,7 +96,7 @@ fn show_pages(
     wide_text: &[u32],
     cells: &mut [u64],
     wide_cells: &mut [u64],
-) {
+) -> io::Result<()> {
     let settings = opening.text;
     let mut first = settings.scroll;
     let mut number = 0;
@@ -95,6 +107,7 @@ fn show_pages(
             first,
         };
         show_page(
+            rt,
             opening,
             page,
             asked,
@@ -105,25 +118,33 @@ fn show_pages(
             wide_text,
             cells,
             wide_cells,
-        );
+        )?;
         first = paging::next_first(first, height);
         number += 1;
     }
+    Ok(())
 }
 
 // Prints the tally of a text, if it is wrapped.
-fn show_tally(text: &[u32], ambiguous: AmbiguousWidth, width: u16, wrap: Wrap) {
+fn show_tally(
+    rt: &impl Print,
+    text: &[u32],
+    ambiguous: AmbiguousWidth,
+    width: u16,
+    wrap: Wrap,
+) -> io::Result<()> {
     let Wrap::On { trim } = wrap else {
-        return;
+        return Ok(());
     };
     match notice::tally(text, ambiguous, width, trim) {
-        TallyAnswer::Counted(counts) => preview_messages::tally(counts),
-        TallyAnswer::Refused(why) => preview_messages::refused(why.number()),
+        TallyAnswer::Counted(counts) => preview_messages::tally(rt, counts),
+        TallyAnswer::Refused(why) => preview_messages::refused(rt, why.number()),
     }
 }
 
 // Shows the pages of a measured notice, and its tally.
 fn show_measured(
+    rt: &impl Print,
     opening: Opening,
     measure: Measure,
     asked: Asked,
@@ -134,17 +155,17 @@ fn show_measured(
     wide_text: &[u32],
     cells: &mut [u64],
     wide_cells: &mut [u64],
-) {
+) -> io::Result<()> {
     let settings = opening.text;
     let wrap = settings.named_wrap();
     let ambiguous = flat::ambiguous_named(settings.ambiguous);
     let shown = asked.pages;
     let pages = paging::page_count(measure.lines, settings.scroll, measure.height);
     if shown.is_past(pages) {
-        preview_messages::past_the_last(pages);
-        return;
+        return preview_messages::past_the_last(rt, pages);
     }
     show_pages(
+        rt,
         opening,
         pages,
         measure.height,
@@ -156,12 +177,13 @@ fn show_measured(
         wide_text,
         cells,
         wide_cells,
-    );
-    show_tally(text, ambiguous, measure.width, wrap);
+    )?;
+    show_tally(rt, text, ambiguous, measure.width, wrap)
 }
 
 // Shows a notice, or prints why it is refused. Its pages are asked for first, as that checks all that drawing and measuring do.
 fn show_notice(
+    rt: &impl Print,
     opening: Opening,
     asked: Asked,
     styles: &[u64],
@@ -171,15 +193,15 @@ fn show_notice(
     wide_text: &[u32],
     cells: &mut [u64],
     wide_cells: &mut [u64],
-) {
+) -> io::Result<()> {
     let checked = preview_sheet::checked(opening, styles, titles, text, cells);
     if let PagesAnswer::Refused(why) = checked {
-        preview_messages::refused(why.number());
-        return;
+        return preview_messages::refused(rt, why.number());
     }
     match preview_sheet::measured(opening, titles, text) {
-        Fitting::Refused(number) => preview_messages::refused(number),
+        Fitting::Refused(number) => preview_messages::refused(rt, number),
         Fitting::Fits(measure) => show_measured(
+            rt,
             opening,
             measure,
             asked,
@@ -217,6 +239,7 @@ fn cell_count(columns: u16, rows: u16) -> usize {
 
 // Shows a notice on as many cells as its screen has.
 fn show_on_cells(
+    rt: &impl Print,
     opening: Opening,
     asked: Asked,
     styles: &[u64],
@@ -226,11 +249,12 @@ fn show_on_cells(
     wide_text: &[u32],
     cells: &mut [u64],
     wide_cells: &mut [u64],
-) {
+) -> io::Result<()> {
     let count = cell_count(opening.columns, opening.rows);
     let drawn = least(count, cells.len());
     let told = least(count, wide_cells.len());
     show_notice(
+        rt,
         opening,
         asked,
         styles,
@@ -240,11 +264,12 @@ fn show_on_cells(
         wide_text,
         &mut cells[..drawn],
         &mut wide_cells[..told],
-    );
+    )
 }
 
 // Shows a notice on cells allocated here.
 fn show_on_screen(
+    rt: &impl Print,
     opening: Opening,
     asked: Asked,
     styles: &[u64],
@@ -252,10 +277,11 @@ fn show_on_screen(
     text: &[u32],
     wide_titles: &[u32],
     wide_text: &[u32],
-) {
+) -> io::Result<()> {
     let mut cells = [0u64; 131072];
     let mut wide_cells = [0u64; 131072];
     show_on_cells(
+        rt,
         opening,
         asked,
         styles,
@@ -265,11 +291,12 @@ fn show_on_screen(
         wide_text,
         &mut cells,
         &mut wide_cells,
-    );
+    )
 }
 
 // Copies the records with widths as symbols, and shows the notice.
 fn show_widened(
+    rt: &impl Print,
     opening: Opening,
     asked: Asked,
     styles: &[u64],
@@ -277,7 +304,7 @@ fn show_widened(
     text: &[u32],
     wide_titles: &mut [u32],
     wide_text: &mut [u32],
-) {
+) -> io::Result<()> {
     let settings = opening.text;
     let ambiguous = flat::ambiguous_named(settings.ambiguous);
     widths::widen(titles, ambiguous, wide_titles);
@@ -285,6 +312,7 @@ fn show_widened(
     let title_count = least(titles.len(), wide_titles.len());
     let record_count = least(text.len(), wide_text.len());
     show_on_screen(
+        rt,
         opening,
         asked,
         styles,
@@ -292,18 +320,26 @@ fn show_widened(
         text,
         &wide_titles[..title_count],
         &wide_text[..record_count],
-    );
+    )
 }
 
 // Shows a notice, read as asked, if every number of its settings names a case.
-fn show_opening(input: Opening, asked: Asked, styles: &[u64], titles: &[u32], text: &[u32]) {
+fn show_opening(
+    rt: &impl Print,
+    input: Opening,
+    asked: Asked,
+    styles: &[u64],
+    titles: &[u32],
+    text: &[u32],
+) -> io::Result<()> {
     let opening = preview_sheet::read_as(input, asked.wide);
     let block = opening.block;
     let settings = opening.text;
     let mut wide_titles = [0u32; 8192];
     let mut wide_text = [0u32; 24576];
     if flat::all_known(block, settings) {
-        show_widened(
+        return show_widened(
+            rt,
             opening,
             asked,
             styles,
@@ -312,37 +348,45 @@ fn show_opening(input: Opening, asked: Asked, styles: &[u64], titles: &[u32], te
             &mut wide_titles,
             &mut wide_text,
         );
-        return;
     }
-    preview_messages::refused(255);
+    preview_messages::refused(rt, 255)
 }
 
 // Shows the notice whose styles, title records and text records are at the start of the slices.
-fn show_read(opening: Opening, asked: Asked, styles: &[u64], titles: &[u32], text: &[u32]) {
+fn show_read(
+    rt: &impl Print,
+    opening: Opening,
+    asked: Asked,
+    styles: &[u64],
+    titles: &[u32],
+    text: &[u32],
+) -> io::Result<()> {
     let style_count = least(opening.styles, styles.len());
     let title_count = least(opening.titles, titles.len());
     let record_count = least(opening.records, text.len());
     show_opening(
+        rt,
         opening,
         asked,
         &styles[..style_count],
         &titles[..title_count],
         &text[..record_count],
-    );
+    )
 }
 
 // Shows the notice in an input, or prints why the input is bad.
 pub fn show_input(
+    rt: &impl Print,
     input: &[u8],
     asked: Asked,
     styles: &mut [u64],
     titles: &mut [u32],
     text: &mut [u32],
-)
+) -> io::Result<()>
     requires { (most_styles ≤ length styles.old) × (most_titles ≤ length titles.old) × (most_text ≤ length text.old) }
 {
     match preview_file::read(input, styles, titles, text) {
-        Parsed::Bad(flaw) => preview_messages::bad_input(flaw),
-        Parsed::Good(opening) => show_read(opening, asked, styles, titles, text),
+        Parsed::Bad(flaw) => preview_messages::bad_input(rt, flaw),
+        Parsed::Good(opening) => show_read(rt, opening, asked, styles, titles, text),
     }
 }

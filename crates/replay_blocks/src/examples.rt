@@ -2,8 +2,8 @@
 ghost use Rattle.std.specs.Prelude.{◌<◌, ◌≤◌, length};
 
 use layout::Rect;
-use libc::STDOUT_FILENO;
 use num::byte_to_u32;
+use std::io;
 use test_blocks::plain;
 use text::{AmbiguousWidth, glyph, head};
 
@@ -47,29 +47,35 @@ fn draw_row(cells: &mut [u64], columns: u16, titles: &[u32]) {
 }
 
 // Draws and prints a row of titles.
-fn print_row(text: &[u8], titles: &mut [u32], cells: &mut [u64], columns: u16)
+fn print_row(
+    rt: &impl Print,
+    text: &[u8],
+    titles: &mut [u32],
+    cells: &mut [u64],
+    columns: u16,
+) -> io::Result<()>
     requires { length text.now ≤ length titles.old }
 {
     write_titles(titles, text);
     draw_row(cells, columns, titles);
-    test_print::print_row(cells);
+    test_print::print_row(rt, cells)
 }
 
-fn print_first() {
+fn print_first(rt: &impl Print) -> io::Result<()> {
     let mut titles = [0u32; 9];
     let mut cells = [cell::blank(); 5];
-    io::write_all(STDOUT_FILENO, b"centred titles abcd, efg in 5: ");
-    print_row(b"|abcd|efg", &mut titles, &mut cells, 5);
+    rt.print("centred titles abcd, efg in 5: ")?;
+    print_row(rt, b"|abcd|efg", &mut titles, &mut cells, 5)
 }
 
-fn print_second() {
+fn print_second(rt: &impl Print) -> io::Result<()> {
     let mut titles = [0u32; 9];
     let mut cells = [cell::blank(); 4];
-    io::write_all(STDOUT_FILENO, b"centred titles a, bcdefg in 4: ");
-    print_row(b"|a|bcdefg", &mut titles, &mut cells, 4);
+    rt.print("centred titles a, bcdefg in 4: ")?;
+    print_row(rt, b"|a|bcdefg", &mut titles, &mut cells, 4)
 }
 
-pub fn print_both() {
-    print_first();
-    print_second();
+pub fn print_both(rt: &impl Print) -> io::Result<()> {
+    print_first(rt)?;
+    print_second(rt)
 }

@@ -6,7 +6,9 @@ mod examples;
 mod replaying;
 mod report;
 
-fn main() {
-    replaying::replay();
-    examples::print_both();
+use std::io;
+
+fn main(rt: HostRuntime) -> io::Result<()> {
+    replaying::replay(&rt)?;
+    examples::print_both(&rt)
 }

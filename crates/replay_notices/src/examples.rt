@@ -2,9 +2,9 @@
 ghost use Rattle.std.specs.Prelude.{◌<◌, ◌^◌};
 
 use layout::Rect;
-use libc::STDOUT_FILENO;
 use line_composer::Wrap;
 use render_text::TextSettings;
+use std::io;
 use text::{Alignment, AmbiguousWidth, glyph, head};
 
 // Returns the settings of an unwrapped text, scrolled right by `column`.
@@ -27,7 +27,7 @@ fn letter(symbol: u32) -> u32
 }
 
 // Draws and prints the example with a head.
-fn print_line(head: u32, column: u16) {
+fn print_line(rt: &impl Print, head: u32, column: u16) -> io::Result<()> {
     let styles = [0u64; 1];
     let wide = glyph::pack(87, 2, false, 0);
     let text = [head, wide, letter(97), letter(98), letter(99)];
@@ -39,23 +39,14 @@ fn print_line(head: u32, column: u16) {
         height: 1,
     };
     draw_text::draw_text(4, 1, &mut cells, &styles, &text, area, settings(column));
-    test_print::print_row(&cells);
+    test_print::print_row(rt, &cells)
 }
 
-pub fn print_all() {
-    io::write_all(
-        STDOUT_FILENO,
-        b"unwrapped Wabc in 4, left, scrolled right by 1: ",
-    );
-    print_line(head::pack(0, 0), 1);
-    io::write_all(
-        STDOUT_FILENO,
-        b"unwrapped Wabc in 4, left, scrolled right by 2: ",
-    );
-    print_line(head::pack(0, 0), 2);
-    io::write_all(
-        STDOUT_FILENO,
-        b"unwrapped Wabc in 4, right, scrolled right by 1: ",
-    );
-    print_line(head::pack(2, 0), 1);
+pub fn print_all(rt: &impl Print) -> io::Result<()> {
+    rt.print("unwrapped Wabc in 4, left, scrolled right by 1: ")?;
+    print_line(rt, head::pack(0, 0), 1)?;
+    rt.print("unwrapped Wabc in 4, left, scrolled right by 2: ")?;
+    print_line(rt, head::pack(0, 0), 2)?;
+    rt.print("unwrapped Wabc in 4, right, scrolled right by 1: ")?;
+    print_line(rt, head::pack(2, 0), 1)
 }

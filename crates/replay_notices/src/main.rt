@@ -9,7 +9,9 @@ mod kinds;
 mod replaying;
 mod report;
 
-fn main() {
-    replaying::replay();
-    examples::print_all();
+use std::io;
+
+fn main(rt: HostRuntime) -> io::Result<()> {
+    replaying::replay(&rt)?;
+    examples::print_all(&rt)
 }

@@ -1,76 +1,94 @@
 // Output of the replay.
 use buffer::Screen;
 use layout::Rect;
-use libc::STDOUT_FILENO;
+use std::io;
 use test_answers::notices::Asked;
 use test_notices::Case;
 use test_notices::parts::Part;
 use test_print::print_number;
 
-fn print_asked(asked: Asked) -> bool {
+fn print_asked(rt: &impl Print, asked: Asked) -> io::Result<()> {
     match asked {
-        Asked::Both => io::write_all(STDOUT_FILENO, b"notices, "),
-        Asked::Frame => io::write_all(STDOUT_FILENO, b"frames, "),
-        Asked::Text => io::write_all(STDOUT_FILENO, b"texts, "),
+        Asked::Both => rt.print("notices, "),
+        Asked::Frame => rt.print("frames, "),
+        Asked::Text => rt.print("texts, "),
     }
 }
 
-fn print_part(asked: Asked, part: Part) -> bool {
-    print_asked(asked);
+fn print_part(rt: &impl Print, asked: Asked, part: Part) -> io::Result<()> {
+    print_asked(rt, asked)?;
     match part {
-        Part::Narrow => io::write_all(STDOUT_FILENO, b"narrow screens: "),
-        Part::Small => io::write_all(STDOUT_FILENO, b"small screens: "),
-        Part::Large => io::write_all(STDOUT_FILENO, b"large screens: "),
+        Part::Narrow => rt.print("narrow screens: "),
+        Part::Small => rt.print("small screens: "),
+        Part::Large => rt.print("large screens: "),
     }
 }
 
-fn print_area(area: Rect) {
-    print_number(area.x as u32, b" ");
-    print_number(area.y as u32, b" ");
-    print_number(area.width as u32, b" ");
-    print_number(area.height as u32, b", screen ");
+fn print_area(rt: &impl Print, area: Rect) -> io::Result<()> {
+    print_number(rt, area.x as u32, b" ")?;
+    print_number(rt, area.y as u32, b" ")?;
+    print_number(rt, area.width as u32, b" ")?;
+    print_number(rt, area.height as u32, b", screen ")
 }
 
-fn print_screen(screen: Screen) {
-    print_number(screen.columns as u32, b" ");
-    print_number(screen.rows as u32, b"\n");
+fn print_screen(rt: &impl Print, screen: Screen) -> io::Result<()> {
+    print_number(rt, screen.columns as u32, b" ")?;
+    print_number(rt, screen.rows as u32, b"\n")
 }
 
 // Prints a case that differs, if it is among the first ten of its part.
-pub fn print_case(asked: Asked, part: Part, number: u32, case: Case, before: u32) {
+pub fn print_case(
+    rt: &impl Print,
+    asked: Asked,
+    part: Part,
+    number: u32,
+    case: Case,
+    before: u32,
+) -> io::Result<()> {
     if 10 <= before {
-        return;
+        return Ok(());
     }
     let area = case.area;
     let screen = case.screen;
-    print_part(asked, part);
-    io::write_all(STDOUT_FILENO, b"case ");
-    print_number(number, b" differs, area ");
-    print_area(area);
-    print_screen(screen);
+    print_part(rt, asked, part)?;
+    rt.print("case ")?;
+    print_number(rt, number, b" differs, area ")?;
+    print_area(rt, area)?;
+    print_screen(rt, screen)
 }
 
 // Prints the totals of a part.
-pub fn print_counts(asked: Asked, part: Part, compared: u32, differ: u32) {
-    print_part(asked, part);
-    print_number(compared, b" cases compared, ");
-    print_number(differ, b" differ\n");
+pub fn print_counts(
+    rt: &impl Print,
+    asked: Asked,
+    part: Part,
+    compared: u32,
+    differ: u32,
+) -> io::Result<()> {
+    print_part(rt, asked, part)?;
+    print_number(rt, compared, b" cases compared, ")?;
+    print_number(rt, differ, b" differ\n")
 }
 
 // Prints the number of a part's cases that place a glyph, clip one, or draw no row; a frame alone does nothing of the kind.
-pub fn print_kinds(asked: Asked, part: Part, placing: u32, clipping: u32, rowless: u32) {
+pub fn print_kinds(
+    rt: &impl Print,
+    asked: Asked,
+    part: Part,
+    placing: u32,
+    clipping: u32,
+    rowless: u32,
+) -> io::Result<()> {
     if let Asked::Frame = asked {
-        return;
+        return Ok(());
     }
-    print_part(asked, part);
-    print_number(placing, b" place a glyph, ");
-    print_number(clipping, b" clip one, ");
-    print_number(rowless, b" draw no row\n");
+    print_part(rt, asked, part)?;
+    print_number(rt, placing, b" place a glyph, ")?;
+    print_number(rt, clipping, b" clip one, ")?;
+    print_number(rt, rowless, b" draw no row\n")
 }
 
 // Prints that a data file can't be opened.
-pub fn print_no_data(name: &[u8]) {
-    io::write_all(STDOUT_FILENO, b"data/");
-    io::write_all(STDOUT_FILENO, name);
-    io::write_all(STDOUT_FILENO, b" can't be opened\n");
+pub fn print_no_data(rt: &impl Print, name: &str) -> io::Result<()> {
+    println!(rt; "data/{name} can't be opened")
 }

@@ -6,6 +6,8 @@ mod data;
 mod replaying;
 mod report;
 
-fn main() {
-    replaying::replay();
+use std::io;
+
+fn main(rt: HostRuntime) -> io::Result<()> {
+    replaying::replay(&rt)
 }

@@ -1,7 +1,7 @@
 // Output of the test programs: numbers, and rows of cells as text, one byte for each cell.
 #![tactic(auto)]
 
-use libc::STDOUT_FILENO;
+use std::io;
 
 // Returns the byte of a cell's symbol, `_` for a blank.
 fn byte_of(cell: u64) -> u8 {
@@ -12,27 +12,26 @@ fn byte_of(cell: u64) -> u8 {
     (symbol % 256) as u8
 }
 
-fn print_cell(cell: u64) {
+fn print_cell(rt: &impl Print, cell: u64) -> io::Result<()> {
     let byte = [byte_of(cell); 1];
-    io::write_all(STDOUT_FILENO, &byte);
+    rt.write_all(&byte)
 }
 
-fn print_cells(cells: &[u64]) {
-    let mut i = 0;
-    while i < cells.len() {
-        print_cell(cells[i]);
-        i += 1;
+fn print_cells(rt: &impl Print, cells: &[u64]) -> io::Result<()> {
+    for cell in cells {
+        print_cell(rt, *cell)?;
     }
+    Ok(())
 }
 
 // Prints a row of cells and a newline.
-pub fn print_row(cells: &[u64]) {
-    print_cells(cells);
-    io::write_all(STDOUT_FILENO, b"\n");
+pub fn print_row(rt: &impl Print, cells: &[u64]) -> io::Result<()> {
+    print_cells(rt, cells)?;
+    println!(rt)
 }
 
 // Prints a number and then `after`.
-pub fn print_number(number: u32, after: &[u8]) {
-    io::print_decimal(STDOUT_FILENO, number as u64);
-    io::write_all(STDOUT_FILENO, after);
+pub fn print_number(rt: &impl Print, number: u32, after: &[u8]) -> io::Result<()> {
+    print!(rt; "{number}")?;
+    rt.write_all(after)
 }

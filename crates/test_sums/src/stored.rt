@@ -1,12 +1,15 @@
 // The oracle's checksums: a file has one for each case in order, 4 bytes each, high byte first.
 use num::byte_to_u32;
+use read_input::read_full;
+use std::io;
+use std::io::Read;
 
 // Returns the next checksum of a file, or 0 past its end.
-pub fn next_sum(fd: i32) -> u32 {
+pub fn next_sum(file: &mut impl Read) -> io::Result<u32> {
     let mut bytes = [0u8; 4];
-    io::read_full(fd, &mut bytes);
-    byte_to_u32(bytes[0]) * 16777216
+    read_full(file, &mut bytes)?;
+    Ok(byte_to_u32(bytes[0]) * 16777216
         + byte_to_u32(bytes[1]) * 65536
         + byte_to_u32(bytes[2]) * 256
-        + byte_to_u32(bytes[3])
+        + byte_to_u32(bytes[3]))
 }

@@ -12,6 +12,9 @@ use inner::InnerAnswer;
 use notice::PagesAnswer;
 use num::byte_to_u32;
 use preview_file::Opening;
+use read_input::read_full;
+use std::io;
+use std::io::Read;
 
 // A call: its kind (0 draws a block, 1 a frame, 2 all pages of a notice, 3 a text, 4 counts the pages of a notice and draws nothing), the
 // expected number, the numbers of cells and text records to pass, and the length of the packed notice in bytes.
@@ -30,16 +33,16 @@ fn number(high: u8, low: u8) -> usize {
 }
 
 // Reads the next call of a file.
-pub fn next_call(fd: i32) -> Call {
+pub fn next_call(file: &mut impl Read) -> io::Result<Call> {
     let mut bytes = [0u8; 8];
-    io::read_full(fd, &mut bytes);
-    Call {
+    read_full(file, &mut bytes)?;
+    Ok(Call {
         kind: bytes[0],
         answer: byte_to_u32(bytes[1]),
         cells: number(bytes[2], bytes[3]),
         records: number(bytes[4], bytes[5]),
         bytes: number(bytes[6], bytes[7]),
-    }
+    })
 }
 
 // Returns the number of the refusal cause, or 0 if the block is drawn.
@@ -136,24 +139,25 @@ fn draw_text(opening: Opening, styles: &[u64], text: &[u32], cells: &mut [u64]) 
 
 // Runs a call of a kind and returns its number.
 pub fn draw(
+    rt: &impl Print,
     kind: u8,
     opening: Opening,
     styles: &[u64],
     titles: &[u32],
     text: &[u32],
     cells: &mut [u64],
-) -> u32 {
+) -> io::Result<u32> {
     if kind == 1 {
-        return draw_frame(opening, styles, titles, cells);
+        return Ok(draw_frame(opening, styles, titles, cells));
     }
     if kind == 2 {
-        return read_back(opening, styles, titles, text, cells);
+        return read_back(rt, opening, styles, titles, text, cells);
     }
     if kind == 3 {
-        return draw_text(opening, styles, text, cells);
+        return Ok(draw_text(opening, styles, text, cells));
     }
     if kind == 4 {
-        return pages_number(preview_sheet::checked(opening, styles, titles, text, cells));
+        return Ok(pages_number(preview_sheet::checked(opening, styles, titles, text, cells)));
     }
-    draw_block(opening, styles, titles, cells)
+    Ok(draw_block(opening, styles, titles, cells))
 }

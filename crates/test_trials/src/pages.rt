@@ -8,6 +8,7 @@ use line_composer::Wrap;
 use preview_file::Opening;
 use preview_sheet::paging;
 use render_lines::DrawCounts;
+use std::io;
 use tally::{TallyAnswer, TallyCounts};
 use test_print::print_number;
 use test_texts::numbers::step;
@@ -108,12 +109,13 @@ fn agrees(sums: Sums, counts: TallyCounts, text: &[u32]) -> bool {
 
 // Returns 0 if the pages of a notice show its solid glyphs in order, else 98. Prints the numbers of pages and of glyphs placed.
 pub fn read_back(
+    rt: &impl Print,
     opening: Opening,
     styles: &[u64],
     titles: &[u32],
     text: &[u32],
     cells: &mut [u64],
-) -> u32 {
+) -> io::Result<u32> {
     let flat_area = opening.area;
     let flat_block = opening.block;
     let settings = opening.text;
@@ -123,21 +125,21 @@ pub fn read_back(
     };
     let met = flat_area.area().intersection(screen.area());
     let InnerAnswer::Area(inside) = inner::inner(flat_block.block(), titles, met) else {
-        return 98;
+        return Ok(98);
     };
     let Wrap::On { trim } = settings.named_wrap() else {
-        return 98;
+        return Ok(98);
     };
     let ambiguous = flat::ambiguous_named(settings.ambiguous);
     let TallyAnswer::Counted(counts) = tally::tally(text, ambiguous, inside.width, trim) else {
-        return 98;
+        return Ok(98);
     };
     let pages = paging::page_count(counts.lines, 0, inside.height);
     let sums = read_pages(opening, inside, pages, styles, titles, text, cells);
-    print_number(sums.pages, b" pages, ");
-    print_number(sums.placed, b" glyphs placed, ");
+    print_number(rt, sums.pages, b" pages, ")?;
+    print_number(rt, sums.placed, b" glyphs placed, ")?;
     if agrees(sums, counts, text) {
-        return 0;
+        return Ok(0);
     }
-    98
+    Ok(98)
 }

@@ -1,20 +1,22 @@
 // Output of the program.
-use libc::STDOUT_FILENO;
+use read_input::read_full;
+use std::io;
+use std::io::Read;
 use test_print::print_number;
 
 // Prints what differs from an accepted call: the next 32 bytes of a file.
-pub fn print_name(fd: i32) {
+pub fn print_name(rt: &impl Print, file: &mut impl Read) -> io::Result<()> {
     let mut name = [0u8; 32];
-    io::read_full(fd, &mut name);
-    io::write_all(STDOUT_FILENO, &name);
+    read_full(file, &mut name)?;
+    rt.write_all(&name)
 }
 
 // Prints a call's number and whether the cells are unchanged.
-pub fn print_answer(answer: u32, kept: bool) {
-    io::write_all(STDOUT_FILENO, b"answers ");
+pub fn print_answer(rt: &impl Print, answer: u32, kept: bool) -> io::Result<()> {
+    rt.print("answers ")?;
     if kept {
-        print_number(answer, b", cells kept\n");
+        print_number(rt, answer, b", cells kept\n")
     } else {
-        print_number(answer, b", cells changed\n");
+        print_number(rt, answer, b", cells changed\n")
     }
 }
