@@ -8,8 +8,10 @@ use std::io::Read;
 pub fn next_sum(file: &mut impl Read) -> io::Result<u32> {
     let mut bytes = [0u8; 4];
     read_full(file, &mut bytes)?;
-    Ok(byte_to_u32(bytes[0]) * 16777216
-        + byte_to_u32(bytes[1]) * 65536
-        + byte_to_u32(bytes[2]) * 256
-        + byte_to_u32(bytes[3]))
+    Ok(
+        byte_to_u32(bytes[0]) * 16777216
+            + byte_to_u32(bytes[1]) * 65536
+            + byte_to_u32(bytes[2]) * 256
+            + byte_to_u32(bytes[3]),
+    )
 }

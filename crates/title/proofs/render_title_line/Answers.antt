@@ -15,8 +15,5 @@ overflow_add-end c = omega (arith, row-end)
 pub offset_bounds-cells-start : goal.offset_bounds-cells-start
 offset_bounds-cells-start c = omega (arith, row-end)
 
--- LEFT part-write-title-line-end : tie.Need-slice-bounds-write-title-line-end
--- LEFT part-write-title-line-end c = omega (arith, row-end)
-
 pub returns : goal.returns
 returns c = search line-drawn

@@ -12,12 +12,6 @@ offset_bounds-text-from c = omega arith
 pub slice_bounds-next_line-count : goal.slice_bounds-next_line-count
 slice_bounds-next_line-count c = omega arith
 
--- LEFT part-next-line-start : tie.Need-slice-bounds-next-line-start invariant_loop decreases_loop
--- LEFT part-next-line-start c = omega arith
-
--- LEFT part-next-line-end : tie.Need-slice-bounds-next-line-end invariant_loop decreases_loop
--- LEFT part-next-line-end c = omega arith
-
 pub next_line-requires-clause-few_records : goal.next_line-requires-clause-few_records
 next_line-requires-clause-few_records c = search part_short
 

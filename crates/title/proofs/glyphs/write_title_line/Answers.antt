@@ -5,8 +5,5 @@ use Rattle.title.proofs.glyphs.write_title_line.Goals as goal
 pub slice_bounds-write_glyphs-count : goal.slice_bounds-write_glyphs-count
 slice_bounds-write_glyphs-count c = search starts-within
 
--- LEFT part-write-glyphs-start : tie.Need-slice-bounds-write-glyphs-start
--- LEFT part-write-glyphs-start c = search starts-within
-
 pub returns : goal.returns
 returns c = search line-written

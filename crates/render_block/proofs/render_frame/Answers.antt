@@ -1,0 +1,10 @@
+-- `render_block::render_frame` meets its contract.
+use Rattle.render_borders.proofs.Symbols.{fitting}
+use Rattle.render_block.proofs.Frames.{frames}
+use Rattle.render_block.proofs.render_frame.Goals as goal
+
+pub render_shadow-requires-clause-shadow_fits : goal.render_shadow-requires-clause-shadow_fits
+render_shadow-requires-clause-shadow_fits c = search fitting
+
+pub returns : goal.returns
+returns c = search frames
