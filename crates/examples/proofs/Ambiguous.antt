@@ -29,13 +29,15 @@ pub at_one : (trim : Bool) →
     × (wrapped Wide 1 trim "A" ≡ [] ∷ [])
     × (skipped (rule_of Wide 1 trim) (text_of "A") ≡ glyphs Wide 1 "A")
 unfolding read_width is_over_wide must_join takes_spaces gathered joined unjoined full emptied drops appended ◌then◌ join_step emit_step append_step step last_lines wrap lines_of line_lines lines skipped place_of is_placed
-at_one trim = elim trim [ true ↦ (refl, refl, refl, refl, refl) | false ↦ (refl, refl, refl, refl, refl) ]
+at_one true = (refl, refl, refl, refl, refl)
+at_one false = (refl, refl, refl, refl, refl)
 
 -- limit 1 "ZAZ", wide: one line from record 1 to record 4 of width 0, as the entry doesn't carry the setting
 pub between_marks : (trim : Bool) → map wrapped_line_of (lines (rule_of Wide 1 trim) WordWrap Left (text_of "ZAZ"))
     ≡ record { first = 1; end = 4; width = 0; alignment = Left } ∷ []
 unfolding read_width is_over_wide must_join takes_spaces gathered joined unjoined full emptied drops appended ◌then◌ join_step emit_step append_step step last_lines wrap lines_of line_lines lines wrapped_line_of
-between_marks trim = elim trim [ true ↦ refl | false ↦ refl ]
+between_marks true = refl
+between_marks false = refl
 
 -- left titles A and b in 10 columns: b is in column 2 if narrow, in column 3 if wide; A is 65, b is 98
 abbrev pub titles : List ℕ

@@ -46,14 +46,14 @@ examples a =
     record {
       leading_trimmed = refl;
       leading_kept = refl;
-      past_limit = λ trim. elim trim [ true ↦ (refl, refl) | false ↦ (refl, refl) ];
+      past_limit = λ trim. elim trim as (λ t. (wrapped a 3 t "abW" ≡ glyphs a 1 "abW" ∷ []) × (widths a 3 t "abW" ≡ 4 ∷ [])) [ true ↦ (refl, refl) | false ↦ (refl, refl) ];
       past_limit_places = (refl, refl);
-      over-wide = λ trim. elim trim [ true ↦ refl | false ↦ refl ];
+      over-wide = λ trim. elim trim as (λ t. wrapped a 1 t "aWb" ≡ glyphs a 1 "a" ∷ glyphs a 3 "b" ∷ []) [ true ↦ refl | false ↦ refl ];
       zero-width = (refl, refl, refl);
       wide = (refl, refl, refl);
       spaces_kept = refl;
       spaces_trimmed = refl;
-      empty_line = λ trim. elim trim [ true ↦ refl | false ↦ refl ];
+      empty_line = λ trim. elim trim as (λ t. wrapped a 3 t "" ≡ [] ∷ []) [ true ↦ refl | false ↦ refl ];
       centre = refl;
       inner = four_borders_lem;
     }

@@ -44,7 +44,8 @@ pub half_counted : (a : AmbiguousWidth) (trim : Bool) →
     (tally_of (rule_of a 3 trim) (text_of "abW") ≡ record { lines = 1; placed = 2; clipped = 1; zero_width = 0; over_wide = 0; dropped = 0 })
     × (tally_of (rule_of a 3 false) (text_of "abS") ≡ record { lines = 1; placed = 2; clipped = 1; zero_width = 0; over_wide = 0; dropped = 0 })
 unfolding read_width is_over_wide must_join takes_spaces gathered joined unjoined full emptied drops appended ◌then◌ join_step emit_step append_step step last_lines wrap lines_of line_lines lines skipped dropped place_of is_placed is_clipped is_zero_width tally_of
-half_counted a trim = elim trim [ true ↦ (refl, refl) | false ↦ (refl, refl) ]
+half_counted a true = (refl, refl)
+half_counted a false = (refl, refl)
 
 -- unwrapped, scrolled right by 1, limit 4, "Wabc": W is half swallowed, shown whole, and placed as a and b are
 pub half_swallowed : (a : AmbiguousWidth) →
