@@ -74,7 +74,8 @@ fn output_for(input: &[u8], text: &mut [u32], list: &mut [u64], output: &mut [u8
 }
 
 // Runs the program: reads an input to its end, and writes the output. Where the bytes that a reader has left and those that a writer
-// holds are known, the output of all of them is written.
+// holds are known, the output of all of them is written. An error is the reader's or the writer's: before the first nothing is written,
+// before the second perhaps a part.
 pub fn run<R: Read, W: Write>(input: &mut R, output: &mut W) -> io::Result<()>
     ensures { OnOk result (IfSome (R.remaining input.old) (λ bytes.
         length bytes < 2 ^ 64 → Appends (W.contents output.old) (W.contents output.new) (printed_of bytes))) }

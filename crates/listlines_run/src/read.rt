@@ -43,7 +43,7 @@ fn cut(full: usize, over: usize) -> usize
 }
 
 // Reads an input to its end. Returns how many bytes of the buffer to parse: all that were read or, if the input is longer, as
-// many as give the same result (theorem `cut-same`).
+// many as give the same result (theorem `cut-same`). An error is the reader's; the buffer may then hold what was read before it.
 pub fn read_all<R: Read>(input: &mut R, buffer: &mut [u8]) -> io::Result<usize>
     requires { 3 ≤ length buffer.old }
     ensures bound { ReadsAtMost result buffer.new }

@@ -9,7 +9,8 @@ use std::io;
 use std::io::Read;
 
 // Reads until the buffer is full or the input ends. Returns how many bytes it put at the start of the buffer: the next bytes of the
-// input, and all that it has left if the buffer is not full.
+// input, and all that it has left if the buffer is not full. An error is the reader's; bytes that were read before it are lost to the
+// input, and the buffer may hold them.
 pub fn read_full<R: Read>(input: &mut R, buffer: &mut [u8]) -> io::Result<usize>
     ensures bound { ReadsAtMost result buffer.new }
     ensures bytes { IfOk result (λ n. Consumes (R.remaining input.old) (R.remaining input.new) (take n buffer.new)) }
