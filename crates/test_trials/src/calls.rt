@@ -5,7 +5,7 @@ ghost use Rattle.inner.specs.Call.{inner_answer_number};
 ghost use Rattle.draw_text.specs.Call.{draw_answer_number};
 ghost use Rattle.count_pages.specs.Call.{pages_answer_number};
 
-use crate::pages::read_back;
+use crate::page_reading::read_back;
 use draw_block::BlockAnswer;
 use draw_text::DrawAnswer;
 use inner::InnerAnswer;

@@ -11,7 +11,7 @@
 mod calling;
 mod calls;
 mod listed;
-mod pages;
+mod page_reading;
 mod previewed;
 mod reading;
 mod report;
