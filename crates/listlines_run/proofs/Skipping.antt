@@ -5,6 +5,7 @@ use Rattle.std.specs.Io.KnownBytes.{Consumes, IsAtEnd}
 use Rattle.std.specs.declared.option.Option.{Option}
 use Rattle.std.proofs.KnownBytes.{Consumes-trans}
 use lib.ListN.{length-append}
+use Rattle.read_input.specs.LosesExtra.{Loses}
 use Rattle.listlines_run.specs.SkippedExtra.{Skipped, LeftOver}
 
 -- before each turn: `over` bytes are skipped, modulo 4, and at least one a turn
@@ -43,3 +44,7 @@ skipping_ends_late (Some left) (Some rest) over turns s h =
     λ few.
     let both : length left ≡ length s.bytes + length rest = ap length s.consumed ∙ length-append s.bytes rest in
     skipped_all s.bytes left rest over s.same s.consumed (omega (arith, both, s.many, h, few))
+
+-- bytes are lost, and then more
+pub loses_more : (a b c : Option (List ℕ)) (bytes : List ℕ) → Consumes a b bytes → Loses b c → Loses a c
+loses_more a b c bytes h more = (bytes ++ more.0, Consumes-trans a b c bytes more.0 h more.1)

@@ -1,6 +1,8 @@
 // Reads an input to its end and keeps its start.
-ghost use Rattle.std.specs.Prelude.{◌+◌, ◌%◌, ◌^◌, ◌<◌, ◌≤◌, IfOk, IfSome, length};
+ghost use Rattle.std.specs.Prelude.{◌+◌, ◌%◌, ◌^◌, ◌<◌, ◌≤◌, IfOk, OnErr, IfSome, length};
 ghost use Rattle.std.specs.Io.{ReadsAtMost};
+ghost use Rattle.std.specs.Io.KnownBytes.{Keeps};
+ghost use Rattle.read_input.specs.LosesExtra.{Loses};
 ghost use Rattle.listlines_run.specs.CutExtra.{Cut, Kept};
 ghost use Rattle.listlines_run.specs.SkippedExtra.{Skipped, LeftOver};
 
@@ -10,7 +12,8 @@ use std::io::Read;
 
 // Reads once and discards the bytes. Returns their count: 0 at the end of the input.
 fn skip_some<R: Read>(input: &mut R) -> io::Result<usize>
-    ensures { IfOk result (Skipped (R.remaining input.old) (R.remaining input.new)) }
+    ensures skipped { IfOk result (Skipped (R.remaining input.old) (R.remaining input.new)) }
+    ensures err { OnErr result (Keeps (R.remaining input.old) (R.remaining input.new)) }
 {
     let mut chunk = [0u8; 4096];
     input.read(&mut chunk)
@@ -20,6 +23,7 @@ fn skip_some<R: Read>(input: &mut R) -> io::Result<usize>
 fn skip_rest<R: Read>(input: &mut R) -> io::Result<usize>
     ensures bound { IfOk result (λ over. over < 4) }
     ensures count { IfOk result (LeftOver (R.remaining input.old)) }
+    ensures err { OnErr result (Loses (R.remaining input.old) (R.remaining input.new)) }
 {
     let mut over = 0;
     for _ in 0..u64::MAX {
@@ -49,6 +53,7 @@ pub fn read_all<R: Read>(input: &mut R, buffer: &mut [u8]) -> io::Result<usize>
     ensures bound { ReadsAtMost result buffer.new }
     ensures kept { IfOk result (λ at. IfSome (R.remaining input.old) (λ bytes.
         length bytes < 2 ^ 64 → Kept (length buffer.new) bytes at buffer.new)) }
+    ensures err { OnErr result (Loses (R.remaining input.old) (R.remaining input.new)) }
 {
     let read = read_full(input, buffer)?;
     if read < buffer.len() {
