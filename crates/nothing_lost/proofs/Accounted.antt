@@ -1,16 +1,14 @@
 -- accounted: for any test on glyphs, a text line has as many glyphs that pass as its emitted, dropped and over-wide ones have.
 -- accounted-lengths: the emitted, dropped and over-wide glyphs together are as many as the text line's.
--- exactly-once: every glyph of a text line is emitted, dropped or over-wide, and only once.
-use Prim.Native.Nat.{ℕ, suc, ◌+◌, ◌-◌, ◌≤◌, ◌<◌}
-use mathlib.Core.Path.{◌≡◌, refl, sym, ap, ◌∙◌}
+use Prim.Native.Nat.{ℕ, ◌+◌, ◌-◌, ◌≤◌, ◌<◌}
+use mathlib.Core.Path.{◌≡◌, refl, sym, ap}
 use mathlib.Core.Bool.{Bool, true, false, cond}
 use mathlib.Core.List.{List, [], ◌∷◌, ◌++◌, append-nil}
 use native.Mathlib.Omega.{arith}
-use borrow.Author.Tests.{eqb-true, eqb-false, ne_eqb}
+use borrow.Author.Tests.{eqb-false}
 use lib.Dec.{eqb}
 use lib.ListN.{length}
-use Rattle.text.specs.declared.AmbiguousWidth.{AmbiguousWidth}
-use Rattle.text.specs.Line.{Glyph, numbered, total}
+use Rattle.text.specs.Line.{Glyph, total}
 use Rattle.wrapping.specs.declared.Rule.{Rule}
 use Rattle.wrapping.specs.Wrapping.{Pending, Step, empty_pending, is_over_wide, takes_spaces, gathered, joined, unjoined, emptied, appended, step, wrap_from, wrap, over_wides}
 use Rattle.text.specs.Lists.{count_of}
@@ -85,18 +83,6 @@ module _ (test : Glyph → Bool) where
 abbrev pub number_is : ℕ → Glyph → Bool
 number_is n g = eqb g.number n
 
-numbered-none : (a : AmbiguousWidth) (n k : ℕ) (rs : List ℕ) → n < k → count_of (number_is n) (numbered a k rs) ≡ 0
-numbered-none a n k [] h = refl
-numbered-none a n k (r ∷ rs) h =
-    rw (ne_eqb k n (λ (e : k ≡ n). omega arith)) (omega (arith, numbered-none a n (suc k) rs (omega arith)))
-
-numbered_once : (a : AmbiguousWidth) (n k : ℕ) (rs : List ℕ) → k ≤ n → n < k + length rs → count_of (number_is n) (numbered a k rs) ≡ 1
-numbered_once a n k [] h l = omega arith
-numbered_once a n k (r ∷ rs) h l =
-    cases (λ (b : Bool). cond b 1 0 + count_of (number_is n) (numbered a (suc k) rs) ≡ 1) (eqb k n)
-    (λ e. let same = eqb-true k n e in omega (arith, numbered-none a n (suc k) rs (omega arith)))
-    (λ e. let other = eqb-false k n e in omega (arith, numbered_once a n (suc k) rs (omega arith) (omega arith)))
-
 all_counted : (gs : List Glyph) → count_of (λ _. true) gs ≡ length gs
 all_counted [] = refl
 all_counted (g ∷ gs) = omega (arith, all_counted gs)
@@ -117,9 +103,3 @@ wrapped-few u gs =
     cases (λ _. length (glyphs_of_all (wrap u gs).lines) ≤ length gs) (eqb u.limit 0)
     (λ e. rw e (omega arith))
     (λ e. let n = eqb-false u.limit 0 e in omega (arith, accounted_lengths u gs (omega arith)))
-
-pub exactly_once : (u : Rule) (k : ℕ) (rs : List ℕ) → 0 < u.limit → (n : ℕ) → k ≤ n → n < k + length rs →
-    count_of (number_is n) (glyphs_of_all (wrap u (numbered u.ambiguous k rs)).lines) + count_of (number_is n) (wrap u (numbered u.ambiguous k rs)).dropped
-    + count_of (number_is n) (over_wides u (numbered u.ambiguous k rs))
-    ≡ 1
-exactly_once u k rs h n from below = accounted u (numbered u.ambiguous k rs) h (number_is n) ∙ numbered_once u.ambiguous n k rs from below
