@@ -5,7 +5,8 @@ ghost use Rattle.std.specs.Prelude.{◌≡◌};
 ghost use Rattle.text.specs.Line.{not_opening, Opens};
 ghost use Rattle.text.specs.Lists.{count_of};
 ghost use Rattle.refuse.specs.Refusal.{first_cause};
-ghost use Rattle.refuse.specs.Causes.{text_too_long, text_head_wrong, text_heads_wrong, text_causes, line_causes, titles_wrong, style_numbers_wrong, glyph_styles};
+ghost use Rattle.refuse.specs.Causes.{text_too_long, text_head_wrong, text_heads_wrong, titles_wrong, style_numbers_wrong, glyph_styles};
+ghost use Rattle.refuse.specs.Causes.{text_causes, line_causes};
 ghost use Rattle.refuse.specs.ScanExtra.{title_wrong, scan_wrong, glyph_no_style};
 
 use check_settings::limits;

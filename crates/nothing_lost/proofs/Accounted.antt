@@ -1,5 +1,5 @@
 -- accounted: for any test on glyphs, a text line has as many glyphs that pass as its emitted, dropped and over-wide ones have.
--- accounted-lengths: the emitted, dropped and over-wide glyphs together are as many as the text line's.
+-- accounted_lengths: the emitted, dropped and over-wide glyphs together are as many as the text line's.
 use Prim.Native.Nat.{ℕ, ◌+◌, ◌-◌, ◌≤◌, ◌<◌}
 use mathlib.Core.Path.{◌≡◌, refl, sym, ap}
 use mathlib.Core.Bool.{Bool, true, false, cond}

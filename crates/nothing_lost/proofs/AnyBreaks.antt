@@ -1,4 +1,4 @@
--- any-breaks: whatever the tests of steps 2 and 3, the solid glyphs of the lines, in order, are those of the text line that are no
+-- any_breaks: whatever the tests of steps 2 and 3, the solid glyphs of the lines, in order, are those of the text line that are no
 -- wider than the limit, and every dropped glyph is whitespace.
 -- step-by-document, wrap-by-document: with the tests of document 01 the steps are those of document 01.
 use Prim.Native.Nat.{ℕ, ◌-◌, ◌<◌}

@@ -1,4 +1,4 @@
--- no-solid-lost: the solid glyphs of the lines, in order, are those of the text line that are no wider than the limit.
+-- no_solid_lost: the solid glyphs of the lines, in order, are those of the text line that are no wider than the limit.
 -- dropped-whitespace: every glyph that wrapping drops is whitespace.
 -- Both hold whatever the tests of steps 2 and 3 (`any_breaks`).
 use Prim.Native.Nat.{◌<◌}

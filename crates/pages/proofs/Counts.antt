@@ -1,4 +1,4 @@
--- same-counts: the counts of the pages' answers add up to the tally of the text at the inner width, for glyphs of any width. A
+-- same_counts: the counts of the pages' answers add up to the tally of the text at the inner width, for glyphs of any width. A
 -- line's start column doesn't change how many of its glyphs are placed or clipped, and each line is on exactly one page.
 use Prim.Native.Nat.{ℕ, zero, suc, ◌+◌, ◌-◌, ◌*◌, ◌<◌, ◌≤◌}
 use mathlib.Core.Path.{◌≡◌, refl, sym, ap, ◌∙◌}

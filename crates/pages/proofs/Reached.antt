@@ -1,6 +1,6 @@
--- reached-16: every page's scroll row fits in 16 bits, since each page starts with a line and a text has no more lines than
+-- reached_16: every page's scroll row fits in 16 bits, since each page starts with a line and a text has no more lines than
 -- records.
--- text-accepted: the tally at the inner width accepts the text of every accepted notice.
+-- text_accepted: the tally at the inner width accepts the text of every accepted notice.
 use Prim.Native.Nat.{ℕ, ◌+◌, ◌-◌, ◌*◌, ◌<◌, ◌≤◌}
 use mathlib.Core.Path.{◌≡◌, ap, ◌∙◌}
 use mathlib.Core.List.{List}

@@ -1,4 +1,4 @@
--- unwrapped-unclipped: drawing an unwrapped text clips no glyph, since no line is wider than its area.
+-- unwrapped_unclipped: drawing an unwrapped text clips no glyph, since no line is wider than its area.
 use Prim.Native.Nat.{ℕ, ◌+◌, ◌≤◌}
 use mathlib.Core.Path.{◌≡◌, refl, ap}
 use mathlib.Core.Bool.{false}

@@ -1,6 +1,6 @@
 -- The pages of an accepted, wrapped notice with a non-empty inner area that `preview` shows from scroll row 0 are those of
 -- demand 3:
--- same-measure: the size and the lines that it counts pages by are those of the inner area.
+-- same_measure: the size and the lines that it counts pages by are those of the inner area.
 -- same_count: it counts as many pages, but at least 1, so that a frame without lines is shown.
 -- same-call: it draws each page by the same two calls.
 use Prim.Native.Nat.{ℕ, zero, suc, ◌+◌, ◌-◌, ◌*◌, ◌<◌, ◌≤◌, min, max}

@@ -3,6 +3,6 @@ use Rattle.std.specs.Prelude.{ℕ, List}
 use Rattle.std.specs.Io.KnownBytes.{Consumes}
 use Rattle.std.specs.declared.option.Option.{Option}
 
--- an input whose bytes are known has lost some of them, in order, and no others
+-- an input whose bytes are known has lost the first of them, perhaps none, and has the rest left; of another input nothing is said
 abbrev pub Loses : Option (List ℕ) → Option (List ℕ) → Type 0
 Loses old new = (bytes : List ℕ) × Consumes old new bytes
