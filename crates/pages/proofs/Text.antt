@@ -1,5 +1,5 @@
--- For a text of one_cell glyphs: from its glyphs to those that its lines place.
--- fit_text: the lines are no wider than the limit and consist of one_cell glyphs.
+-- For a text of one-cell glyphs: from its glyphs to those that its lines place.
+-- fit_text: the lines are no wider than the limit and consist of one-cell glyphs.
 -- placed-glyphs: the non-whitespace glyphs placed are those of the text, in text order.
 use Prim.Native.Nat.{ℕ, suc, ◌+◌, ◌<◌, ◌≤◌}
 use mathlib.Core.Path.{◌≡◌, refl, ap, ◌∙◌, subst}
