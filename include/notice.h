@@ -65,10 +65,10 @@
    pointer with length 0 is fine. The calls keep nothing afterwards, allocate nothing and have no state:
    calls on different cells and lists may run at the same time.
 
-   Stack use is bounded, as no function calls itself. In the archive of an older kit, rattle-kit-5, the most was
-   notice_draw_frame's, at most 1,448 bytes whatever it is given. Arguments and answer are in the caller's frame besides,
-   under 200 bytes. This is read from the machine code, not proved: `tools/stack` prints the bytes of each
-   call of any archive. */
+   Stack use is bounded, as no function calls itself. In the archive that rattle-kit-13f builds
+   notice_draw_frame takes the most, at most 1,456 bytes whatever it is given. Arguments and answer are in
+   the caller's frame besides, under 200 bytes. This is read from the machine code, not proved:
+   `tools/stack` prints the bytes of each call of any archive. */
 #ifndef NOTICE_H
 #define NOTICE_H
 
