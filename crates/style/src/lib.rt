@@ -1,7 +1,8 @@
 // Style, 64 bits: foreground given 1 | foreground 8 | background given 1 | background 8 | add 9 | remove 9 | 28 zeros.
+// Whether a colour is given, and the colour, are two fields of the packed form (document 01), so they are read by two functions.
 #![tactic(auto)]
 
-ghost use Rattle.std.specs.Prelude.{◌≡◌, cond, ◌<◌, ◌^◌};
+ghost use Rattle.std.specs.Prelude.{◌≡◌, ◌<◌, ◌^◌};
 ghost use Rattle.style.specs.Style.{Style, style_from, style_packed};
 
 // Number of values of a field.
@@ -64,13 +65,6 @@ pub fn zeros(style: u64) -> u64
     style % REMOVE_PLACE
 }
 
-// Returns a one-bit field.
-fn bit(on: bool) -> u64
-    ensures { (result ≡ cond on 1 0) × (result < 2) }
-{
-    if on { 1 } else { 0 }
-}
-
 // Packs these fields into a style, with zeros 0.
 pub fn pack(
     foreground_given: bool,
@@ -91,9 +85,9 @@ pub fn pack(
       zeros = 0;
     }) }
 {
-    bit(foreground_given) * FOREGROUND_GIVEN_PLACE
+    u64::from(foreground_given) * FOREGROUND_GIVEN_PLACE
         + foreground * FOREGROUND_PLACE
-        + bit(background_given) * BACKGROUND_GIVEN_PLACE
+        + u64::from(background_given) * BACKGROUND_GIVEN_PLACE
         + background * BACKGROUND_PLACE
         + add * ADD_PLACE
         + remove * REMOVE_PLACE

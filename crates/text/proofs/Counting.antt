@@ -1,12 +1,14 @@
 -- A loop that counts the records that pass a test; heads, each of which opens a line.
 use Prim.Native.Nat.{ℕ, suc, ◌+◌, ◌≤◌, ◌<◌}
-use mathlib.Core.Path.{◌≡◌, refl, ap, ◌∙◌}
+use mathlib.Core.Path.{◌≡◌, refl, sym, ap, ◌∙◌}
 use mathlib.Core.Bool.{Bool, true, false, cond}
 use mathlib.Core.List.{List, [], ◌∷◌}
 use native.Mathlib.Numerals.{add-one}
 use native.Mathlib.Omega.{arith}
 use lib.ListN.{length, get_or, drop, drop_of_length-le}
 use lib.Seq.{drop-cons}
+use Rattle.std.specs.List.{count_by}
+use Rattle.std.proofs.lemmas.List.Recursion.{is_count_by}
 use Rattle.text.specs.Record.{is_head}
 use Rattle.text.specs.Line.{until_head, lines_from}
 use Rattle.text.specs.Lists.{count_of}
@@ -42,6 +44,14 @@ module _ (test : ℕ → Bool) (records : List ℕ) where
 
 pub ruleset counting = (counting_starts, counting_more, counting_goes, counting_ends)
 
+-- the library's count is the same
+pub counted : {A : Type 0} (test : A → Bool) (xs : List A) → count_by test xs ≡ count_of test xs
+counted test xs = sym (is_count_by (count_of test) test refl (λ x xs. go (test x) (count_of test xs)) xs)
+  where
+    go : (b : Bool) (n : ℕ) → cond b 1 0 + n ≡ cond b (1 + n) n
+    go true n = refl
+    go false n = omega arith
+
 heads_open : (i : ℕ) (records : List ℕ) → count_of is_head records ≡ length (lines_from i records)
 heads_open i [] = refl
 heads_open i (r ∷ rs) = go (is_head r) (heads_open (suc i) rs)
@@ -52,5 +62,5 @@ heads_open i (r ∷ rs) = go (is_head r) (heads_open (suc i) rs)
     go true ih = omega (arith, ih)
     go false ih = omega (arith, ih)
 
-pub heads-counted : (records : List ℕ) (count : ℕ) → count ≡ count_of is_head records → count ≡ length (lines_from 0 records)
-heads-counted records count e = e ∙ heads_open 0 records
+pub heads_counted : (records : List ℕ) → count_by is_head records ≡ length (lines_from 0 records)
+heads_counted records = counted is_head records ∙ heads_open 0 records

@@ -5,45 +5,16 @@ use mathlib.Core.Bool.{Bool, true, false, cond}
 use mathlib.Core.List.{List, [], ◌∷◌}
 use native.Mathlib.Numerals.{add-one}
 use native.Mathlib.Omega.{arith}
-use borrow.Author.Tests.{not-false}
+use borrow.Author.Tests.{not-false, ltb-false}
+use lib.Dec.{ltb}
 use lib.ListN.{length, get_or, take, drop, length-drop}
-use lib.Seq.{drop-cons, drop-length, length-take-le, drop-drop, get_or-drop, take_all}
+use lib.Seq.{drop-cons, length-take-le, drop-drop, get_or-drop, take_all}
+use Rattle.std.specs.Prelude.{Some, None}
+use Rattle.std.specs.List.{position, position_or_len}
+use Rattle.std.specs.Option.{unwrap_or}
+use Rattle.std.proofs.lemmas.List.Recursion.{is_position_or_len}
 use Rattle.text.specs.Record.{is_head}
 use Rattle.text.specs.Line.{until_head, lines_from, Opens}
-
--- Before each turn: none of the first i records is a head, so the line's length is i plus that of its remaining part.
-pub record Measuring (after : List ℕ) (i : ℕ) : Type 0 where
-  pub within : i ≤ length after
-  pub same : i + length (until_head (drop i after)) ≡ length (until_head after)
-
-module _ (after : List ℕ) where
-  pub measuring_starts : Measuring after 0
-  measuring_starts = record { within = omega arith; same = omega arith }
-
-  module _ (i : ℕ) (m : Measuring after i) where
-    same-split : i < length after → i + length (cond (is_head (get_or after i 0)) [] (get_or after i 0 ∷ until_head (drop (i + 1) after))) ≡ length (until_head after)
-    same-split h = let d : drop i after ≡ get_or after i 0 ∷ drop (i + 1) after = rw (add-one, drop-cons after i 0) in rw d at m.same
-
-    pub measuring_goes : (b : Bool) → i < length after → b ≡ is_head (get_or after i 0) → b ≡ false → Measuring after (i + 1)
-    measuring_goes b h e f =
-        let g : is_head (get_or after i 0) ≡ false = sym e ∙ f in
-        let s : i + length (get_or after i 0 ∷ until_head (drop (i + 1) after)) ≡ length (until_head after) = rw g at (same-split h) in
-        record { within = omega arith; same = omega arith }
-
-    pub measuring_stops : (b : Bool) → i < length after → b ≡ is_head (get_or after i 0) → b ≡ true → i ≡ length (until_head after)
-    measuring_stops b h e f =
-        let g : is_head (get_or after i 0) ≡ true = sym e ∙ f in
-        let s : i + length {A = ℕ} [] ≡ length (until_head after) = rw g at (same-split h) in
-        omega arith
-
-    pub measuring_ends : length after ≤ i → i ≡ length (until_head after)
-    measuring_ends h =
-        let k : i ≡ length after = omega (arith, m.within) in
-        let d : until_head (drop i after) ≡ [] = ap (λ (n : ℕ). until_head (drop n after)) k ∙ ap until_head (drop-length after) in
-        let s : i + length {A = ℕ} [] ≡ length (until_head after) = rw d at m.same in
-        omega arith
-
-pub ruleset measuring = (measuring_starts, measuring_goes, measuring_stops, measuring_ends)
 
 -- a line's records are the first ones after its head
 pub until_short : (rs : List ℕ) → length (until_head rs) ≤ length rs
@@ -53,6 +24,23 @@ until_short (r ∷ rs) = go (is_head r) (until_short rs)
     go : (b : Bool) → length (until_head rs) ≤ length rs → length (cond b [] (r ∷ until_head rs)) ≤ suc (length rs)
     go true h = omega arith
     go false h = omega arith
+
+-- the records before the next head are as many as those before the first record that is a head
+until-position : (after : List ℕ) → position_or_len is_head after ≡ length (until_head after)
+until-position after = sym (is_position_or_len (λ rs. length (until_head rs)) is_head refl (λ r rs. go (is_head r) r rs) after)
+  where
+    go : (b : Bool) (r : ℕ) (rs : List ℕ) → length (cond b [] (r ∷ until_head rs)) ≡ cond b 0 (1 + length (until_head rs))
+    go true r rs = refl
+    go false r rs = omega arith
+
+-- and all of them, where none is a head
+pub line_measured : (after : List ℕ) → unwrap_or (position is_head after) (length after) ≡ length (until_head after)
+line_measured after = go (ltb (position_or_len is_head after) (length after)) (ltb-false _ _)
+  where
+    go : (b : Bool) → (b ≡ false → length after ≤ position_or_len is_head after)
+        → unwrap_or (cond b (Some (position_or_len is_head after)) None) (length after) ≡ length (until_head after)
+    go true h = until-position after
+    go false h = omega (arith, h refl, until-position after, until_short after)
 
 pub until_take : (rs : List ℕ) → take (length (until_head rs)) rs ≡ until_head rs
 until_take [] = refl

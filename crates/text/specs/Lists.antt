@@ -1,5 +1,6 @@
 -- Words that the rules use: counting and searching in lists.
-use Rattle.std.specs.Prelude.{ℕ, ◌+◌, Bool, false, cond, ◌||◌, List, [], ◌∷◌}
+use Rattle.std.specs.Prelude.{ℕ, ◌+◌, Bool, cond, List, [], ◌∷◌}
+use Rattle.std.specs.List.{list_any}
 
 -- the number of elements that pass a test
 abbrev pub count_of : {A : Type 0} → (A → Bool) → List A → ℕ
@@ -8,5 +9,4 @@ count_of test (x ∷ xs) = cond (test x) 1 0 + count_of test xs
 
 -- whether any element passes a test
 abbrev pub some : {A : Type 0} → (A → Bool) → List A → Bool
-some test [] = false
-some test (x ∷ xs) = test x || some test xs
+some = list_any

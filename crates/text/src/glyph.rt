@@ -1,5 +1,5 @@
 // Glyph, 32 bits: 0 | symbol 21 | width 3 | whitespace 1 | style 6.
-ghost use Rattle.std.specs.Prelude.{◌≡◌, cond, ◌≤◌, ◌<◌, ◌^◌};
+ghost use Rattle.std.specs.Prelude.{◌≡◌, ◌≤◌, ◌<◌, ◌^◌};
 ghost use Rattle.text.specs.Record.{symbol_of, width_code_of, ambiguous_cells, width_of, whitespace_of, style_of, glyph_record};
 
 use crate::AmbiguousWidth;
@@ -70,17 +70,10 @@ pub fn style(glyph: u32) -> u32
     glyph % STYLES
 }
 
-// Returns a one-bit field.
-fn bit(on: bool) -> u32
-    ensures { (result ≡ cond on 1 0) × (result < 2) }
-{
-    if on { 1 } else { 0 }
-}
-
 // Packs these fields into a glyph.
 pub fn pack(symbol: u32, width: u32, whitespace: bool, style: u32) -> u32
     requires { (symbol < 2 ^ 21) × (width < 2 ^ 3) × (style < 2 ^ 6) }
     ensures { result ≡ glyph_record symbol width whitespace style }
 {
-    symbol * SYMBOL_PLACE + width * WIDTH_PLACE + bit(whitespace) * WHITESPACE_PLACE + style
+    symbol * SYMBOL_PLACE + width * WIDTH_PLACE + u32::from(whitespace) * WHITESPACE_PLACE + style
 }

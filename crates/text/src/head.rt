@@ -54,21 +54,12 @@ pub fn pack(alignment: u32, position: u32) -> u32
 pub fn resolve(head: u32, default_alignment: Alignment) -> Alignment
     ensures { result ≡ resolved (alignment_of head) default_alignment }
 {
-    match alignment(head) {
-        0 => Alignment::Left,
-        1 => Alignment::Center,
-        2 => Alignment::Right,
-        _ => default_alignment,
-    }
+    Alignment::try_from(alignment(head)).unwrap_or(default_alignment)
 }
 
 // Returns the position that a title's head gives, or the default.
 pub fn resolve_position(head: u32, default_position: TitlePosition) -> TitlePosition
     ensures { result ≡ resolved_position (position_of head) default_position }
 {
-    match position(head) {
-        0 => TitlePosition::Top,
-        1 => TitlePosition::Bottom,
-        _ => default_position,
-    }
+    TitlePosition::try_from(position(head)).unwrap_or(default_position)
 }

@@ -1,34 +1,32 @@
 // The lines that heads open, as slices of the records.
-ghost use Rattle.std.specs.Prelude.{◌≡◌, length};
+ghost use Rattle.std.specs.Prelude.{◌≡◌, length, position};
+ghost use Rattle.text.specs.Record.{is_head};
 ghost use Rattle.text.specs.Line.{until_head, lines_from};
 
 use crate::head;
 
+// Returns the place of the next head, if any.
+fn next_head(after: &[u32]) -> Option<usize>
+    ensures { result ≡ position is_head after.now }
+{
+    after.iter().position(|record| head::is_head(*record))
+}
+
 // Counts the records before the next head: those of the line whose head is just before `after`.
+#[tactic(auto, using(crate::proofs::TextLines::line_measured))]
 pub fn line_length(after: &[u32]) -> usize
     ensures { result ≡ length (until_head after.now) }
 {
-    let mut i = 0;
-    while i < after.len() {
-        if head::is_head(after[i]) {
-            return i;
-        }
-        i += 1;
-    }
-    i
+    next_head(after).unwrap_or(after.len())
 }
 
 // Counts the heads, each of which opens a line.
+#[tactic(auto, using(crate::proofs::Counting::heads_counted))]
 pub fn count_text_lines(records: &[u32]) -> usize
     ensures { result ≡ length (lines_from 0 records.now) }
 {
-    let mut count = 0;
-    let mut i = 0;
-    while i < records.len() {
-        if head::is_head(records[i]) {
-            count += 1;
-        }
-        i += 1;
-    }
-    count
+    records
+        .iter()
+        .filter(|record| head::is_head(**record))
+        .count()
 }
