@@ -6,4 +6,5 @@ pub mod LineGlyphs
 pub mod Lists
 pub mod Bools
 pub mod Counting
+pub mod CutLines
 pub mod Either

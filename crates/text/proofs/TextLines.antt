@@ -82,7 +82,7 @@ until_head_lem (r ∷ rs) h = go (is_head r) refl (until_head_lem rs) h
     go false e ih k = ih (omega arith)
 
 -- skipping the glyphs before the first head skips no line
-lines_skip : (number : ℕ) (rs : List ℕ) → lines_from number rs ≡ lines_from (number + length (until_head rs)) (drop (length (until_head rs)) rs)
+pub lines_skip : (number : ℕ) (rs : List ℕ) → lines_from number rs ≡ lines_from (number + length (until_head rs)) (drop (length (until_head rs)) rs)
 lines_skip number [] = refl
 lines_skip number (r ∷ rs) = go (is_head r) refl (lines_skip (suc number) rs)
   where

@@ -1,4 +1,5 @@
 pub mod Record
 pub mod Alignment
 pub mod Line
+pub mod LinesExtra
 pub mod Lists

@@ -1,9 +1,40 @@
 // The lines that heads open, as slices of the records.
 ghost use Rattle.std.specs.Prelude.{◌≡◌, length, position};
+ghost use Rattle.std.specs.Iterator.{YieldsFirstBy, item_count};
+ghost use Rattle.text.specs.LinesExtra.{cut_lines, head_and_records, lines_left};
 ghost use Rattle.text.specs.Record.{is_head};
 ghost use Rattle.text.specs.Line.{until_head, lines_from};
 
 use crate::head;
+
+// The lines of records that open with a head, each as its head and the records up to the next one.
+#[derive(Clone, Copy)]
+pub struct Lines<'a> {
+    rest: &'a [u32],
+}
+
+impl<'a> Lines<'a> {
+    pub fn new(records: &'a [u32]) -> Lines<'a>
+        ensures { lines_left result ≡ cut_lines records.now }
+    {
+        Lines { rest: records }
+    }
+}
+
+impl<'a> Iterator for Lines<'a> {
+    type Item = (u32, &'a [u32]);
+
+    ghost next_gives = { YieldsFirstBy head_and_records lines_left };
+
+    ghost remaining = { item_count lines_left };
+
+    fn next(&mut self) -> Option<(u32, &'a [u32])> {
+        let (head, after) = self.rest.split_first()?;
+        let (records, rest) = after.split_at(line_length(after));
+        self.rest = rest;
+        Some((*head, records))
+    }
+}
 
 // Returns the place of the next head, if any.
 fn next_head(after: &[u32]) -> Option<usize>
