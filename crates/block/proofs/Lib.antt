@@ -1,4 +1,3 @@
 pub mod Titles
-pub mod Settings
 pub mod Within
 pub mod Examples

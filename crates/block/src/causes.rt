@@ -24,31 +24,26 @@ fn shadow_style_wrong(count: usize, shadow: Shadow) -> bool
 
 impl Block {
     // Whether a style number of the settings is not below the count of styles (cause 6).
+    #[tactic(auto, unfolding(crate::specs::Causes::block_styles))]
     pub fn style_numbers_wrong(self, count: usize) -> bool
         ensures { result ≡ style_numbers_wrong count (block_styles self) }
     {
-        let shadow = self.shadow;
-        if styles::style_numbers_wrong(count, &[self.border_style, self.style, self.titles_style]) {
-            return true;
-        }
-        shadow_style_wrong(count, shadow)
+        styles::style_numbers_wrong(count, &[self.border_style, self.style, self.titles_style])
+            || shadow_style_wrong(count, self.shadow)
     }
 
     // Whether a border or shadow symbol is 2,097,152 or more (cause 7).
+    #[tactic(auto, unfolding(crate::specs::Causes::block_symbols))]
     pub fn symbols_wrong(self) -> bool
         ensures { result ≡ symbols_wrong (block_symbols self) }
     {
-        let set = self.border_set;
-        let shadow = self.shadow;
-        if set.symbols_wrong() {
-            return true;
-        }
-        shadow_symbol_wrong(shadow)
+        self.border_set.symbols_wrong() || shadow_symbol_wrong(self.shadow)
     }
 }
 
 impl BorderSet {
     // Whether one of the eight border symbols is too large (cause 7), even if its side has no border.
+    #[tactic(auto, unfolding(crate::specs::Causes::border_symbols))]
     fn symbols_wrong(self) -> bool
         ensures { result ≡ symbols_wrong (border_symbols self) }
     {

@@ -1,16 +1,15 @@
 // Checks of the records of a text and of titles: causes 3, 4, 5, cause 6 for glyphs, and the verdicts of calls with a text.
 #![tactic(auto)]
 
-ghost use Rattle.std.specs.Prelude.{◌≡◌};
+ghost use Rattle.std.specs.Prelude.{◌≡◌, count_by};
 ghost use Rattle.text.specs.Line.{not_opening, Opens};
-ghost use Rattle.text.specs.Lists.{count_of};
 ghost use Rattle.refuse.specs.Refusal.{first_cause};
 ghost use Rattle.refuse.specs.Causes.{text_too_long, text_head_wrong, text_heads_wrong, titles_wrong, style_numbers_wrong, glyph_styles};
 ghost use Rattle.refuse.specs.Causes.{text_causes, line_causes};
 ghost use Rattle.refuse.specs.ScanExtra.{title_wrong, scan_wrong, glyph_no_style};
 
 use check_settings::limits;
-use refuse::{Ceilings, Refusal, Verdict};
+use refuse::{Ceilings, Refusal, refuse_if};
 use text::{glyph, head, line};
 
 // Cause 3: whether a text has too many records.
@@ -24,84 +23,59 @@ pub fn text_too_long(most: Ceilings, text: &[u32]) -> bool
 fn opens_without_head(records: &[u32]) -> bool
     ensures { result ≡ not_opening records.now }
 {
-    if records.len() == 0 {
-        return false;
-    }
-    !head::is_head(records[0])
+    records.first().is_some_and(|first| !head::is_head(*first))
 }
 
 // Cause 4 for one record: whether it is a head whose zeros or position aren't 0.
 fn head_wrong(word: u32) -> bool
     ensures { result ≡ text_head_wrong word }
 {
-    if head::is_head(word) {
-        return head::zeros(word) != 0 || head::position(word) != 0;
-    }
-    false
+    head::is_head(word) && (head::zeros(word) != 0 || head::position(word) != 0)
 }
 
 // Counts the wrong heads of a text. It doesn't stop at the first: so the compiler can take several records at a time.
 fn wrong_heads(text: &[u32]) -> usize
-    ensures { result ≡ count_of text_head_wrong text.now }
+    ensures { result ≡ count_by text_head_wrong text.now }
 {
-    let mut count = 0;
-    let mut i = 0;
-    while i < text.len() {
-        if head_wrong(text[i]) {
-            count += 1;
-        }
-        i += 1;
-    }
-    count
+    text.iter().filter(|word| head_wrong(**word)).count()
 }
 
 // Cause 4: whether a non-empty text doesn't open with a head, or a head's zeros or position aren't 0.
+#[tactic(auto, using(refuse::proofs::Counts::any_counted), unfolding(refuse::specs::Causes::text_heads_wrong))]
 pub fn text_heads_wrong(text: &[u32]) -> bool
     ensures { result ≡ text_heads_wrong text.now }
 {
-    if opens_without_head(text) {
-        return true;
-    }
-    0 < wrong_heads(text)
+    opens_without_head(text) || 0 < wrong_heads(text)
 }
 
 // Returns the verdict of causes 3 and 4, for calls with a text.
-pub fn text_verdict(most: Ceilings, text: &[u32]) -> Verdict
+#[tactic(auto, unfolding(refuse::specs::Causes::text_causes))]
+pub fn text_verdict(most: Ceilings, text: &[u32]) -> Result<(), Refusal>
     ensures { result ≡ first_cause (text_causes most text.now) }
 {
-    if text_too_long(most, text) {
-        return Verdict::Refused(Refusal::TextLength);
-    }
-    if text_heads_wrong(text) {
-        return Verdict::Refused(Refusal::TextHeads);
-    }
-    Verdict::Accepted
+    refuse_if(text_too_long(most, text), Refusal::TextLength)?;
+    refuse_if(text_heads_wrong(text), Refusal::TextHeads)
 }
 
 // Returns the verdict of causes 3, 4 and 8, for calls that compose the lines of a text at a limit.
-pub fn line_verdict(most: Ceilings, text: &[u32], limit: u16) -> Verdict
+#[tactic(auto, unfolding(refuse::specs::Causes::line_causes, refuse::specs::Causes::text_causes))]
+pub fn line_verdict(most: Ceilings, text: &[u32], limit: u16) -> Result<(), Refusal>
     ensures { result ≡ first_cause (line_causes most text.now limit) }
 {
-    if let Verdict::Refused(why) = text_verdict(most, text) {
-        return Verdict::Refused(why);
-    }
-    if limits::limit_wrong(most, limit) {
-        return Verdict::Refused(Refusal::Limit);
-    }
-    Verdict::Accepted
+    text_verdict(most, text)?;
+    refuse_if(limits::limit_wrong(most, limit), Refusal::Limit)
 }
 
 // Cause 5 for one title: whether it has too many glyphs, position 3, or zeros that aren't 0.
+#[tactic(auto, unfolding(refuse::specs::ScanExtra::title_wrong))]
 fn title_wrong(most: Ceilings, head: u32, glyphs: usize) -> bool
     ensures { result ≡ title_wrong most head glyphs }
 {
-    if most.title_glyphs < glyphs {
-        return true;
-    }
-    head::position(head) == 3 || head::zeros(head) != 0
+    most.title_glyphs < glyphs || head::position(head) == 3 || head::zeros(head) != 0
 }
 
-// Cause 5 for titles that open with a head: whether there are too many, or one is wrong.
+// Cause 5 for titles that open with a head: whether there are too many, or one is wrong. An
+// iteration moves past a whole title, which no iterator does.
 fn any_title_wrong(most: Ceilings, titles: &[u32]) -> bool
     requires { Opens titles.now }
     ensures { result ≡ scan_wrong most titles.now }
@@ -125,41 +99,32 @@ fn any_title_wrong(most: Ceilings, titles: &[u32]) -> bool
 }
 
 // Cause 5: whether non-empty titles don't open with a head, there are too many, or one is wrong.
+#[tactic(auto, using(refuse::proofs::TitleScan::titles_by_scan))]
 pub fn titles_wrong(most: Ceilings, titles: &[u32]) -> bool
     ensures { result ≡ titles_wrong most titles.now }
 {
-    if opens_without_head(titles) {
-        return true;
-    }
-    any_title_wrong(most, titles)
+    opens_without_head(titles) || any_title_wrong(most, titles)
 }
 
 // Cause 6 for one record: whether it is a glyph whose style number isn't below the count of styles.
 fn glyph_has_no_style(count: usize, word: u32) -> bool
     ensures { result ≡ glyph_no_style count word }
 {
-    if head::is_head(word) {
-        return false;
-    }
-    count <= glyph::style(word) as usize
+    !head::is_head(word) && count <= glyph::style(word) as usize
 }
 
 // Counts the glyphs whose style number isn't below the count of styles; like `wrong_heads`, it doesn't stop at the first.
 fn glyphs_without_style(count: usize, records: &[u32]) -> usize
-    ensures { result ≡ count_of (glyph_no_style count) records.now }
+    ensures { result ≡ count_by (glyph_no_style count) records.now }
 {
-    let mut wrong = 0;
-    let mut i = 0;
-    while i < records.len() {
-        if glyph_has_no_style(count, records[i]) {
-            wrong += 1;
-        }
-        i += 1;
-    }
-    wrong
+    records
+        .iter()
+        .filter(|word| glyph_has_no_style(count, **word))
+        .count()
 }
 
 // Cause 6 for a text or for titles: whether a glyph's style number isn't below the count of styles.
+#[tactic(auto, using(refuse::proofs::Passes::glyphs_counted))]
 pub fn glyph_styles_wrong(count: usize, records: &[u32]) -> bool
     ensures { result ≡ style_numbers_wrong count (glyph_styles records.now) }
 {

@@ -13,27 +13,19 @@ fn has_zeros_set(style: u64) -> bool
     style::zeros(style) != 0
 }
 
+// Whether the zeros of any style aren't 0.
 fn any_zeros_set(styles: &[u64]) -> bool
     ensures { result ≡ some zeros_set styles.now }
 {
-    let mut i = 0;
-    while i < styles.len() {
-        if has_zeros_set(styles[i]) {
-            return true;
-        }
-        i += 1;
-    }
-    false
+    styles.iter().any(|style| has_zeros_set(*style))
 }
 
 // Cause 2: whether there are too many styles, or one whose zeros aren't 0.
+#[tactic(auto, unfolding(refuse::specs::Causes::styles_wrong))]
 pub fn styles_wrong(most: Ceilings, styles: &[u64]) -> bool
     ensures { result ≡ styles_wrong most styles.now }
 {
-    if most.styles < styles.len() {
-        return true;
-    }
-    any_zeros_set(styles)
+    most.styles < styles.len() || any_zeros_set(styles)
 }
 
 // Whether a style number isn't below the count of styles.
@@ -47,14 +39,7 @@ fn has_no_style(count: usize, number: u8) -> bool
 pub fn style_numbers_wrong(count: usize, numbers: &[u8]) -> bool
     ensures { result ≡ style_numbers_wrong count numbers.now }
 {
-    let mut i = 0;
-    while i < numbers.len() {
-        if has_no_style(count, numbers[i]) {
-            return true;
-        }
-        i += 1;
-    }
-    false
+    numbers.iter().any(|number| has_no_style(count, *number))
 }
 
 // Whether a symbol needs more than 21 bits.
@@ -68,12 +53,5 @@ fn is_too_large(symbol: u32) -> bool
 pub fn symbols_wrong(symbols: &[u32]) -> bool
     ensures { result ≡ symbols_wrong symbols.now }
 {
-    let mut i = 0;
-    while i < symbols.len() {
-        if is_too_large(symbols[i]) {
-            return true;
-        }
-        i += 1;
-    }
-    false
+    symbols.iter().any(|symbol| is_too_large(*symbol))
 }

@@ -12,9 +12,8 @@ use Rattle.text.specs.Lists.{some}
 use Rattle.text.proofs.Bools.{neither}
 use Rattle.refuse.specs.declared.Ceilings.{Ceilings}
 use Rattle.refuse.specs.declared.Refusal.TheVariants.{TextLength, TextHeads, Limit}
-use Rattle.refuse.specs.declared.Verdict.{Verdict}
-use Rattle.refuse.specs.declared.Verdict.TheVariants.{Accepted}
-use Rattle.refuse.specs.Refusal.{first_cause}
+use Rattle.std.specs.Prelude.{Ok}
+use Rattle.refuse.specs.Refusal.{Verdict, first_cause}
 use Rattle.refuse.specs.Causes.{most_accepted, text_causes, line_causes, one_to, screen_wrong, text_too_long, text_head_wrong, text_heads_wrong, too_many_glyphs, position_three, head_zeros_set, titles_wrong, limit_wrong}
 use Rattle.refuse.proofs.Calls.{no_cause}
 
@@ -75,7 +74,7 @@ pub limit_low : (most : Ceilings) (limit : ℕ) → limit_wrong most limit ≡ f
 limit_low most limit e = ltb-false most.limit limit e
 
 -- v is the verdict of a call that composes the lines of a text at a limit
-module _ (text : List ℕ) (limit : ℕ) (v : Verdict) (e : v ≡ first_cause (line_causes most_accepted text limit)) (a : v ≡ Accepted) where
+module _ (text : List ℕ) (limit : ℕ) (v : Verdict) (e : v ≡ first_cause (line_causes most_accepted text limit)) (a : v ≡ Ok tt) where
   pub lines_sound : TextAccepted text
   unfolding line_causes text_causes
   lines_sound =

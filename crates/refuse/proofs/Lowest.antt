@@ -9,9 +9,8 @@ use borrow.Author.Tests.{ltb-true}
 use lib.Dec.{ltb, leb}
 use Rattle.refuse.specs.declared.Refusal.{Refusal}
 use Rattle.refuse.specs.declared.Refusal.TheVariants.{Screen, Styles, TextLength, TextHeads, Titles, StyleNumber, Symbol, Limit, ListLength}
-use Rattle.refuse.specs.declared.Verdict.{Verdict}
-use Rattle.refuse.specs.declared.Verdict.TheVariants.{Accepted, Refused}
-use Rattle.refuse.specs.Refusal.{Cause, first_cause, refusal_number, refusal_place, verdict_number}
+use Rattle.std.specs.Prelude.{Ok, Err}
+use Rattle.refuse.specs.Refusal.{Verdict, Cause, first_cause, refusal_number, refusal_place, verdict_number}
 
 -- the places of the causes increase strictly and are above n
 abbrev pub rising : ℕ → List Cause → Bool
@@ -39,15 +38,15 @@ holds-above n (cause ∷ causes) why up (there h) =
 
 -- 0 if the call is accepted
 abbrev pub verdict_place : Verdict → ℕ
-verdict_place Accepted = 0
-verdict_place (Refused why) = refusal_place why
+verdict_place (Ok _) = 0
+verdict_place (Err why) = refusal_place why
 
 abbrev Within : Refusal → Verdict → Type 0
 Within why verdict = (0 < verdict_place verdict) × (verdict_place verdict ≤ refusal_place why)
 
 earliest-step : (b : Bool) (cause : Cause) (causes : List Cause) (why : Refusal) → cause.holds ≡ b → 0 < refusal_place cause.why
     → (Holds why causes → refusal_place cause.why < refusal_place why) → (Holds why causes → Within why (first_cause causes))
-    → Holds why (cause ∷ causes) → Within why (cond b (Refused cause.why) (first_cause causes))
+    → Holds why (cause ∷ causes) → Within why (cond b (Err cause.why) (first_cause causes))
 earliest-step true cause causes why e z up rest (here p q) = (z, rw p (omega arith))
 earliest-step true cause causes why e z up rest (there h) = let u = up h in (z, omega arith)
 earliest-step false cause causes why e z up rest (here p q) = absurd (false_true cause.holds e q)
@@ -65,11 +64,11 @@ first-is-earliest n (cause ∷ causes) why up h =
     (first-is-earliest (refusal_place cause.why) causes why q.1) h
 
 -- If a call is refused for a cause, the cause is in the list and holds: "and at no other time".
-pub refused_holds : (causes : List Cause) (why : Refusal) → first_cause causes ≡ Refused why → Holds why causes
+pub refused_holds : (causes : List Cause) (why : Refusal) → first_cause causes ≡ Err why → Holds why causes
 refused_holds [] why e = absurd (let z : ◌≡◌ {A = ℕ} 0 1 = cc in omega arith)
 refused_holds (cause ∷ causes) why e = go cause.holds refl e (refused_holds causes why)
   where
-    go : (b : Bool) → cause.holds ≡ b → cond b (Refused cause.why) (first_cause causes) ≡ Refused why → (first_cause causes ≡ Refused why → Holds why causes) → Holds why (cause ∷ causes)
+    go : (b : Bool) → cause.holds ≡ b → cond b (Err cause.why) (first_cause causes) ≡ Err why → (first_cause causes ≡ Err why → Holds why causes) → Holds why (cause ∷ causes)
     go true h p rest = here {cause = cause} (cc) h
     go false h p rest = there {cause = cause} (rest p)
 
@@ -91,8 +90,8 @@ pub rise_together : (one other : Refusal) → refusal_number one ≤ 9 → refus
 rise_together one other p q = rw (place_number one, place_number other)
 
 verdict_number_lem : (verdict : Verdict) → verdict_place verdict ≡ verdict_number verdict
-verdict_number_lem Accepted = refl
-verdict_number_lem (Refused why) = place_number why
+verdict_number_lem (Ok _) = refl
+verdict_number_lem (Err why) = place_number why
 
 -- all causes of a list are among the table's nine
 abbrev pub of_the_table : List Cause → Bool
@@ -104,7 +103,7 @@ of_the_table (cause ∷ causes) = leb (refusal_number cause.why) 9 && of_the_tab
 pub record InOrder (causes : List Cause) : Type 0 where
   pub earliest : (why : Refusal) → Holds why causes → (0 < verdict_place (first_cause causes)) × (verdict_place (first_cause causes) ≤ refusal_place why)
   pub lowest : of_the_table causes ≡ true → (why : Refusal) → Holds why causes → (0 < verdict_number (first_cause causes)) × (verdict_number (first_cause causes) ≤ refusal_number why)
-  pub no_other : (why : Refusal) → first_cause causes ≡ Refused why → Holds why causes
+  pub no_other : (why : Refusal) → first_cause causes ≡ Err why → Holds why causes
 
 pub in_order : (causes : List Cause) → rising 0 causes ≡ true → InOrder causes
 in_order causes up =

@@ -5,15 +5,13 @@ use mathlib.Core.Bool.{Bool, true, false, not, cond, ◌&&◌, ◌||◌}
 use mathlib.Core.List.{List, [], ◌∷◌}
 use native.Mathlib.Numerals.{add-one}
 use native.Mathlib.Omega.{arith}
-use borrow.Author.Tests.{lt-ltb, le-ltb}
-use lib.Dec.{ltb}
 use lib.ListN.{length, get_or, drop}
 use lib.Seq.{drop-cons, drop-length}
+use Rattle.std.specs.Prelude.{ltb, count_by}
+use Rattle.refuse.proofs.Counts.{any_counted}
 use Rattle.text.specs.Record.{is_head, style_of}
-use Rattle.refuse.specs.declared.Ceilings.{Ceilings}
 use Rattle.text.specs.Lists.{some}
-use Rattle.text.specs.Line.{not_opening}
-use Rattle.refuse.specs.Causes.{zeros_set, styles_wrong, text_head_wrong, text_heads_wrong, no_style, style_numbers_wrong, glyph_styles}
+use Rattle.refuse.specs.Causes.{no_style, style_numbers_wrong, glyph_styles}
 use Rattle.refuse.specs.ScanExtra.{glyph_no_style}
 
 -- Before each turn: no element before index i passes the test, so that the remaining ones decide the result.
@@ -48,26 +46,6 @@ module _ (test : ℕ → Bool) (l : List ℕ) where
 
 pub ruleset passing = (pass-starts, pass_goes, pass_hits, pass-ends)
 
--- cause 2
-module _ (most : Ceilings) (styles : List ℕ) where
-  pub styles_many : most.styles < length styles → true ≡ styles_wrong most styles
-  unfolding styles_wrong
-  styles_many h = simp (lt-ltb most.styles (length styles) h)
-
-  pub styles-few : (b : Bool) → length styles ≤ most.styles → b ≡ some zeros_set styles → b ≡ styles_wrong most styles
-  unfolding styles_wrong
-  styles-few b h e = simp (le-ltb most.styles (length styles) h) e
-
--- cause 4
-module _ (text : List ℕ) (b : Bool) (e : b ≡ not_opening text) where
-  pub text-opens-wrong : b ≡ true → true ≡ text_heads_wrong text
-  unfolding text_heads_wrong
-  text-opens-wrong t = rw (← e, t)
-
-  pub text-opens : (x : Bool) → b ≡ false → x ≡ some text_head_wrong text → x ≡ text_heads_wrong text
-  unfolding text_heads_wrong
-  text-opens x f p = rw (← e, f) p
-
 -- cause 6: testing each record is testing the style number of each glyph
 pub glyphs-tested : (count : ℕ) (rs : List ℕ) → some (glyph_no_style count) rs ≡ some (no_style count) (glyph_styles rs)
 glyphs-tested count [] = refl
@@ -78,5 +56,5 @@ glyphs-tested count (r ∷ rs) = go (is_head r) (glyphs-tested count rs)
     go true ih = ih
     go false ih = ap (λ (t : Bool). no_style count (style_of r) || t) ih
 
-pub glyphs-all : (count : ℕ) (rs : List ℕ) (b : Bool) → b ≡ some (glyph_no_style count) rs → b ≡ style_numbers_wrong count (glyph_styles rs)
-glyphs-all count rs b e = e ∙ glyphs-tested count rs
+pub glyphs_counted : (count : ℕ) (rs : List ℕ) (wrong : ℕ) → wrong ≡ count_by (glyph_no_style count) rs → ltb 0 wrong ≡ style_numbers_wrong count (glyph_styles rs)
+glyphs_counted count rs wrong e = any_counted (glyph_no_style count) rs wrong e ∙ glyphs-tested count rs

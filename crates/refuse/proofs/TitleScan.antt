@@ -86,22 +86,10 @@ title_tests most (t ∷ ts) =
     ap (λ (b : Bool). line_wrong most t || b) (title_tests most ts)
     ∙ three_or (too_many_glyphs most t) (position_three t) (head_zeros_set t) (some (too_many_glyphs most) ts) (some position_three ts) (some head_zeros_set ts)
 
-titles-wrong_by_scan : (most : Ceilings) (rs : List ℕ) → titles_wrong most rs ≡ (not_opening rs || scan_wrong most rs)
+pub titles_by_scan : (most : Ceilings) (rs : List ℕ) → titles_wrong most rs ≡ (not_opening rs || scan_wrong most rs)
 unfolding titles_wrong scan_wrong
-titles-wrong_by_scan most rs =
+titles_by_scan most rs =
     five_reordered (ltb most.titles (length (lines_from 0 rs))) (some (too_many_glyphs most) (lines_from 0 rs)) (not_opening rs) (some position_three (lines_from 0 rs)) (some head_zeros_set (lines_from 0 rs))
     ∙ rw (title_tests most (lines_from 0 rs))
-
-module _ (most : Ceilings) (rs : List ℕ) (b : Bool) (e : b ≡ not_opening rs) where
-  pub titles_open_wrong : b ≡ true → true ≡ titles_wrong most rs
-  titles_open_wrong t = rw (titles-wrong_by_scan most rs, ← e, t)
-
-  pub titles_open : (x : Bool) → b ≡ false → x ≡ scan_wrong most rs → x ≡ titles_wrong most rs
-  titles_open x f p = rw (titles-wrong_by_scan most rs, ← e, f) p
-
-  pub titles-opened : b ≡ false → not_opening rs ≡ false
-  titles-opened f = sym e ∙ f
-
-pub ruleset scanned = (titles_open_wrong, titles_open, titles-opened)
 
 pub ruleset scanning = (scan_starts, scan_many, scan_hits, scan_goes, scan_ends)

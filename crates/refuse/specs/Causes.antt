@@ -3,7 +3,7 @@ use Rattle.std.specs.Prelude.{ℕ, ◌*◌, Bool, cond, not, ◌&&◌, ◌||◌,
 use Rattle.text.specs.Record.{is_head, style_of, position_of, zeros_of}
 use Rattle.text.specs.Line.{TextLine, lines_from, not_opening}
 use Rattle.text.specs.Lists.{some}
-use Rattle.style.specs.Style.{Style, style_from}
+use Rattle.style.specs.Style.{style_from}
 use Rattle.refuse.specs.declared.Ceilings.{Ceilings}
 use Rattle.refuse.specs.declared.Refusal.TheVariants.{Screen, Styles as StylesCause, TextLength, TextHeads, Limit}
 use Rattle.refuse.specs.Refusal.{Cause, ◌if◌}

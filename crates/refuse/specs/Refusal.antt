@@ -1,9 +1,7 @@
 -- Document 01, 'Why a call is refused': "Lowest number first, of those a call has inputs for."
-use Rattle.std.specs.Prelude.{ℕ, suc, Bool, cond, List, [], ◌∷◌, eqb}
+use Rattle.std.specs.Prelude.{ℕ, suc, Bool, cond, List, [], ◌∷◌, eqb, Result, Ok, Err, ⊤}
 use Rattle.refuse.specs.declared.Refusal.{Refusal}
 use Rattle.refuse.specs.declared.Refusal.TheVariants.{Screen, Styles, TextLength, TextHeads, Titles, StyleNumber, Symbol, Limit, ListLength}
-use Rattle.refuse.specs.declared.Verdict.{Verdict}
-use Rattle.refuse.specs.declared.Verdict.TheVariants.{Accepted, Refused}
 
 -- the table's numbers
 abbrev pub refusal_number : Refusal → ℕ
@@ -17,10 +15,14 @@ refusal_number Symbol = 7
 refusal_number Limit = 8
 refusal_number ListLength = 9
 
--- 0 if the call is accepted
-abbrev pub verdict_number : Verdict → ℕ
-verdict_number Accepted = 0
-verdict_number (Refused why) = refusal_number why
+-- what the checks of a call return: nothing, or the cause of the refusal
+abbrev pub Verdict : Type 0
+Verdict = Result ⊤ Refusal
+
+-- the number of a verdict or of an answer: 0 if the call is accepted
+abbrev pub verdict_number : {A : Type 0} → Result A Refusal → ℕ
+verdict_number (Ok answer) = 0
+verdict_number (Err why) = refusal_number why
 
 -- the order in which all calls check causes: the table's. A cause added later gets its place here, whatever its number.
 abbrev pub cause_order : List Refusal
@@ -46,16 +48,16 @@ why if b = record { why = why; holds = b }
 -- The verdict of a list of causes: the first that holds. Each call lists its causes in the order above, so that this is the cause
 -- at the lowest place (theorem `in_order`).
 abbrev pub first_cause : List Cause → Verdict
-first_cause [] = Accepted
-first_cause (cause ∷ causes) = cond cause.holds (Refused cause.why) (first_cause causes)
+first_cause [] = Ok tt
+first_cause (cause ∷ causes) = cond cause.holds (Err cause.why) (first_cause causes)
 
 -- the table's column 'Returned': the answer of an accepted call, or the cause of the refusal
-abbrev pub answering : {A B : Type 0} → (A → B) → (Refusal → B) → Verdict → A → B
-answering accepted refused Accepted answer = accepted answer
-answering accepted refused (Refused why) answer = refused why
+abbrev pub answering : {A : Type 0} → Verdict → A → Result A Refusal
+answering (Ok _) answer = Ok answer
+answering (Err why) answer = Err why
 
 -- the table's last column, 'Left': the new value if the call is accepted, the old one if it is refused. Also used for counts,
 -- with 0 as the old value ("counts 0").
 abbrev pub unless_refused : {A : Type 0} → Verdict → A → A → A
-unless_refused Accepted new old = new
-unless_refused (Refused why) new old = old
+unless_refused (Ok _) new old = new
+unless_refused (Err why) new old = old

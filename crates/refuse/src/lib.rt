@@ -1,12 +1,12 @@
 // Causes of refusal and their numbers; `check_settings`, `check_records` and `check_block` have the checks.
 #![tactic(auto)]
 
-ghost use Rattle.std.specs.Prelude.{◌≡◌};
-ghost use Rattle.refuse.specs.Refusal.{refusal_number, verdict_number};
+ghost use Rattle.std.specs.Prelude.{◌≡◌, [], ◌∷◌};
+ghost use Rattle.refuse.specs.Refusal.{refusal_number, ◌if◌, first_cause};
 ghost use Rattle.refuse.specs.Causes.{most_accepted};
 
-// Causes of refusal, in the order of document 01's table.
-#[derive(Clone, Copy)]
+// Causes of refusal, in the order of document 01's table: the error of every call that checks its inputs.
+#[derive(Clone, Copy, Debug, PartialEq, Eq)]
 pub enum Refusal {
     Screen,
     Styles,
@@ -17,13 +17,6 @@ pub enum Refusal {
     Symbol,
     Limit,
     ListLength,
-}
-
-// Result of a call's checks.
-#[derive(Clone, Copy)]
-pub enum Verdict {
-    Accepted,
-    Refused(Refusal),
 }
 
 // Largest sizes that a call accepts.
@@ -58,12 +51,12 @@ impl Ceilings {
     }
 }
 
-impl Refusal {
-    // Returns the number of a cause in document 01's table.
-    pub fn number(self) -> u32
-        ensures { result ≡ refusal_number self }
-    {
-        match self {
+impl From<Refusal> for u32 {
+    // The number of a cause in document 01's table.
+    ghost from_gives = { λ why number. number ≡ refusal_number why };
+
+    fn from(why: Refusal) -> u32 {
+        match why {
             Refusal::Screen => 1,
             Refusal::Styles => 2,
             Refusal::TextLength => 3,
@@ -77,14 +70,12 @@ impl Refusal {
     }
 }
 
-impl Verdict {
-    // Returns the number of the cause, or 0 if the call is accepted.
-    pub fn number(self) -> u32
-        ensures { result ≡ verdict_number self }
-    {
-        match self {
-            Verdict::Accepted => 0,
-            Verdict::Refused(why) => why.number(),
-        }
+// Returns the verdict of one check: refused for the cause if it holds.
+pub fn refuse_if(holds: bool, why: Refusal) -> Result<(), Refusal>
+    ensures { result ≡ first_cause (why if holds ∷ []) }
+{
+    if holds {
+        return Err(why);
     }
+    Ok(())
 }
