@@ -5,7 +5,7 @@ use mathlib.Core.Bool.{Bool, true, false, cond}
 use mathlib.Core.List.{List, [], ◌∷◌, map}
 use native.Mathlib.Omega.{arith}
 use borrow.Author.Tests.{not-false}
-use lib.ListN.{length, take, drop}
+use lib.ListN.{length, take, drop, length-map}
 use Rattle.text.specs.Record.{is_head}
 use Rattle.text.specs.Line.{until_head, lines_from, Opens}
 use Rattle.text.specs.LinesExtra.{parts, cut_lines}
@@ -46,3 +46,17 @@ cut_next r rs n e =
 
 pub line_within : (rs : List ℕ) (n : ℕ) → n ≡ length (until_head rs) → n ≤ length rs
 line_within rs n e = omega (arith, e, until_short rs)
+
+-- there are no more lines than records
+lines-few : (i : ℕ) (rs : List ℕ) → length (lines_from i rs) ≤ length rs
+lines-few i [] = omega arith
+lines-few i (r ∷ rs) = go (is_head r) (lines-few (suc i) rs)
+  where
+    go : (b : Bool) → length (lines_from (suc i) rs) ≤ length rs
+        → length (cond b (record { head = r; first = suc i; records = until_head rs } ∷ lines_from (suc i) rs) (lines_from (suc i) rs)) ≤ suc (length rs)
+    go true h = omega (arith, h)
+    go false h = omega (arith, h)
+
+pub cut_few : (rs : List ℕ) → length (cut_lines rs) ≤ length rs
+cut_few [] = omega arith
+cut_few (r ∷ rs) = omega (arith, lines-few 0 rs, length-map (lines_from 0 rs) parts)
