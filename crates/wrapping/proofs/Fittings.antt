@@ -8,49 +8,42 @@ use lib.Dec.{ltb}
 use Rattle.text.specs.Record.{width_code_of, width_of}
 use Rattle.text.proofs.Reading.{width_plain, width-most}
 use Rattle.wrapping.specs.declared.Rule.{Rule}
-use Rattle.wrapping.specs.declared.GlyphWidth.{GlyphWidth}
-use Rattle.wrapping.specs.declared.GlyphWidth.TheVariants.{Fits, OverWide}
+use Rattle.std.specs.Prelude.{Option, Some, None}
 use Rattle.wrapping.specs.RunsExtra.{fitting_of}
 
-pub plain_limit : (limit : ℕ) → limit < 6 → limit ≡ min limit 6
-plain_limit limit h = omega arith
-
-pub plain_most : (limit : ℕ) → 6 ≤ limit → 6 ≡ min limit 6
-plain_most limit h = omega arith
-
 module _ (u : Rule) (r : ℕ) where
-  pub fitting-fits : (w : ℕ) → w ≡ width_of u.ambiguous r → w ≤ u.limit → Fits w ≡ fitting_of u r
+  pub fitting-fits : (w : ℕ) → w ≡ width_of u.ambiguous r → w ≤ u.limit → Some w ≡ fitting_of u r
   unfolding fitting_of
   fitting-fits w e h = rw (← e, le-ltb u.limit w h)
 
   -- a code that is a width within the limit
-  pub fitting_plain : (code plain : ℕ) → code ≡ width_code_of r → plain ≡ min u.limit 6 → code ≤ plain → Fits code ≡ fitting_of u r
+  pub fitting_plain : (code plain : ℕ) → code ≡ width_code_of r → plain ≡ min u.limit 6 → code ≤ plain → Some code ≡ fitting_of u r
   fitting_plain code plain e p h =
       fitting-fits code (width_plain u.ambiguous code r e (λ (seven : code ≡ 7). omega (arith, p))) (omega (arith, p))
 
-  pub fitting-over : (w : ℕ) → w ≡ width_of u.ambiguous r → u.limit < w → OverWide ≡ fitting_of u r
+  pub fitting-over : (w : ℕ) → w ≡ width_of u.ambiguous r → u.limit < w → None ≡ fitting_of u r
   unfolding fitting_of
   fitting-over w e h = rw (← e, lt-ltb u.limit w h)
 
-pub ruleset fittings = (plain_limit, plain_most, fitting_plain, fitting-over, fitting-fits)
+pub ruleset fittings = (fitting_plain, fitting-over, fitting-fits)
 
 -- ---- what the answer tells
 
-abbrev fits : GlyphWidth → Bool
-fits (Fits w) = true
-fits OverWide = false
+abbrev fits : Option ℕ → Bool
+fits (Some w) = true
+fits None = false
 
-abbrev cells_in : GlyphWidth → ℕ
-cells_in (Fits w) = w
-cells_in OverWide = 0
+abbrev cells_in : Option ℕ → ℕ
+cells_in (Some w) = w
+cells_in None = 0
 
-module _ (u : Rule) (r : ℕ) (f : GlyphWidth) (e : f ≡ fitting_of u r) where
-  module _ (w : ℕ) (k : f ≡ Fits w) where
+module _ (u : Rule) (r : ℕ) (f : Option ℕ) (e : f ≡ fitting_of u r) where
+  module _ (w : ℕ) (k : f ≡ Some w) where
     fits_width : (w ≡ width_of u.ambiguous r) × (w ≤ u.limit)
     unfolding fitting_of
     fits_width = go (ltb u.limit (width_of u.ambiguous r)) refl (sym k ∙ e)
       where
-        go : (b : Bool) → ltb u.limit (width_of u.ambiguous r) ≡ b → Fits w ≡ cond b OverWide (Fits (width_of u.ambiguous r))
+        go : (b : Bool) → ltb u.limit (width_of u.ambiguous r) ≡ b → Some w ≡ cond b None (Some (width_of u.ambiguous r))
             → (w ≡ width_of u.ambiguous r) × (w ≤ u.limit)
         go true t q = absurd (true≢false (ap fits q))
         go false t q =
@@ -66,10 +59,10 @@ module _ (u : Rule) (r : ℕ) (f : GlyphWidth) (e : f ≡ fitting_of u r) where
     pub fits-most : w ≤ 6
     fits-most = omega (arith, fits_width.0, width-most u.ambiguous r)
 
-  pub over-limit : f ≡ OverWide → u.limit < width_of u.ambiguous r
+  pub over-limit : f ≡ None → u.limit < width_of u.ambiguous r
   unfolding fitting_of
   over-limit k = go (ltb u.limit (width_of u.ambiguous r)) refl (sym k ∙ e)
     where
-      go : (b : Bool) → ltb u.limit (width_of u.ambiguous r) ≡ b → OverWide ≡ cond b OverWide (Fits (width_of u.ambiguous r)) → u.limit < width_of u.ambiguous r
+      go : (b : Bool) → ltb u.limit (width_of u.ambiguous r) ≡ b → None ≡ cond b None (Some (width_of u.ambiguous r)) → u.limit < width_of u.ambiguous r
       go true t q = ltb-true u.limit (width_of u.ambiguous r) t
       go false t q = absurd (true≢false (sym (ap fits q)))

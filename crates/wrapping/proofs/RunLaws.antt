@@ -1,4 +1,4 @@
--- One law for each path through the methods of a run.
+-- What appending to a run gives, case by case.
 use Prim.Native.Nat.{ℕ, ◌+◌, ◌≤◌}
 use mathlib.Core.Path.{◌≡◌}
 use native.Mathlib.Omega.{arith}
@@ -38,5 +38,3 @@ module _ (a : Run) (at w : ℕ) where
   pub push_more : (a.end ≡ 0 → ⊥) → record { first = a.first; end = at + 1; width = a.width + w } ≡ push_run a at w
   unfolding push_run
   push_more h = simp (ne_eqb _ _ h)
-
-pub ruleset laws = (append-first, append_second, append-both, push_first, push_more)

@@ -1,11 +1,11 @@
 -- The paths through a step of the rules.
 use Prim.Native.Nat.{◌-◌}
 use mathlib.Core.Path.{◌≡◌, refl}
-use mathlib.Core.Bool.{Bool, true, false, cond, ◌&&◌, and-eq-true_iff}
+use mathlib.Core.Bool.{Bool, true, false, cond, and-eq-true_iff}
 use mathlib.Core.List.{List, [], ◌∷◌, ◌++◌, append-nil}
 use Rattle.text.specs.Line.{Glyph, total}
 use Rattle.wrapping.specs.declared.Rule.{Rule}
-use Rattle.wrapping.specs.Wrapping.{Pending, Step, silent, empty, is_over_wide, must_join, joined, unjoined, full, drops, fitting, emptied, appended, ◌then◌, join_step, emit_step, append_step, step}
+use Rattle.wrapping.specs.Wrapping.{Pending, Step, silent, is_over_wide, must_join, joined, unjoined, full, drops, fitting, emptied, appended, ◌then◌, join_step, emit_step, append_step, step}
 use Rattle.text.proofs.Bools.{cond_cases}
 
 -- step 4 appends a glyph to spaces or word

@@ -1,17 +1,15 @@
 -- Not in the papers: what the methods of runs compute. The rules, on lists of glyphs, are in `Wrapping`.
-use Rattle.std.specs.Prelude.{ℕ, ◌+◌, ◌≤◌, ◌≡◌, cond, List, [], ◌∷◌, eqb, ltb, length}
+use Rattle.std.specs.Prelude.{ℕ, ◌+◌, ◌≤◌, ◌≡◌, cond, List, [], ◌∷◌, eqb, ltb, length, Option, Some, None}
 use Rattle.std.proofs.Math.Seq.{slice}
 use Rattle.text.specs.Record.{width_of}
 use Rattle.text.specs.Line.{Glyph, numbered, total}
 use Rattle.wrapping.specs.declared.Run.{Run}
 use Rattle.wrapping.specs.declared.Rule.{Rule}
-use Rattle.wrapping.specs.declared.GlyphWidth.{GlyphWidth}
-use Rattle.wrapping.specs.declared.GlyphWidth.TheVariants.{Fits, OverWide}
 use Rattle.wrapping.specs.Wrapping.{not_over_wide, after_fitting}
 
--- what a rule reads of a glyph's record
-unfoldable pub fitting_of : Rule → ℕ → GlyphWidth
-fitting_of u r = cond (ltb u.limit (width_of u.ambiguous r)) OverWide (Fits (width_of u.ambiguous r))
+-- what a rule reads of a glyph's record: its width, or none if it is over-wide
+unfoldable pub fitting_of : Rule → ℕ → Option ℕ
+fitting_of u r = cond (ltb u.limit (width_of u.ambiguous r)) None (Some (width_of u.ambiguous r))
 
 abbrev pub empty_run : Run
 empty_run = record { first = 0; end = 0; width = 0 }

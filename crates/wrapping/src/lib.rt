@@ -18,13 +18,6 @@ pub struct Rule {
     pub ambiguous: AmbiguousWidth,
 }
 
-// What a rule reads of a glyph: its width, no more than the limit, or that it is over-wide.
-#[derive(Clone, Copy)]
-pub enum GlyphWidth {
-    Fits(usize),
-    OverWide,
-}
-
 impl Rule {
     // Returns the width of a glyph as the rule reads it.
     pub fn width(self, word: u32) -> u32
@@ -38,26 +31,24 @@ impl Rule {
     fn widest_plain(self) -> usize
         ensures { result ≡ min self.limit 6 }
     {
-        if self.limit < WIDEST {
-            return self.limit;
-        }
-        WIDEST
+        self.limit.min(WIDEST)
     }
 
-    // Returns the width of a glyph as the rule reads it, or that it is over-wide. Most codes are widths within the limit; the setting
-    // is read only for the others.
-    pub fn fitting(self, word: u32) -> GlyphWidth
+    // Returns the width of a glyph as the rule reads it, or none if it is over-wide. Most codes are widths within the limit; the
+    // setting is read only for the others.
+    #[tactic(auto, using(crate::proofs::Fittings::fittings))]
+    pub fn fitting(self, word: u32) -> Option<usize>
         ensures { result ≡ fitting_of self word }
     {
         let code = glyph::width_code(word) as usize;
         if code <= self.widest_plain() {
-            return GlyphWidth::Fits(code);
+            return Some(code);
         }
         let w = self.width(word) as usize;
         if self.limit < w {
-            return GlyphWidth::OverWide;
+            return None;
         }
-        GlyphWidth::Fits(w)
+        Some(w)
     }
 }
 

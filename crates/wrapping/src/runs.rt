@@ -16,6 +16,7 @@ impl Run {
     }
 
     // Appends the other run to this one.
+    #[tactic(auto, unfolding(crate::specs::RunsExtra::append_run))]
     pub fn append(self, other: Run) -> Run
         requires { self.width + other.width < 2 ^ 32 }
         ensures { result ≡ append_run self other }
@@ -34,6 +35,7 @@ impl Run {
     }
 
     // Appends the record at `at`, of width w.
+    #[tactic(auto, unfolding(crate::specs::RunsExtra::push_run))]
     pub fn push(self, at: usize, w: usize) -> Run
         requires { (self.width + w < 2 ^ 32) × (at + 1 < 2 ^ 64) }
         ensures { result ≡ push_run self at w }
@@ -60,12 +62,10 @@ impl Run {
         ensures { result ≡ drop_run rule records.now self room }
     {
         let end = self.end;
-        let mut i = self.first;
         let mut left = room;
-        while i < end {
+        for i in self.first..end {
             let w = rule.width(records[i]) as usize;
             if rule.limit < w {
-                i += 1;
                 continue;
             }
             if left < w {
@@ -78,7 +78,6 @@ impl Run {
                 };
             }
             left -= w;
-            i += 1;
         }
         Run::empty()
     }

@@ -1,9 +1,0 @@
--- `wrapping::Run::push` meets its contract.
-use Rattle.wrapping.proofs.RunLaws.{laws}
-use Rattle.wrapping.proofs.Run.push.Goals as goal
-
-pub returns-then-self-eq0 : goal.returns-then-self-eq0
-returns-then-self-eq0 c = search laws
-
-pub returns : goal.returns
-returns c = search laws
