@@ -1,11 +1,9 @@
 -- Not in the papers: the tests on what is pending, on runs of records. The rules, on lists of glyphs, are in `Wrapping` (crate
 -- `wrapping`); the laws in `word_wrapper` show that the two agree.
-use Rattle.std.specs.Prelude.{ℕ, ◌+◌, Bool, cond, ◌&&◌, ◌||◌, eqb, leb, ltb}
+use Rattle.std.specs.Prelude.{ℕ, ◌+◌, Bool, cond, ◌&&◌, ◌||◌, eqb, leb, ltb, Option, Some, None}
 use Rattle.wrapping.specs.declared.Run.{Run}
 use Rattle.wrapping.specs.declared.Rule.{Rule}
 use Rattle.pending.specs.declared.Pending.{Pending}
-use Rattle.pending.specs.declared.LastRun.{LastRun}
-use Rattle.pending.specs.declared.LastRun.TheVariants.{Emit, Nothing}
 use Rattle.wrapping.specs.RunsExtra.{empty_run, append_run}
 
 -- row, then spaces if row isn't empty or trim is off, then word
@@ -31,9 +29,9 @@ unfoldable pub full_run : Rule → Pending → ℕ → Bool
 full_run u p w =
     leb u.limit p.row.width || (ltb 0 w && leb u.limit (p.row.width + p.spaces.width + p.word.width))
 
--- the text line's end; `emitted` is whether the text line has emitted a line before
-unfoldable pub last_run : Bool → Bool → Pending → LastRun
+-- the line emitted at the text line's end, if one is; `emitted` is whether the text line has emitted a line before
+unfoldable pub last_run : Bool → Bool → Pending → Option Run
 last_run trim emitted p =
     cond (eqb (gather_run trim p).end 0)
-    (cond (eqb p.spaces.end 0) (cond emitted Nothing (Emit empty_run)) (Emit empty_run))
-    (Emit (gather_run trim p))
+    (cond (eqb p.spaces.end 0) (cond emitted None (Some empty_run)) (Some empty_run))
+    (Some (gather_run trim p))

@@ -15,15 +15,9 @@ pub struct Pending {
     pub solid: bool,
 }
 
-// What a text line's end emits: a line, or nothing.
-#[derive(Clone, Copy)]
-pub enum LastRun {
-    Emit(Run),
-    Nothing,
-}
-
 impl Pending {
     // Returns row, then spaces if row isn't empty or trim is off, then word.
+    #[tactic(auto, unfolding(crate::specs::TestsExtra::gather_run))]
     pub fn gather(self, trim: bool) -> Run
         requires { self.row.width + self.spaces.width + self.word.width < 2 ^ 32 }
         ensures { result ≡ gather_run trim self }
@@ -52,6 +46,7 @@ impl Pending {
     }
 
     // Whether spaces and word, with a glyph of width w, would overflow an empty row.
+    #[tactic(auto, unfolding(crate::specs::TestsExtra::overflowing))]
     fn overflows(self, rule: Rule, w: usize) -> bool
         requires { self.row.width + self.spaces.width + self.word.width + w < 2 ^ 32 }
         ensures { result ≡ overflowing rule self w }
@@ -63,6 +58,7 @@ impl Pending {
     }
 
     // Step 2: whether spaces and word must be joined to row.
+    #[tactic(auto, unfolding(crate::specs::TestsExtra::joins))]
     pub fn must_join(self, rule: Rule, w: usize, space: bool) -> bool
         requires { self.row.width + self.spaces.width + self.word.width + w < 2 ^ 32 }
         ensures { result ≡ joins rule self w space }
@@ -77,6 +73,7 @@ impl Pending {
     }
 
     // Step 3: whether row must be emitted.
+    #[tactic(auto, unfolding(crate::specs::TestsExtra::full_run))]
     pub fn is_full(self, rule: Rule, w: usize) -> bool
         requires { self.row.width + self.spaces.width + self.word.width + w < 2 ^ 32 }
         ensures { result ≡ full_run rule self w }
@@ -85,8 +82,9 @@ impl Pending {
             || (0 < w && rule.limit <= self.row.width + self.spaces.width + self.word.width)
     }
 
-    // Returns the line emitted at the text line's end; `emitted` is whether the text line has emitted one before.
-    pub fn last_line(self, trim: bool, emitted: bool) -> LastRun
+    // Returns the line emitted at the text line's end, or none; `emitted` is whether the text line has emitted one before.
+    #[tactic(auto, unfolding(crate::specs::TestsExtra::last_run))]
+    pub fn last_line(self, trim: bool, emitted: bool) -> Option<Run>
         requires { self.row.width + self.spaces.width + self.word.width < 2 ^ 32 }
         ensures { result ≡ last_run trim emitted self }
     {
@@ -96,12 +94,12 @@ impl Pending {
         if last.end == 0 {
             if spaces.end == 0 {
                 if emitted {
-                    return LastRun::Nothing;
+                    return None;
                 }
-                return LastRun::Emit(none);
+                return Some(none);
             }
-            return LastRun::Emit(none);
+            return Some(none);
         }
-        LastRun::Emit(last)
+        Some(last)
     }
 }

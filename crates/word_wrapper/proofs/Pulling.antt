@@ -8,24 +8,17 @@ use native.Mathlib.Numerals.{add-one}
 use lib.Dec.{eqb}
 use lib.ListN.{length, get_or, drop, drop_of_length-le}
 use lib.Seq.{drop-cons}
+use Rattle.std.specs.Prelude.{Option, Some, None, option_to_list}
 use Rattle.text.specs.Line.{Glyph, glyph_from}
 use Rattle.wrapping.specs.declared.Run.{Run}
 use Rattle.wrapping.specs.declared.Rule.{Rule}
-use Rattle.wrapping.specs.declared.GlyphWidth.{GlyphWidth}
-use Rattle.wrapping.specs.declared.GlyphWidth.TheVariants.{Fits}
 use Rattle.wrapping.proofs.Fittings.{fits-most}
 use Rattle.word_wrapper.specs.declared.WordWrapper.{WordWrapper}
-use Rattle.word_wrapper.specs.declared.Stepped.{Stepped}
-use Rattle.word_wrapper.specs.declared.Stepped.TheVariants.{Emitted, Continued}
-use Rattle.word_wrapper.specs.declared.NextRun.{NextRun}
-use Rattle.word_wrapper.specs.declared.NextRun.TheVariants.{OneRun, Done}
 use Rattle.wrapping.specs.Wrapping.{Step, emptied, step}
 use Rattle.wrapping.specs.RunsExtra.{fitting_of, empty_run, run_of, glyphs_in, Spans}
-use Rattle.pending.specs.declared.LastRun.{LastRun}
-use Rattle.pending.specs.declared.LastRun.TheVariants.{Emit}
 use Rattle.pending.specs.TestsExtra.{gather_run, joins, last_run}
-use Rattle.word_wrapper.specs.StepsExtra.{pending_of, join_run, join_if_due_run, emit_row_run, step_run, close_run, next_from, finish_run}
-use Rattle.word_wrapper.specs.PullsExtra.{WrapperInvariant, line_of, emitted_of, next_of, runs_from, runs, pulled, NextRunInvariant, PulledRun}
+use Rattle.word_wrapper.specs.StepsExtra.{pending_of, join_run, join_if_due_run, emit_row_run, step_run, close_run, finish_run}
+use Rattle.word_wrapper.specs.PullsExtra.{WrapperInvariant, runs_from, runs, pulled, NextRunInvariant, PulledRun}
 use Rattle.text.proofs.Bools.{cond_cases}
 use Rattle.wrapping.proofs.ListRuns.{empty-read}
 use Rattle.word_wrapper.proofs.States.{shows-sum, shows-spaces, joined-sound, emptied-shows, gathered_agree, gathered-read}
@@ -75,7 +68,7 @@ joined_at u s r w space e =
     ap (λ (x : WordWrapper). x.at) e ∙ cond_cases (λ (x : WordWrapper). x.at ≡ s.at) (joins u (pending_of s) w space) (join_run u.trim s) s (λ _. refl) (λ _. refl)
 
 -- before a step, adding a width that fits can't overflow, and the width is below 8
-module _ (u : Rule) (g : GlyphWidth) (x w : ℕ) (d : g ≡ fitting_of u x) (k : g ≡ Fits w) where
+module _ (u : Rule) (g : Option ℕ) (x w : ℕ) (d : g ≡ fitting_of u x) (k : g ≡ Some w) where
   pub join-fits : (records : List ℕ) (s : WordWrapper) → WrapperInvariant u records s → length records < 2 ^ 28
       → s.row.width + s.spaces.width + s.word.width + w < 2 ^ 32
   join-fits records s h few = omega (arith, fits-most u x g d w k, sound-sum u records s h, sound-within u records s h)
@@ -117,67 +110,66 @@ module _ (u : Rule) (records : List ℕ) (s : WordWrapper) where
   pub pulling_starts : WrapperInvariant u records s → s.live ≡ true → Pulling u records s s
   pulling_starts h l = record { sound = h; live = l; lines = refl }
 
-  pub pulling_shut : s.live ≡ false → PulledRun u records s Done
+  pub pulling_shut : WrapperInvariant u records s → s.live ≡ false → PulledRun u records s None s
   unfolding runs pulled
-  pulling_shut l = record { lines = rw l; sound = tt }
+  pulling_shut h l = record { lines = rw l; sound = (h, rw l) }
 
   module _ (w : WordWrapper) (p : Pulling u records s w) where
-    module _ (k : w.at < length records) (o : Stepped) (e : o ≡ step_run u records w (get_or records w.at 0)) where
+    module _ (k : w.at < length records) (line : Option Run) (n : WordWrapper)
+        (f : line ≡ (step_run u records w (get_or records w.at 0)).line) (e : n ≡ (step_run u records w (get_or records w.at 0)).state) where
       abbrev ruled : Step
       ruled = step u p.sound.pending (glyph_from u.ambiguous w.at (get_or records w.at 0))
 
       -- after one step: the invariant, `live`, the next index, and the lines remaining before it
-      stepping : (WrapperInvariant u records (next_of o)) × ((next_of o).live ≡ true) × ((next_of o).at ≡ w.at + 1) × (runs u records s ≡ emitted_of o ++ runs u records (next_of o))
+      stepping : (WrapperInvariant u records n) × (n.live ≡ true) × (n.at ≡ w.at + 1) × (runs u records s ≡ option_to_list line ++ runs u records n)
       stepping =
           let h = p.sound in
           let m = step_matches u records w h.pending h.shows k in
-          let n = next_of (step_run u records w (get_or records w.at 0)) in
-          let l : n.live ≡ true = m.follows.live ∙ p.live in
-          rw e (
+          let o = step_run u records w (get_or records w.at 0) in
+          let l : o.state.live ≡ true = m.follows.live ∙ p.live in
+          rw (e, f) (
             record { pending = ruled.pending; shows = m.shows },
             l,
             m.follows.at,
-            p.lines ∙ rw (live-runs u records w p.live, drop-cons records w.at 0 k, live-runs u records n l, m.follows.at, add-one w.at),
+            p.lines ∙ rw (live-runs u records w p.live, drop-cons records w.at 0 k, live-runs u records o.state l, m.follows.at, add-one w.at),
           )
 
-      pub pulling_goes : (n : WordWrapper) → o ≡ Continued n → Pulling u records s n
-      pulling_goes n f =
-          let r = rw f at stepping in
+      pub pulling_goes : line ≡ None → Pulling u records s n
+      pulling_goes g =
+          let r = rw g at stepping in
           record { sound = r.0; live = r.1; lines = r.3 }
 
-      pub pulling_less : (n : WordWrapper) → o ≡ Continued n → length records - n.at < length records - w.at
-      pulling_less n f =
-          let r = rw f at stepping in
-          omega (arith, r.2)
+      pub pulling_less : length records - n.at < length records - w.at
+      pulling_less = omega (arith, stepping.2)
 
-      pub pulling_emits : (line : Run) (n : WordWrapper) → o ≡ Emitted n line → PulledRun u records s (OneRun line n)
+      pub pulling_emits : (run : Run) → line ≡ Some run → PulledRun u records s (Some run) n
       unfolding pulled
-      pulling_emits line n f =
-          let r = rw f at stepping in
-          let m = rw (← e, f) at (step_matches u records w p.sound.pending p.sound.shows k) in
-          record { lines = r.3; sound = (r.0, read-spans u records line ruled.lines m.lines m.read) }
+      pulling_emits run g =
+          let r = rw g at stepping in
+          let m = rw (← f, g) at (step_matches u records w p.sound.pending p.sound.shows k) in
+          record { lines = r.3; sound = (r.0, read-spans u records run ruled.lines m.lines m.read) }
 
-    -- the text line's end gives one line or none
-    pub pulling_ends : (r : NextRun) → length records ≤ w.at → r ≡ finish_run u w → PulledRun u records s r
+    -- the text line's end gives one line or none, and leaves none
+    pub pulling_ends : (line : Option Run) (n : WordWrapper) → length records ≤ w.at → line ≡ (finish_run u w).line → n ≡ (finish_run u w).state → PulledRun u records s line n
     unfolding finish_run last_run pulled
-    pulling_ends r k e =
+    pulling_ends line n k f e =
         let q =
         cond_cases Ends (eqb (gather_run u.trim (pending_of w)).end 0) _ _
-        (λ _. cond_cases Ends (eqb w.spaces.end 0) _ _ (λ _. cond_cases Ends w.emitted _ _ (λ _. (refl, tt)) (λ _. none)) (λ _. none))
+        (λ _. cond_cases Ends (eqb w.spaces.end 0) _ _ (λ _. cond_cases Ends w.emitted _ _ (λ _. (refl, (sound_closed u records w p.sound, closed_runs u records w))) (λ _. none)) (λ _. none))
         (λ _. last (gather_run u.trim (pending_of w)) (rw (gathered_agree u records w p.sound.pending p.sound.shows) (gathered-read u records w p.sound.pending p.sound.shows).spans)) in
-        rw e
+        rw (f, e)
         (record {
           lines = p.lines ∙ live-runs u records w p.live ∙ ap (runs_from u records w) (drop_of_length-le records k) ∙ q.0;
           sound = q.1;
         })
       where
-        Ends : LastRun → Type 0
-        Ends l = let n = next_from (close_run w) l in (line_of n ≡ pulled u records n) × NextRunInvariant u records n
+        Ends : Option Run → Type 0
+        Ends l = (option_to_list l ≡ pulled u records l (close_run w)) × NextRunInvariant u records l (close_run w)
 
-        last : (line : Run) → Spans u records line → Ends (Emit line)
+        last : (line : Run) → Spans u records line → Ends (Some line)
         last line l = (rw (closed_runs u records w), (sound_closed u records w p.sound, l))
 
-        none : Ends (Emit empty_run)
+        none : Ends (Some empty_run)
         none = last empty_run (empty-read u records).spans
 
 pub ruleset pulling = (pulling_starts, pulling_shut, pulling_goes, pulling_less, pulling_emits, pulling_ends)

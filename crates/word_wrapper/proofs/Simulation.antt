@@ -10,12 +10,10 @@ use Rattle.text.proofs.Bools.{neither, cond_cases}
 use Rattle.wrapping.specs.declared.Run.{Run}
 use Rattle.wrapping.specs.declared.Rule.{Rule}
 use Rattle.word_wrapper.specs.declared.WordWrapper.{WordWrapper}
-use Rattle.word_wrapper.specs.declared.Stepped.{Stepped}
-use Rattle.word_wrapper.specs.declared.Stepped.TheVariants.{Emitted, Continued}
 use Rattle.wrapping.specs.Wrapping.{Pending, empty, Step, silent, is_over_wide, must_join, joined, full, emptied, drops, appended, step}
 use Rattle.wrapping.specs.RunsExtra.{run_of}
-use Rattle.word_wrapper.specs.StepsExtra.{join_run, join_if_due_run, emit_row_run, skip_glyph_run, append_glyph_run, append_or_drop_run, emit_or_append_run, step_run}
-use Rattle.word_wrapper.specs.PullsExtra.{Shows, emitted_of, next_of}
+use Rattle.word_wrapper.specs.StepsExtra.{Stepped, emits_line, emits_none, join_run, join_if_due_run, emit_row_run, skip_glyph_run, append_glyph_run, append_or_drop_run, emit_or_append_run, step_run}
+use Rattle.word_wrapper.specs.PullsExtra.{Shows, emitted_of}
 use Rattle.wrapping.proofs.ListRuns.{Read}
 use Rattle.wrapping.proofs.Ways.{filled, emits, joining, filled_ways, step-ways}
 use Rattle.word_wrapper.proofs.States.{row_read, spaces-empty, join_tests_agree, full_tests_agree, join-shows, emptied-shows, wide-shows, dropped-shows, appended-shows}
@@ -53,8 +51,8 @@ ReadAll u records (l ∷ ls) = Read u records l × ReadAll u records ls
 pub record Matches (u : Rule) (records : List ℕ) (s : WordWrapper) (o : Stepped) (r : Step) : Type 0 where
   pub lines : emitted_of o ≡ map run_of r.lines
   pub read : ReadAll u records r.lines
-  pub shows : Shows u records (next_of o) r.pending
-  pub follows : Follows s (next_of o) (not (empty r.lines))
+  pub shows : Shows u records o.state r.pending
+  pub follows : Follows s o.state (not (empty r.lines))
 
 -- The state s has the pending lists t; its next glyph g is no wider than the limit and, if it is whitespace, no word is pending.
 record NextGlyph (u : Rule) (records : List ℕ) (s : WordWrapper) (t : Pending) (g : Glyph) : Type 0 where
@@ -79,7 +77,7 @@ module _ (u : Rule) (records : List ℕ) (s : WordWrapper) (t : Pending) (g : Gl
 module _ (u : Rule) (records : List ℕ) (s : WordWrapper) (t : Pending) (g : Glyph) (n : NextGlyph u records s t g) where
   -- row is emitted, and the glyph dropped or appended
   emit_matches : (b : Bool) → drops (emptied u t) g ≡ b → (more : List Glyph) → Matches u records s
-      (Emitted (append_or_drop_run (emit_row_run u records s) g.width g.whitespace) s.row) (emits u t more (cond b (emptied u t) (appended (emptied u t) g)) b)
+      (emits_line s.row (append_or_drop_run (emit_row_run u records s) g.width g.whitespace)) (emits u t more (cond b (emptied u t) (appended (emptied u t) g)) b)
   unfolding emit_row_run emptied
   emit_matches b d more =
       let r = rest-follows (emit_row_run u records s) g.width g.whitespace in
@@ -99,7 +97,7 @@ module _ (u : Rule) (records : List ℕ) (s : WordWrapper) (t : Pending) (g : Gl
       (filled_ways u t g
       (λ (r : Step).
       Matches u records s
-      (cond (full u t g) (Emitted (append_or_drop_run (emit_row_run u records s) g.width g.whitespace) s.row) (Continued (append_glyph_run s g.width g.whitespace)))
+      (cond (full u t g) (emits_line s.row (append_or_drop_run (emit_row_run u records s) g.width g.whitespace)) (emits_none (append_glyph_run s g.width g.whitespace)))
       r)
       (λ a d. rw a (emit_matches true d (g ∷ [])))
       (λ a d. rw a (emit_matches false d []))
@@ -119,7 +117,7 @@ module _ (u : Rule) (records : List ℕ) (s : WordWrapper) (t : Pending) (h : Sh
           follows = record { at = m.follows.at; live = m.follows.live; emitted = m.follows.emitted };
         }
 
-    skip_matches : is_over_wide u g ≡ true → Matches u records s (Continued (skip_glyph_run s)) (silent t)
+    skip_matches : is_over_wide u g ≡ true → Matches u records s (emits_none (skip_glyph_run s)) (silent t)
     skip_matches o = record { lines = refl; read = tt; shows = wide-shows u records s t h g k e o; follows = passed-follows s }
 
     kept_matches : is_over_wide u g ≡ false → must_join u t g ≡ false → Matches u records s (emit_or_append_run u records s g.width g.whitespace) (filled u t g)
@@ -136,7 +134,7 @@ module _ (u : Rule) (records : List ℕ) (s : WordWrapper) (t : Pending) (h : Sh
       (step-ways u t g
       (λ (r : Step).
       Matches u records s
-      (cond (is_over_wide u g) (Continued (skip_glyph_run s)) (emit_or_append_run u records (cond (must_join u t g) (join_run u.trim s) s) g.width g.whitespace))
+      (cond (is_over_wide u g) (emits_none (skip_glyph_run s)) (emit_or_append_run u records (cond (must_join u t g) (join_run u.trim s) s) g.width g.whitespace))
       r)
       (λ o. rw o (skip_matches g refl o))
       (λ o j. rw (o, j) (joining_matches g refl o))

@@ -12,12 +12,12 @@ use Rattle.text.specs.Line.{Glyph, glyph_from, numbered}
 use Rattle.wrapping.specs.declared.Run.{Run}
 use Rattle.wrapping.specs.declared.Rule.{Rule}
 use Rattle.word_wrapper.specs.declared.WordWrapper.{WordWrapper}
-use Rattle.pending.specs.declared.LastRun.TheVariants.{Emit, Nothing}
+use Rattle.std.specs.Prelude.{Some, None, option_to_list}
 use Rattle.pending.specs.TestsExtra.{gather_run, last_run}
 use Rattle.wrapping.specs.Wrapping.{Pending, empty_pending, empty, gathered, step, last_lines, at_least_one, Wrapped, wrap_from, wrap}
 use Rattle.wrapping.specs.RunsExtra.{empty_run, run_of}
-use Rattle.word_wrapper.specs.StepsExtra.{new_wrapper, pending_of, close_run, next_from, finish_run, step_run}
-use Rattle.word_wrapper.specs.PullsExtra.{Shows, WrapperInvariant, line_of, next_of, runs_from, runs}
+use Rattle.word_wrapper.specs.StepsExtra.{new_wrapper, pending_of, finish_run, step_run}
+use Rattle.word_wrapper.specs.PullsExtra.{Shows, WrapperInvariant, emitted_of, runs_from, runs}
 use Rattle.text.proofs.Bools.{cond_cases}
 use Rattle.wrapping.proofs.ListRuns.{run_empty, empty-read}
 use Rattle.wrapping.proofs.LastLines.{last-lines-gathered}
@@ -38,7 +38,7 @@ owed-later false (l ∷ now) later = refl
 -- ---- the text line's end
 
 module _ (u : Rule) (records : List ℕ) (s : WordWrapper) (t : Pending) (h : Shows u records s t) where
-  finish_lines_agree : line_of (finish_run u s) ≡ map run_of (owed s.emitted (last_lines u t))
+  finish_lines_agree : emitted_of (finish_run u s) ≡ map run_of (owed s.emitted (last_lines u t))
   unfolding finish_run last_run
   finish_lines_agree =
       let l : List Glyph = gathered u t in
@@ -46,7 +46,7 @@ module _ (u : Rule) (records : List ℕ) (s : WordWrapper) (t : Pending) (h : Sh
       rw (g, run_empty l, spaces-empty u records s t h, last-lines-gathered u t) (cases (empty l) (empty t.spaces) s.emitted l)
     where
       cases : (a b c : Bool) (l : List Glyph) →
-          line_of (next_from (close_run s) (cond a (cond b (cond c Nothing (Emit empty_run)) (Emit empty_run)) (Emit (run_of l))))
+          option_to_list (cond a (cond b (cond c None (Some empty_run)) (Some empty_run)) (Some (run_of l)))
           ≡ map run_of (owed c (cond a (cond b [] ([] ∷ [])) (l ∷ [])))
       cases true true true l = refl
       cases true true false l = refl
@@ -81,7 +81,7 @@ runs_agree u records [] s t h e = (finish_lines_agree u records s t h, last-read
 runs_agree u records (x ∷ xs) s t h e =
     let d = drop_head s.at records x xs e in
     let m = step_matches u records s t h d.0 in
-    let n = next_of (step_run u records s (get_or records s.at 0)) in
+    let n = (step_run u records s (get_or records s.at 0)).state in
     let r = step u t (glyph_from u.ambiguous s.at (get_or records s.at 0)) in
     let i = runs_agree u records xs n r.pending m.shows (rw m.follows.at d.2) in
     let i' = rw (m.follows.at, m.follows.emitted, add-one) at i in

@@ -1,16 +1,12 @@
 -- Not in the papers: the invariant of the word wrapper, its remaining lines, and what `next_line` returns.
-use Rattle.std.specs.Prelude.{ℕ, ◌+◌, ◌≤◌, ◌≡◌, false, cond, List, [], ◌∷◌, ◌++◌, length, take, drop}
+use Rattle.std.specs.Prelude.{ℕ, ◌≤◌, ◌≡◌, false, cond, List, [], ◌∷◌, ◌++◌, length, take, drop, Option, Some, None, option_to_list}
 use Rattle.text.specs.Line.{Glyph, numbered}
 use Rattle.wrapping.specs.declared.Run.{Run}
 use Rattle.wrapping.specs.declared.Rule.{Rule}
 use Rattle.word_wrapper.specs.declared.WordWrapper.{WordWrapper}
-use Rattle.word_wrapper.specs.declared.Stepped.{Stepped}
-use Rattle.word_wrapper.specs.declared.Stepped.TheVariants.{Emitted, Continued}
-use Rattle.word_wrapper.specs.declared.NextRun.{NextRun}
-use Rattle.word_wrapper.specs.declared.NextRun.TheVariants.{OneRun, Done}
 use Rattle.wrapping.specs.Wrapping.{Pending, not_over_wide}
 use Rattle.wrapping.specs.RunsExtra.{run_of, Spans}
-use Rattle.word_wrapper.specs.StepsExtra.{step_run, finish_run}
+use Rattle.word_wrapper.specs.StepsExtra.{Stepped, step_run, finish_run}
 
 -- Invariant: row, spaces and word are the runs of three consecutive lists at the end of the glyphs read so far, over-wide ones
 -- left out. The glyphs before them, `left`, were emitted or dropped.
@@ -28,36 +24,28 @@ pub record WrapperInvariant (u : Rule) (records : List ℕ) (s : WordWrapper) : 
   pub pending : Pending
   pub shows : Shows u records s pending
 
-abbrev pub line_of : NextRun → List Run
-line_of (OneRun line s) = line ∷ []
-line_of Done = []
-
 abbrev pub emitted_of : Stepped → List Run
-emitted_of (Emitted s line) = line ∷ []
-emitted_of (Continued s) = []
-
-abbrev pub next_of : Stepped → WordWrapper
-next_of (Emitted s line) = s
-next_of (Continued s) = s
+emitted_of o = option_to_list o.line
 
 -- remaining lines of a state, given the remaining records
 abbrev pub runs_from : Rule → List ℕ → WordWrapper → List ℕ → List Run
-runs_from u records s [] = line_of (finish_run u s)
-runs_from u records s (r ∷ rs) = emitted_of (step_run u records s r) ++ runs_from u records (next_of (step_run u records s r)) rs
+runs_from u records s [] = emitted_of (finish_run u s)
+runs_from u records s (r ∷ rs) = emitted_of (step_run u records s r) ++ runs_from u records (step_run u records s r).state rs
 
 unfoldable pub runs : Rule → List ℕ → WordWrapper → List Run
 runs u records s = cond s.live (runs_from u records s (drop s.at records)) []
 
--- the line that `next_line` returns, and the lines remaining after it
-unfoldable pub pulled : Rule → List ℕ → NextRun → List Run
-pulled u records (OneRun line s) = line ∷ runs u records s
-pulled u records Done = []
+-- the line that `next_line` returns, and the lines remaining in the state that it leaves
+unfoldable pub pulled : Rule → List ℕ → Option Run → WordWrapper → List Run
+pulled u records (Some line) s = line ∷ runs u records s
+pulled u records None s = []
 
-abbrev pub NextRunInvariant : Rule → List ℕ → NextRun → Type 0
-NextRunInvariant u records (OneRun line s) = WrapperInvariant u records s × Spans u records line
-NextRunInvariant u records Done = Unit {0}
+-- what holds after `next_line`: the invariant, and the returned line lies in the text line, or no line remains
+abbrev pub NextRunInvariant : Rule → List ℕ → Option Run → WordWrapper → Type 0
+NextRunInvariant u records (Some line) s = WrapperInvariant u records s × Spans u records line
+NextRunInvariant u records None s = WrapperInvariant u records s × (runs u records s ≡ [])
 
--- `next_line` returns the first of the remaining lines, and a state with the others
-pub record PulledRun (u : Rule) (records : List ℕ) (s : WordWrapper) (next : NextRun) : Type 0 where
-  pub lines : runs u records s ≡ pulled u records next
-  pub sound : NextRunInvariant u records next
+-- `next_line` returns the first of the remaining lines of the state s, and leaves a state with the others
+pub record PulledRun (u : Rule) (records : List ℕ) (s : WordWrapper) (next : Option Run) (left : WordWrapper) : Type 0 where
+  pub lines : runs u records s ≡ pulled u records next left
+  pub sound : NextRunInvariant u records next left

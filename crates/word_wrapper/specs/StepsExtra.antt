@@ -1,17 +1,12 @@
 -- Not in the papers: what each method of the word wrapper computes on runs of records. The rules, on lists of glyphs, are in
 -- `Wrapping` (crate `wrapping`); the laws in proofs/ show that the two agree.
-use Rattle.std.specs.Prelude.{ℕ, ◌+◌, ◌-◌, Bool, true, false, cond, not, ◌&&◌, List, eqb, ltb}
+use Rattle.std.specs.Prelude.{ℕ, ◌+◌, ◌-◌, Bool, true, false, cond, not, ◌&&◌, List, eqb, ltb, Option, Some, None}
 use Rattle.text.specs.Record.{width_of, whitespace_of}
+use Rattle.wrapping.specs.declared.Run.{Run}
 use Rattle.wrapping.specs.declared.Rule.{Rule}
 use Rattle.word_wrapper.specs.declared.WordWrapper.{WordWrapper}
-use Rattle.word_wrapper.specs.declared.Stepped.{Stepped}
-use Rattle.word_wrapper.specs.declared.Stepped.TheVariants.{Emitted, Continued}
-use Rattle.word_wrapper.specs.declared.NextRun.{NextRun}
-use Rattle.word_wrapper.specs.declared.NextRun.TheVariants.{OneRun, Done}
 use Rattle.wrapping.specs.RunsExtra.{empty_run, push_run, drop_run}
 use Rattle.pending.specs.declared.Pending.{Pending}
-use Rattle.pending.specs.declared.LastRun.{LastRun}
-use Rattle.pending.specs.declared.LastRun.TheVariants.{Emit, Nothing}
 use Rattle.pending.specs.TestsExtra.{gather_run, joins, full_run, last_run}
 
 abbrev pub new_wrapper : Rule → WordWrapper
@@ -94,14 +89,25 @@ append_glyph_run s w space =
 unfoldable pub append_or_drop_run : WordWrapper → ℕ → Bool → WordWrapper
 append_or_drop_run s w space = cond (space && eqb s.spaces.end 0) (skip_glyph_run s) (append_glyph_run s w space)
 
+-- the line that a step emits, if it emits one, and the state after it
+pub record Stepped : Type 0 where
+  pub line : Option Run
+  pub state : WordWrapper
+
+abbrev pub emits_line : Run → WordWrapper → Stepped
+emits_line line s = record { line = Some line; state = s }
+
+abbrev pub emits_none : WordWrapper → Stepped
+emits_none s = record { line = None; state = s }
+
 unfoldable pub emit_or_append_run : Rule → List ℕ → WordWrapper → ℕ → Bool → Stepped
 emit_or_append_run u records s w space =
-    cond (full_run u (pending_of s) w) (Emitted (append_or_drop_run (emit_row_run u records s) w space) s.row) (Continued (append_glyph_run s w space))
+    cond (full_run u (pending_of s) w) (emits_line s.row (append_or_drop_run (emit_row_run u records s) w space)) (emits_none (append_glyph_run s w space))
 
 -- steps 1 to 4 for the glyph of the record r
 unfoldable pub step_run : Rule → List ℕ → WordWrapper → ℕ → Stepped
 step_run u records s r =
-    cond (ltb u.limit (width_of u.ambiguous r)) (Continued (skip_glyph_run s))
+    cond (ltb u.limit (width_of u.ambiguous r)) (emits_none (skip_glyph_run s))
     (emit_or_append_run u records (join_if_due_run u s (width_of u.ambiguous r) (whitespace_of r)) (width_of u.ambiguous r) (whitespace_of r))
 
 unfoldable pub close_run : WordWrapper → WordWrapper
@@ -116,10 +122,6 @@ close_run s =
       at = s.at;
     }
 
--- what `finish` returns: the last line and the state `s`, or that there is no line
-abbrev pub next_from : WordWrapper → LastRun → NextRun
-next_from s (Emit line) = OneRun line s
-next_from s Nothing = Done
-
-unfoldable pub finish_run : Rule → WordWrapper → NextRun
-finish_run u s = next_from (close_run s) (last_run u.trim s.emitted (pending_of s))
+-- the text line's end: the last line, if there is one, and the state without remaining lines
+unfoldable pub finish_run : Rule → WordWrapper → Stepped
+finish_run u s = record { line = last_run u.trim s.emitted (pending_of s); state = close_run s }

@@ -17,18 +17,3 @@ pub struct WordWrapper {
     pub live: bool,
     pub at: usize,
 }
-
-// Result of one glyph's step: a line is emitted or not. The state is the first field of both variants: it keeps its offset and
-// isn't moved within the enum.
-#[derive(Clone, Copy)]
-pub enum Stepped {
-    Emitted(WordWrapper, Run),
-    Continued(WordWrapper),
-}
-
-// Run of the next composed line of a text line, or none.
-#[derive(Clone, Copy)]
-pub enum NextRun {
-    OneRun(Run, WordWrapper),
-    Done,
-}

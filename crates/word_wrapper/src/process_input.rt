@@ -1,4 +1,4 @@
-// Methods of the word wrapper: each takes the state and returns the next one.
+// Methods of the word wrapper: each changes the state in place.
 ghost use Rattle.std.specs.Prelude.{◌≡◌, ◌+◌, ◌-◌, ◌^◌, ◌≤◌, ◌<◌, length, get_or};
 ghost use Rattle.text.specs.Line.{FewRecords};
 ghost use Rattle.wrapping.specs.RunsExtra.{run_of, glyphs_in};
@@ -6,11 +6,10 @@ ghost use Rattle.word_wrapper.specs.StepsExtra.{new_wrapper, pending_of, join_ru
 ghost use Rattle.word_wrapper.specs.StepsExtra.{append_or_drop_run, emit_or_append_run, step_run, close_run, finish_run};
 ghost use Rattle.word_wrapper.specs.PullsExtra.{WrapperInvariant, PulledRun};
 
-use crate::{NextRun, Stepped, WordWrapper};
-use num::saturating_sub_usize;
-use pending::{LastRun, Pending};
+use crate::WordWrapper;
+use pending::Pending;
 use text::glyph;
-use wrapping::{GlyphWidth, Rule, Run};
+use wrapping::{Rule, Run};
 
 impl WordWrapper {
     // Returns the state before a text line's first glyph; limit 0 gives no line (reflow.rs: `WordWrapper::new`).
@@ -30,180 +29,164 @@ impl WordWrapper {
     }
 
     // Returns the pending part of the state.
-    fn pending(self) -> Pending
-        ensures { result ≡ pending_of self }
+    fn pending(&self) -> Pending
+        ensures { result ≡ pending_of self.now }
     {
-        let row = self.row;
-        let spaces = self.spaces;
-        let word = self.word;
-        let solid = self.solid;
         Pending {
-            row,
-            spaces,
-            word,
-            solid,
+            row: self.row,
+            spaces: self.spaces,
+            word: self.word,
+            solid: self.solid,
         }
     }
 
     // Joins spaces and word to row.
-    fn join(self, trim: bool) -> WordWrapper
-        requires { self.row.width + self.spaces.width + self.word.width < 2 ^ 32 }
-        ensures { result ≡ join_run trim self }
+    #[tactic(auto, unfolding(crate::specs::StepsExtra::join_run))]
+    fn join(&mut self, trim: bool)
+        requires { self.old.row.width + self.old.spaces.width + self.old.word.width < 2 ^ 32 }
+        ensures { self.new ≡ join_run trim self.old }
     {
-        let row = self.pending().gather(trim);
-        let none = Run::empty();
-        let mut next = self;
-        next.row = row;
-        next.spaces = none;
-        next.word = none;
-        next
+        self.row = self.pending().gather(trim);
+        self.spaces = Run::empty();
+        self.word = Run::empty();
     }
 
     // Step 2: joins spaces and word to row if the glyph requires it.
-    fn join_if_due(self, rule: Rule, w: usize, space: bool) -> WordWrapper
-        requires { self.row.width + self.spaces.width + self.word.width + w < 2 ^ 32 }
-        ensures { result ≡ join_if_due_run rule self w space }
+    #[tactic(auto, unfolding(crate::specs::StepsExtra::join_if_due_run))]
+    fn join_if_due(&mut self, rule: Rule, w: usize, space: bool)
+        requires { self.old.row.width + self.old.spaces.width + self.old.word.width + w < 2 ^ 32 }
+        ensures { self.new ≡ join_if_due_run rule self.old w space }
     {
         if self.pending().must_join(rule, w, space) {
-            return self.join(rule.trim);
+            self.join(rule.trim);
         }
-        self
     }
 
-    // Step 3 after row is emitted: empties row and drops spaces while they fit in its remaining width.
-    fn emit_row(self, rule: Rule, records: &[u32]) -> WordWrapper
-        requires { (self.spaces.end ≤ length records.now) × (self.spaces ≡ run_of (glyphs_in rule records.now self.spaces)) }
-        ensures { result ≡ emit_row_run rule records.now self }
+    // Step 3: empties row, drops spaces while they fit in its remaining width, and returns row.
+    #[tactic(auto, unfolding(crate::specs::StepsExtra::emit_row_run))]
+    fn emit_row(&mut self, rule: Rule, records: &[u32]) -> Run
+        requires { (self.old.spaces.end ≤ length records.now) × (self.old.spaces ≡ run_of (glyphs_in rule records.now self.old.spaces)) }
+        ensures row { result ≡ self.old.row }
+        ensures state { self.new ≡ emit_row_run rule records.now self.old }
     {
         let row = self.row;
-        let spaces = self.spaces;
-        let room = saturating_sub_usize(rule.limit, row.width);
-        let left = spaces.after_fitting(records, rule, room);
-        let none = Run::empty();
-        let mut next = self;
-        next.row = none;
-        next.spaces = left;
-        next.emitted = true;
-        next
+        let room = rule.limit.saturating_sub(row.width);
+        self.row = Run::empty();
+        self.spaces = self.spaces.after_fitting(records, rule, room);
+        self.emitted = true;
+        row
     }
 
     // Skips the glyph.
-    fn skip_glyph(self) -> WordWrapper
-        requires { self.at + 1 < 2 ^ 64 }
-        ensures { result ≡ skip_glyph_run self }
+    #[tactic(auto, unfolding(crate::specs::StepsExtra::skip_glyph_run))]
+    fn skip_glyph(&mut self)
+        requires { self.old.at + 1 < 2 ^ 64 }
+        ensures { self.new ≡ skip_glyph_run self.old }
     {
-        let mut next = self;
-        next.at = self.at + 1;
-        next
+        self.at += 1;
     }
 
     // Step 4: appends the glyph to spaces or word.
-    fn append_glyph(self, w: usize, space: bool) -> WordWrapper
-        requires { (self.row.width + self.spaces.width + self.word.width + w < 2 ^ 32) × (self.at + 1 < 2 ^ 64) }
-        ensures { result ≡ append_glyph_run self w space }
+    #[tactic(auto, unfolding(crate::specs::StepsExtra::append_glyph_run))]
+    fn append_glyph(&mut self, w: usize, space: bool)
+        requires { (self.old.row.width + self.old.spaces.width + self.old.word.width + w < 2 ^ 32) × (self.old.at + 1 < 2 ^ 64) }
+        ensures { self.new ≡ append_glyph_run self.old w space }
     {
         let at = self.at;
-        let mut next = self;
-        next.at = at + 1;
+        self.at = at + 1;
         if space {
-            let spaces = self.spaces;
-            let longer = spaces.push(at, w);
-            next.spaces = longer;
-            next.solid = false;
-            return next;
+            self.spaces = self.spaces.push(at, w);
+            self.solid = false;
+        } else {
+            self.word = self.word.push(at, w);
+            self.solid = true;
         }
-        let word = self.word;
-        let longer = word.push(at, w);
-        next.word = longer;
-        next.solid = true;
-        next
     }
 
     // After an emit: drops a whitespace glyph if spaces is now empty, else appends the glyph.
-    fn append_or_drop(self, w: usize, space: bool) -> WordWrapper
-        requires { (self.row.width + self.spaces.width + self.word.width + w < 2 ^ 32) × (self.at + 1 < 2 ^ 64) }
-        ensures { result ≡ append_or_drop_run self w space }
+    #[tactic(auto, unfolding(crate::specs::StepsExtra::append_or_drop_run))]
+    fn append_or_drop(&mut self, w: usize, space: bool)
+        requires { (self.old.row.width + self.old.spaces.width + self.old.word.width + w < 2 ^ 32) × (self.old.at + 1 < 2 ^ 64) }
+        ensures { self.new ≡ append_or_drop_run self.old w space }
     {
-        if space {
-            if self.spaces.end == 0 {
-                return self.skip_glyph();
-            }
-            return self.append_glyph(w, space);
+        if space && self.spaces.end == 0 {
+            self.skip_glyph();
+        } else {
+            self.append_glyph(w, space);
         }
-        self.append_glyph(w, space)
     }
 
-    // Steps 3 and 4, after the join, for a glyph no wider than the limit.
-    fn emit_or_append(self, rule: Rule, records: &[u32], w: usize, space: bool) -> Stepped
-        requires wrapper_invariant { WrapperInvariant rule records.now self }
-        requires few_records { FewRecords records.now × (self.at < length records.now) × (w < 8) }
-        ensures { result ≡ emit_or_append_run rule records.now self w space }
+    // Steps 3 and 4, after the join, for a glyph no wider than the limit: returns the line emitted, or none.
+    #[tactic(auto, unfolding(crate::specs::StepsExtra::emit_or_append_run))]
+    fn emit_or_append(&mut self, rule: Rule, records: &[u32], w: usize, space: bool) -> Option<Run>
+        requires wrapper_invariant { WrapperInvariant rule records.now self.old }
+        requires few_records { FewRecords records.now × (self.old.at < length records.now) × (w < 8) }
+        ensures line { result ≡ (emit_or_append_run rule records.now self.old w space).line }
+        ensures state { self.new ≡ (emit_or_append_run rule records.now self.old w space).state }
     {
-        let row = self.row;
         if self.pending().is_full(rule, w) {
-            let left = self.emit_row(rule, records);
-            return Stepped::Emitted(left.append_or_drop(w, space), row);
+            let row = self.emit_row(rule, records);
+            self.append_or_drop(w, space);
+            return Some(row);
         }
-        Stepped::Continued(self.append_glyph(w, space))
+        self.append_glyph(w, space);
+        None
     }
 
-    // Processes the glyph at `at` (steps 1 to 4). `WordWrapper::process_input` in reflow.rs: its loop body is here, the rest in
-    // `finish`.
-    fn step(self, rule: Rule, records: &[u32]) -> Stepped
-        requires wrapper_invariant { WrapperInvariant rule records.now self }
-        requires few_records { FewRecords records.now × (self.at < length records.now) }
-        ensures { result ≡ step_run rule records.now self (get_or records.now self.at 0) }
+    // Processes the glyph at `at` (steps 1 to 4) and returns the line emitted, or none. `WordWrapper::process_input` in reflow.rs:
+    // its loop body is here, the rest in `finish`.
+    fn step(&mut self, rule: Rule, records: &[u32]) -> Option<Run>
+        requires wrapper_invariant { WrapperInvariant rule records.now self.old }
+        requires few_records { FewRecords records.now × (self.old.at < length records.now) }
+        ensures line { result ≡ (step_run rule records.now self.old (get_or records.now self.old.at 0)).line }
+        ensures state { self.new ≡ (step_run rule records.now self.old (get_or records.now self.old.at 0)).state }
     {
-        let at = self.at;
-        let record = records[at];
+        let record = records[self.at];
         let space = glyph::is_whitespace(record);
-        let GlyphWidth::Fits(w) = rule.fitting(record) else {
-            return Stepped::Continued(self.skip_glyph());
+        let Some(w) = rule.fitting(record) else {
+            self.skip_glyph();
+            return None;
         };
-        self.join_if_due(rule, w, space)
-            .emit_or_append(rule, records, w, space)
+        self.join_if_due(rule, w, space);
+        self.emit_or_append(rule, records, w, space)
     }
 
-    // Returns the state with no line remaining.
-    pub fn close(self) -> WordWrapper
-        ensures { result ≡ close_run self }
+    // Leaves no line remaining.
+    #[tactic(auto, unfolding(crate::specs::StepsExtra::close_run))]
+    pub fn close(&mut self)
+        ensures { self.new ≡ close_run self.old }
     {
-        let mut next = self;
-        next.live = false;
-        next
+        self.live = false;
     }
 
-    // Ends the text line: returns its last line, if one remains (reflow.rs: the end of `WordWrapper::process_input`).
-    fn finish(self, rule: Rule) -> NextRun
-        requires { self.row.width + self.spaces.width + self.word.width < 2 ^ 32 }
-        ensures { result ≡ finish_run rule self }
+    // Ends the text line: returns its last line, if one remains, and leaves none (reflow.rs: the end of
+    // `WordWrapper::process_input`).
+    #[tactic(auto, unfolding(crate::specs::StepsExtra::finish_run))]
+    fn finish(&mut self, rule: Rule) -> Option<Run>
+        requires { self.old.row.width + self.old.spaces.width + self.old.word.width < 2 ^ 32 }
+        ensures line { result ≡ (finish_run rule self.old).line }
+        ensures state { self.new ≡ (finish_run rule self.old).state }
     {
-        match self.pending().last_line(rule.trim, self.emitted) {
-            LastRun::Emit(line) => NextRun::OneRun(line, self.close()),
-            LastRun::Nothing => NextRun::Done,
-        }
+        let last = self.pending().last_line(rule.trim, self.emitted);
+        self.close();
+        last
     }
 
-    // Returns the next composed line of the text line with these records, or none (reflow.rs: `WordWrapper::next_line`).
-    pub fn next_line(self, rule: Rule, records: &[u32]) -> NextRun
-        requires wrapper_invariant { WrapperInvariant rule records.now self }
+    // Returns the next composed line of the text line with these records, or none, and then none remains (reflow.rs:
+    // `WordWrapper::next_line`).
+    pub fn next_line(&mut self, rule: Rule, records: &[u32]) -> Option<Run>
+        requires wrapper_invariant { WrapperInvariant rule records.now self.old }
         requires few_records { FewRecords records.now }
-        ensures { PulledRun rule records.now self result }
+        ensures { PulledRun rule records.now self.old result self.new }
     {
         if self.live {
-            let mut wrapper = self;
-            while wrapper.at < records.len() {
-                match wrapper.step(rule, records) {
-                    Stepped::Emitted(next, line) => {
-                        return NextRun::OneRun(line, next);
-                    }
-                    Stepped::Continued(next) => {
-                        wrapper = next;
-                    }
+            while self.at < records.len() {
+                if let Some(line) = self.step(rule, records) {
+                    return Some(line);
                 }
             }
-            return wrapper.finish(rule);
+            return self.finish(rule);
         }
-        NextRun::Done
+        None
     }
 }

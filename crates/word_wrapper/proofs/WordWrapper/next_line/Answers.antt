@@ -3,17 +3,14 @@ use Rattle.word_wrapper.proofs.Pulling.{pulling, sound-sum, sound-within}
 use native.Mathlib.Omega.{arith}
 use Rattle.word_wrapper.proofs.WordWrapper.next_line.Goals as goal
 
-pub loop-wrapper-init : goal.loop-wrapper-init
-loop-wrapper-init c = search pulling
+pub returns-in-Some : goal.returns-in-Some
+returns-in-Some c = search pulling
 
-pub returns-in-Emitted : goal.returns-in-Emitted
-returns-in-Emitted c = search pulling
+pub loop-self-smaller : goal.loop-self-smaller
+loop-self-smaller c = search pulling
 
-pub loop-wrapper-smaller : goal.loop-wrapper-smaller
-loop-wrapper-smaller c = search pulling
-
-pub loop-wrapper-preserved : goal.loop-wrapper-preserved
-loop-wrapper-preserved c = search pulling
+pub loop-self-preserved : goal.loop-self-preserved
+loop-self-preserved c = search pulling
 
 pub finish-requires : goal.finish-requires
 finish-requires c = omega (arith, sound-sum, sound-within)
