@@ -6,13 +6,10 @@ use native.Mathlib.Numerals.{add-one}
 use native.Mathlib.Omega.{arith}
 use lib.ListN.{length, get_or, take, drop}
 use Rattle.text.specs.declared.Alignment.{Alignment}
-use Rattle.text.specs.Record.{alignment_of}
-use Rattle.text.specs.Alignment.{resolved}
 use Rattle.text.specs.Line.{Glyph, TextLine, numbered, until_head, lines_from}
-use Rattle.text.proofs.TextLines.{AtHead, rest, rest-drops, end-within, until_take, next_opens, line_first}
+use Rattle.text.proofs.TextLines.{AtHead, end-within, until_take, next_opens, line_first}
 use Rattle.wrapping.specs.declared.Run.{Run}
 use Rattle.wrapping.specs.declared.Rule.{Rule}
-use Rattle.word_wrapper.specs.declared.WordWrapper.{WordWrapper}
 use Rattle.wrapping.specs.RunsExtra.{run_of}
 use Rattle.word_wrapper.specs.StepsExtra.{new_wrapper}
 use Rattle.word_wrapper.proofs.Simulation.{ReadAll}
@@ -106,10 +103,3 @@ module _ (u : Rule) (method : Method) (default : Alignment) (text : List ℕ) (a
 
   pub opened-marked : marked_from u default text c ≡ all_marked u method default (lines_from at (drop at text))
   opened-marked = rw (opened-lines, q.opened.composes) (ap (all_marked u method default) opened-text)
-
--- the state that `open` returns
-pub opened : (u : Rule) (method : Method) (default a : Alignment) (text : List ℕ) (at glyphs : ℕ) (w : WordWrapper)
-    → glyphs ≡ length (until_head (rest text (at + 1))) → w ≡ new_wrapper u → a ≡ resolved (alignment_of (get_or text at 0)) default
-    → Opened u method default text at (record { method = method; wrapper = w; from = at + 1; to = at + 1 + glyphs; alignment = a })
-opened u method default a text at glyphs w e f g =
-    record { composes = refl; wrapper = f; from = refl; to = rw (e, rest-drops text (at + 1)); alignment = g }

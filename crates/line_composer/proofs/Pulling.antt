@@ -1,12 +1,13 @@
 -- Laws of the loop of `next`: the current text line gives its next line, or the next text line is opened.
-use Prim.Native.Nat.{ℕ, ◌+◌, ◌-◌, ◌^◌, ◌≤◌, ◌<◌}
+use Prim.Native.Nat.{ℕ, ◌-◌, ◌≤◌, ◌<◌}
 use mathlib.Core.Path.{◌≡◌, refl, sym, ap, ◌∙◌}
 use mathlib.Core.Bool.{Bool, true, false, cond, not}
 use mathlib.Core.List.{List, [], ◌∷◌, ◌++◌}
 use native.Mathlib.Omega.{arith}
 use borrow.Author.Tests.{eq-eqb, ne_eqb}
 use lib.Dec.{eqb}
-use lib.ListN.{length, take, drop, length-take, length-drop, drop_of_length-le}
+use lib.ListN.{length, take, drop, drop_of_length-le}
+use Rattle.std.specs.Prelude.{Option, Some, None}
 use Rattle.text.specs.declared.Alignment.{Alignment}
 use Rattle.text.specs.declared.Alignment.TheVariants.{Left}
 use Rattle.text.specs.Line.{lines_from, Opens}
@@ -14,14 +15,11 @@ use Rattle.text.proofs.TextLines.{opens-start}
 use Rattle.wrapping.specs.declared.Run.{Run}
 use Rattle.wrapping.specs.declared.Rule.{Rule}
 use Rattle.word_wrapper.specs.declared.WordWrapper.{WordWrapper}
-use Rattle.word_wrapper.specs.declared.NextRun.{NextRun}
-use Rattle.word_wrapper.specs.declared.NextRun.TheVariants.{OneRun, Done as NoLine}
 use Rattle.word_wrapper.specs.StepsExtra.{new_wrapper, close_run}
 use Rattle.wrapping.specs.RunsExtra.{Spans}
 use Rattle.line_composer.specs.declared.Method.{Method}
 use Rattle.line_composer.specs.declared.WrappedLine.{WrappedLine}
 use Rattle.line_composer.specs.declared.LineComposer.{LineComposer}
-use Rattle.line_composer.specs.declared.NextLine.TheVariants.{OneLine as Pulls, Done}
 use Rattle.line_composer.specs.Lines.{Line, all_lines, lines, line_at}
 use Rattle.line_composer.specs.Marks.{MarkedLine, with_mark, marked, all_marked, marked_lines}
 use Rattle.line_composer.specs.ComposingExtra.{part, line_of_run, current_left, later_lines, remaining_lines, remaining_marked, Ready, Opened, Started, PulledLine}
@@ -51,12 +49,6 @@ unfolding waiting
 composing_starts u default text s r =
     record { ready = r; same = refl; forward = omega arith; same_marked = λ before. rw (eq-eqb s.from s.from refl) }
 
-part_length : (from to : ℕ) (text : List ℕ) → length (take (to - from) (drop from text)) ≤ length text - from
-part_length from to text = omega (arith, length-take (to - from) (drop from text), length-drop from text)
-
-pub part_short : (from to : ℕ) (text : List ℕ) → length text < 2 ^ 28 → length (take (to - from) (drop from text)) < 2 ^ 28
-part_short from to text h = omega (arith, part_length from to text)
-
 -- The current text line has another line, or none; `before` is of it if `same` is true, else of an earlier one.
 mark_line : (same : Bool) (before line : Line) (rest : List Line) (later : List MarkedLine)
     → cond same (marked (before ∷ line ∷ rest) ++ later) (with_mark before true ∷ (marked (line ∷ rest) ++ later)) ≡ with_mark before (not same) ∷ (marked (line ∷ rest) ++ later)
@@ -68,22 +60,16 @@ mark-last : (same : Bool) (before : Line) (later : List MarkedLine)
 mark-last true before later = refl
 mark-last false before later = refl
 
-module _ (u : Rule) (default : Alignment) (text : List ℕ) (s c : LineComposer) (p : Composing u default text s c) (o : NextRun) (q : PulledMethodRun u c.method c.alignment (part text c) c.wrapper o) where
-  module _ (run : Run) (n : WordWrapper) (e : o ≡ OneRun run n) where
+module _ (u : Rule) (default : Alignment) (text : List ℕ) (s c : LineComposer) (p : Composing u default text s c) (o : Option Run) (n : WordWrapper) (q : PulledMethodRun u c.method c.alignment (part text c) c.wrapper o n) where
+  module _ (run : Run) (e : o ≡ Some run) where
     sound : MethodInvariant u c.method (part text c) n × Spans u (part text c) run
     sound = rw e at q.sound
 
     spans : Spans u (part text c) run
     spans = sound.1
 
-    pub first_fits : length text < 2 ^ 28 → c.from + run.first < 2 ^ 64
-    first_fits h = omega (arith, spans.within, spans.ordered, part_length c.from c.to text, p.ready.from_to, p.ready.to_end)
-
-    pub end_fits : length text < 2 ^ 28 → c.from + run.end < 2 ^ 64
-    end_fits h = omega (arith, spans.within, part_length c.from c.to text, p.ready.from_to, p.ready.to_end)
-
     pub pull_line : (line : WrappedLine) → line ≡ line_of_run c.from c.alignment run
-        → PulledLine u default text s (Pulls line (record { method = c.method; wrapper = n; from = c.from; to = c.to; alignment = c.alignment }))
+        → PulledLine u default text s (Some line) (record { method = c.method; wrapper = n; from = c.from; to = c.to; alignment = c.alignment })
     unfolding remaining_lines remaining_marked waiting
     pull_line line f =
         let r : line_runs u c.method c.alignment (part text c) c.wrapper ≡ run ∷ line_runs u c.method c.alignment (part text c) n = rw e at q.lines in
@@ -100,7 +86,7 @@ module _ (u : Rule) (default : Alignment) (text : List ℕ) (s c : LineComposer)
           );
         }
 
-  module _ (e : o ≡ NoLine) where
+  module _ (e : o ≡ None) where
     later-left : remaining_lines u default text c ≡ all_lines u c.method default (later_lines text c)
     unfolding remaining_lines
     later-left = let r : line_runs u c.method c.alignment (part text c) c.wrapper ≡ [] = rw e at q.lines in rw r
@@ -111,35 +97,40 @@ module _ (u : Rule) (default : Alignment) (text : List ℕ) (s c : LineComposer)
         let r : line_runs u c.method c.alignment (part text c) c.wrapper ≡ [] = rw e at q.lines in
         rw r (mark-last (eqb c.from s.from) before (all_marked u c.method default (later_lines text c)))
 
-    pub pull_done : length text ≤ c.to → PulledLine u default text s Done
+    pub pull_done : length text ≤ c.to → PulledLine u default text s None (record { method = c.method; wrapper = n; from = c.from; to = c.to; alignment = c.alignment })
+    unfolding remaining_lines
     pull_done h =
         let z : drop c.to text ≡ [] = drop_of_length-le text h in
+        let r : MethodInvariant u c.method (part text c) n × (line_runs u c.method c.alignment (part text c) n ≡ []) = rw e at q.sound in
         record {
           pulled-lines = p.same ∙ later-left ∙ ap (λ (l : List ℕ). all_lines u c.method default (lines_from c.to l)) z;
           pulled-marked = λ before.
               p.same_marked before ∙ later-marked before ∙ ap (λ (l : List ℕ). with_mark before true ∷ all_marked u c.method default (lines_from c.to l)) z;
-          ready = tt;
+          ready = (
+            record { from_to = p.ready.from_to; to_end = p.ready.to_end; sound = r.0; head = p.ready.head },
+            rw (r.1, z),
+          );
         }
 
-    module _ (n : LineComposer) (k : c.to < length text) (f : Opened u c.method default text c.to n) where
-      opened_next : OpenedInText u c.method default text c.to n
+    module _ (m : LineComposer) (k : c.to < length text) (f : Opened u c.method default text c.to m) where
+      opened_next : OpenedInText u c.method default text c.to m
       opened_next = record { in_text = k; at_head = record { within = p.ready.to_end; head = p.ready.head }; opened = f }
 
-      pub composing_opens : Composing u default text s n
+      pub composing_opens : Composing u default text s m
       unfolding waiting
       composing_opens =
-          let further : n.from ≡ s.from → ⊥ = λ k. omega (arith, f.from, p.forward, p.ready.from_to) in
+          let further : m.from ≡ s.from → ⊥ = λ k. omega (arith, f.from, p.forward, p.ready.from_to) in
           record {
-            ready = opened-ready u c.method default text c.to n opened_next;
-            same = p.same ∙ later-left ∙ sym (opened-left u c.method default text c.to n opened_next);
+            ready = opened-ready u c.method default text c.to m opened_next;
+            same = p.same ∙ later-left ∙ sym (opened-left u c.method default text c.to m opened_next);
             forward = omega (arith, f.from, p.forward, p.ready.from_to);
             same_marked = λ before.
                 p.same_marked before ∙ later-marked before
-                ∙ rw (ne_eqb n.from s.from further, opened-marked u c.method default text c.to n opened_next);
+                ∙ rw (ne_eqb m.from s.from further, opened-marked u c.method default text c.to m opened_next);
           }
 
-      pub composing_less : length text - n.to < length text - c.to
-      composing_less = omega (arith, opened_more u c.method default text c.to n opened_next)
+      pub composing_less : length text - m.to < length text - c.to
+      composing_less = omega (arith, opened_more u c.method default text c.to m opened_next)
 
 pub ruleset composing = (composing_starts, pull_line, pull_done, composing_opens, composing_less)
 

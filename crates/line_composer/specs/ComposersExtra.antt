@@ -1,12 +1,10 @@
 -- Not in the papers: composing one text line: its remaining lines, and what `next_line` returns.
-use Rattle.std.specs.Prelude.{ℕ, ◌≡◌, cond, List, [], ◌∷◌}
+use Rattle.std.specs.Prelude.{ℕ, ◌≡◌, cond, List, [], ◌∷◌, Option, Some, None}
 use Rattle.text.specs.declared.Alignment.{Alignment}
 use Rattle.text.specs.Line.{numbered}
 use Rattle.wrapping.specs.declared.Run.{Run}
 use Rattle.wrapping.specs.declared.Rule.{Rule}
 use Rattle.word_wrapper.specs.declared.WordWrapper.{WordWrapper}
-use Rattle.word_wrapper.specs.declared.NextRun.{NextRun}
-use Rattle.word_wrapper.specs.declared.NextRun.TheVariants.{OneRun, Done}
 use Rattle.wrapping.specs.RunsExtra.{run_of, Spans}
 use Rattle.word_wrapper.specs.PullsExtra.{WrapperInvariant, runs}
 use Rattle.line_truncator.specs.Truncation.{offset_of, shown_from}
@@ -24,17 +22,17 @@ abbrev pub MethodInvariant : Rule → Method → List ℕ → WordWrapper → Ty
 MethodInvariant u WordWrap records w = WrapperInvariant u records w
 MethodInvariant u (Truncate column) records w = Unit {0}
 
--- the line that `next_line` returns, and the lines remaining after it
-abbrev pub pulled_runs : Rule → Method → Alignment → List ℕ → NextRun → List Run
-pulled_runs u method alignment records (OneRun run w) = run ∷ line_runs u method alignment records w
-pulled_runs u method alignment records Done = []
+-- the line that `next_line` returns, and the lines remaining in the state that it leaves
+abbrev pub pulled_runs : Rule → Method → Alignment → List ℕ → Option Run → WordWrapper → List Run
+pulled_runs u method alignment records (Some run) w = run ∷ line_runs u method alignment records w
+pulled_runs u method alignment records None w = []
 
--- what holds after `next_line`: the invariant, and the returned line lies in the text line
-abbrev pub NextMethodRunInvariant : Rule → Method → List ℕ → NextRun → Type 0
-NextMethodRunInvariant u method records (OneRun run w) = MethodInvariant u method records w × Spans u records run
-NextMethodRunInvariant u method records Done = Unit {0}
+-- what holds after `next_line`: the invariant, and the returned line lies in the text line, or no line remains
+abbrev pub NextMethodRunInvariant : Rule → Method → Alignment → List ℕ → Option Run → WordWrapper → Type 0
+NextMethodRunInvariant u method alignment records (Some run) w = MethodInvariant u method records w × Spans u records run
+NextMethodRunInvariant u method alignment records None w = MethodInvariant u method records w × (line_runs u method alignment records w ≡ [])
 
--- `next_line` returns the first of the remaining lines, and a state with the others
-pub record PulledMethodRun (u : Rule) (method : Method) (alignment : Alignment) (records : List ℕ) (w : WordWrapper) (next : NextRun) : Type 0 where
-  pub lines : line_runs u method alignment records w ≡ pulled_runs u method alignment records next
-  pub sound : NextMethodRunInvariant u method records next
+-- `next_line` returns the first of the remaining lines of the state w, and leaves a state with the others
+pub record PulledMethodRun (u : Rule) (method : Method) (alignment : Alignment) (records : List ℕ) (w : WordWrapper) (next : Option Run) (left : WordWrapper) : Type 0 where
+  pub lines : line_runs u method alignment records w ≡ pulled_runs u method alignment records next left
+  pub sound : NextMethodRunInvariant u method alignment records next left

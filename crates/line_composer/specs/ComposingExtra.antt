@@ -1,5 +1,5 @@
 -- Not in the papers: the state of composing a text, its remaining lines, and what `next` returns.
-use Rattle.std.specs.Prelude.{ℕ, ◌+◌, ◌-◌, ◌<◌, ◌≤◌, ◌≡◌, true, cond, not, eqb, List, [], ◌∷◌, ◌++◌, map, length, get_or, take, drop}
+use Rattle.std.specs.Prelude.{ℕ, ◌+◌, ◌-◌, ◌<◌, ◌≤◌, ◌≡◌, true, cond, not, eqb, List, [], ◌∷◌, ◌++◌, map, length, get_or, take, drop, Option, Some, None}
 use Rattle.text.specs.declared.Alignment.{Alignment}
 use Rattle.text.specs.Record.{is_head, alignment_of}
 use Rattle.text.specs.Alignment.{resolved}
@@ -9,8 +9,6 @@ use Rattle.wrapping.specs.declared.Rule.{Rule}
 use Rattle.word_wrapper.specs.StepsExtra.{new_wrapper}
 use Rattle.line_composer.specs.declared.WrappedLine.{WrappedLine}
 use Rattle.line_composer.specs.declared.LineComposer.{LineComposer}
-use Rattle.line_composer.specs.declared.NextLine.{NextLine}
-use Rattle.line_composer.specs.declared.NextLine.TheVariants.{OneLine, Done}
 use Rattle.line_composer.specs.declared.Method.{Method}
 use Rattle.line_composer.specs.ComposersExtra.{line_runs, MethodInvariant}
 use Rattle.line_composer.specs.Lines.{Line, all_lines, lines, wrapped_line_of, line_at}
@@ -70,22 +68,24 @@ pub record ReadsBack (u : Rule) (text : List ℕ) (line : WrappedLine) : Type 0 
   pub within : line.end ≤ length text
   pub ordered : line.first ≤ line.end
 
-abbrev pub pulled_lines : Rule → Alignment → List ℕ → NextLine → List Line
-pulled_lines u default text (OneLine line c) = line_at u text line ∷ remaining_lines u default text c
-pulled_lines u default text Done = []
+-- the line that `next` returns, and the lines remaining in the state that it leaves
+abbrev pub pulled_lines : Rule → Alignment → List ℕ → Option WrappedLine → LineComposer → List Line
+pulled_lines u default text (Some line) left = line_at u text line ∷ remaining_lines u default text left
+pulled_lines u default text None left = []
 
 -- the line returned last, `before`, is the last of its text line if the next one is of another text line, or there is none
-abbrev pub pulled_marked : Rule → Alignment → List ℕ → LineComposer → Line → NextLine → List MarkedLine
-pulled_marked u default text c before (OneLine line d) = with_mark before (not (eqb d.from c.from)) ∷ remaining_marked u default text (line_at u text line) d
-pulled_marked u default text c before Done = with_mark before true ∷ []
+abbrev pub pulled_marked : Rule → Alignment → List ℕ → LineComposer → Line → Option WrappedLine → LineComposer → List MarkedLine
+pulled_marked u default text c before (Some line) left = with_mark before (not (eqb left.from c.from)) ∷ remaining_marked u default text (line_at u text line) left
+pulled_marked u default text c before None left = with_mark before true ∷ []
 
-abbrev pub ReadyPull : Rule → List ℕ → NextLine → Type 0
-ReadyPull u text (OneLine line c) = Ready u text c × ReadsBack u text line
-ReadyPull u text Done = Unit {0}
+-- what holds after `next`: the invariant, and the returned line reads back, or no line remains
+abbrev pub ReadyPull : Rule → Alignment → List ℕ → Option WrappedLine → LineComposer → Type 0
+ReadyPull u default text (Some line) left = Ready u text left × ReadsBack u text line
+ReadyPull u default text None left = Ready u text left × (remaining_lines u default text left ≡ [])
 
--- `next` returns the first of the remaining lines, and a state with the others; the states before and after it tell the mark of the line
--- returned before
-pub record PulledLine (u : Rule) (default : Alignment) (text : List ℕ) (c : LineComposer) (pull : NextLine) : Type 0 where
-  pub pulled-lines : remaining_lines u default text c ≡ pulled_lines u default text pull
-  pub pulled-marked : (before : Line) → remaining_marked u default text before c ≡ pulled_marked u default text c before pull
-  pub ready : ReadyPull u text pull
+-- `next` returns the first of the remaining lines of the state c, and leaves a state with the others; the states before and after it
+-- tell the mark of the line returned before
+pub record PulledLine (u : Rule) (default : Alignment) (text : List ℕ) (c : LineComposer) (next : Option WrappedLine) (left : LineComposer) : Type 0 where
+  pub pulled-lines : remaining_lines u default text c ≡ pulled_lines u default text next left
+  pub pulled-marked : (before : Line) → remaining_marked u default text before c ≡ pulled_marked u default text c before next left
+  pub ready : ReadyPull u default text next left

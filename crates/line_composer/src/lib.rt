@@ -7,7 +7,7 @@ ghost use Rattle.line_composer.specs.ComposersExtra.{MethodInvariant, PulledMeth
 ghost use Rattle.line_composer.specs.ComposingExtra.{line_of_run, Ready, Opened, Started, PulledLine};
 
 use text::{Alignment, head, line};
-use word_wrapper::{NextRun, WordWrapper};
+use word_wrapper::WordWrapper;
 use wrapping::{Rule, Run};
 
 // A composed line: its first record, one past its last, its width and its alignment (reflow.rs: `WrappedLine`).
@@ -44,15 +44,9 @@ pub struct LineComposer {
     pub alignment: Alignment,
 }
 
-// The next composed line of a text and the state after it, or none.
-#[derive(Clone, Copy)]
-pub enum NextLine {
-    OneLine(WrappedLine, LineComposer),
-    Done,
-}
-
 // Converts a run of the text line whose first glyph is record `from` to record numbers of the whole text. All composed lines are
 // made here.
+#[tactic(auto, unfolding(crate::specs::ComposingExtra::line_of_run))]
 fn wrapped_line(from: usize, alignment: Alignment, run: Run) -> WrappedLine
     requires { (from + run.first < 2 ^ 64) × (from + run.end < 2 ^ 64) }
     ensures { result ≡ line_of_run from alignment run }
@@ -73,26 +67,27 @@ fn wrapped_line(from: usize, alignment: Alignment, run: Run) -> WrappedLine
     }
 }
 
-// Returns the next composed line of the text line with these records, or none (reflow.rs: `LineComposer::next_line`).
+// Returns the next composed line of the text line with these records, or none, and then none remains (reflow.rs:
+// `LineComposer::next_line`).
 fn next_line(
     method: Method,
-    wrapper: WordWrapper,
+    wrapper: &mut WordWrapper,
     rule: Rule,
     alignment: Alignment,
     records: &[u32],
-) -> NextRun
-    requires method_invariant { MethodInvariant rule method records.now wrapper }
+) -> Option<Run>
+    requires method_invariant { MethodInvariant rule method records.now wrapper.old }
     requires few_records { FewRecords records.now }
-    ensures { PulledMethodRun rule method alignment records.now wrapper result }
+    ensures { PulledMethodRun rule method alignment records.now wrapper.old result wrapper.new }
 {
     match method {
         Method::WordWrap => wrapper.next_line(rule, records),
         Method::Truncate(column) => {
             if wrapper.live {
-                let line = line_truncator::truncate_line(rule, column, alignment, records);
-                return NextRun::OneRun(line, wrapper.close());
+                wrapper.close();
+                return Some(line_truncator::truncate_line(rule, column, alignment, records));
             }
-            NextRun::Done
+            None
         }
     }
 }
@@ -103,7 +98,8 @@ impl LineComposer {
         requires { Opens text.now }
         ensures { Started rule method text.now result }
     {
-        let wrapper = WordWrapper::new(rule).close();
+        let mut wrapper = WordWrapper::new(rule);
+        wrapper.close();
         LineComposer {
             method,
             wrapper,
@@ -113,61 +109,42 @@ impl LineComposer {
         }
     }
 
-    // Returns the state at the start of the text line whose head is at `at`.
-    fn open(self, rule: Rule, default_alignment: Alignment, text: &[u32], at: usize) -> LineComposer
+    // Moves to the start of the text line whose head is at `at`.
+    fn open(&mut self, rule: Rule, default_alignment: Alignment, text: &[u32], at: usize)
         requires { at < length text.now }
-        ensures { Opened rule self.method default_alignment text.now at result }
+        ensures { Opened rule self.old.method default_alignment text.now at self.new }
     {
         let from = at + 1;
         let glyphs = line::line_length(&text[from..]);
-        let to = from + glyphs;
-        let method = self.method;
-        let wrapper = WordWrapper::new(rule);
-        let alignment = head::resolve(text[at], default_alignment);
-        LineComposer {
-            method,
-            wrapper,
-            from,
-            to,
-            alignment,
-        }
+        self.wrapper = WordWrapper::new(rule);
+        self.from = from;
+        self.to = from + glyphs;
+        self.alignment = head::resolve(text[at], default_alignment);
     }
 
-    // Returns the next composed line of the text, or none.
-    pub fn next(self, rule: Rule, default_alignment: Alignment, text: &[u32]) -> NextLine
-        requires ready { Ready rule text.now self }
+    // Returns the next composed line of the text, or none, and then none remains.
+    pub fn next(
+        &mut self,
+        rule: Rule,
+        default_alignment: Alignment,
+        text: &[u32],
+    ) -> Option<WrappedLine>
+        requires ready { Ready rule text.now self.old }
         requires few_records { FewRecords text.now }
-        ensures { PulledLine rule default_alignment text.now self result }
+        ensures { PulledLine rule default_alignment text.now self.old result self.new }
     {
-        let mut composer = self;
         loop {
-            let from = composer.from;
-            let to = composer.to;
-            let alignment = composer.alignment;
-            let method = composer.method;
-            let wrapper = composer.wrapper;
-            let NextRun::OneRun(run, next) = next_line(
-                method,
-                wrapper,
-                rule,
-                alignment,
-                &text[from..to],
-            ) else {
-                if text.len() <= to {
-                    return NextLine::Done;
-                }
-                composer = composer.open(rule, default_alignment, text, to);
-                continue;
-            };
-            let line = wrapped_line(from, alignment, run);
-            let rest = LineComposer {
-                method,
-                wrapper: next,
-                from,
-                to,
-                alignment,
-            };
-            return NextLine::OneLine(line, rest);
+            let from = self.from;
+            let to = self.to;
+            let alignment = self.alignment;
+            let records = &text[from..to];
+            if let Some(run) = next_line(self.method, &mut self.wrapper, rule, alignment, records) {
+                return Some(wrapped_line(from, alignment, run));
+            }
+            if text.len() <= to {
+                return None;
+            }
+            self.open(rule, default_alignment, text, to);
         }
     }
 }

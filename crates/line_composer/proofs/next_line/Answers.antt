@@ -2,9 +2,6 @@
 use Rattle.line_composer.proofs.Composers.{pulling-lines}
 use Rattle.line_composer.proofs.next_line.Goals as goal
 
-pub next_line-requires-clause-wrapper_invariant : goal.next_line-requires-clause-wrapper_invariant
-next_line-requires-clause-wrapper_invariant c = search pulling-lines
-
 pub returns-then-wrapper : goal.returns-then-wrapper
 returns-then-wrapper c = search pulling-lines
 
