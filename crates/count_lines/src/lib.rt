@@ -6,7 +6,7 @@ ghost use Rattle.text.specs.Line.{Opens, FewRecords};
 ghost use Rattle.line_composer.specs.declared.Method.TheVariants.{WordWrap};
 ghost use Rattle.line_composer.specs.Lines.{lines};
 
-use line_composer::{LineComposer, Method, NextLine};
+use line_composer::{LineComposer, Method};
 use text::Alignment;
 use wrapping::Rule;
 
@@ -16,11 +16,8 @@ pub fn count_lines(rule: Rule, default_alignment: Alignment, text: &[u32]) -> us
 {
     let mut composer = LineComposer::new(rule, Method::WordWrap, text);
     let mut count = 0;
-    loop {
-        let NextLine::OneLine(_, next) = composer.next(rule, default_alignment, text) else {
-            return count;
-        };
-        composer = next;
+    while let Some(_) = composer.next(rule, default_alignment, text) {
         count += 1;
     }
+    count
 }

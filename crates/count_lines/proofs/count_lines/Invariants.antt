@@ -4,8 +4,8 @@ use Rattle.line_composer.specs.ComposingExtra.{remaining_lines}
 use Rattle.count_lines.proofs.Counting.{Counting}
 use Rattle.count_lines.proofs.count_lines.Given as goal
 
-abbrev pub invariant-loop-next : goal.invariant-loop-next
-invariant-loop-next l = Counting l.rule l.default_alignment l.text l.composer l.count
+abbrev pub invariant-loop-count : goal.invariant-loop-count
+invariant-loop-count l = Counting l.rule l.default_alignment l.text l.composer l.count
 
-abbrev pub decreases-loop-next : goal.decreases-loop-next
-decreases-loop-next l = length (remaining_lines l.rule l.default_alignment l.text l.composer)
+abbrev pub decreases-loop-count : goal.decreases-loop-count
+decreases-loop-count l = length (remaining_lines l.rule l.default_alignment l.text l.composer)
