@@ -4,17 +4,15 @@ use mathlib.Core.Path.{◌≡◌, sym, ap, ◌∙◌}
 use mathlib.Core.List.{List, [], ◌∷◌}
 use native.Mathlib.Omega.{arith}
 use lib.ListN.{length}
+use Rattle.std.specs.Prelude.{Some, None}
 use Rattle.text.specs.declared.Alignment.{Alignment}
 use Rattle.wrapping.specs.declared.Rule.{Rule}
 use Rattle.line_composer.specs.declared.WrappedLine.{WrappedLine}
 use Rattle.line_composer.specs.declared.LineComposer.{LineComposer}
-use Rattle.line_composer.specs.declared.NextLine.{NextLine}
-use Rattle.line_composer.specs.declared.NextLine.TheVariants.{OneLine, Done}
 use Rattle.line_composer.specs.declared.Method.TheVariants.{WordWrap}
 use Rattle.line_composer.specs.Lines.{lines, line_at}
 use Rattle.line_composer.specs.ComposingExtra.{remaining_lines, Started, ReadsBack, PulledLine}
 use Rattle.line_composer.specs.Places.{starts}
-use Rattle.line_composer.proofs.Pulled.{pulled-left, pulled_reads_back}
 use Rattle.line_composer.proofs.Bounds.{lines-short}
 use Rattle.count_lines.proofs.Counting.{Counting, counting_starts, counting_goes, counting_less}
 use Rattle.tally_lines.specs.declared.LineCounts.{LineCounts}
@@ -48,10 +46,10 @@ summing_starts u default text c counts h s e =
       same = none-sum (line_counts u.limit (remaining_lines u default text c)) ∙ ap (line_counts u.limit) (s.lines_left default);
     })
 
-module _ (u : Rule) (default : Alignment) (text : List ℕ) (c : LineComposer) (counts : LineCounts) (s : Summing u default text c counts) (o : NextLine) (p : PulledLine u default text c o) where
-  module _ (line : WrappedLine) (d : LineComposer) (e : o ≡ OneLine line d) where
+module _ (u : Rule) (default : Alignment) (text : List ℕ) (c d : LineComposer) (counts : LineCounts) (s : Summing u default text c counts) where
+  module _ (line : WrappedLine) (p : PulledLine u default text c (Some line) d) where
     reads_back : ReadsBack u text line
-    reads_back = pulled_reads_back u default text c o p line d e
+    reads_back = p.ready.1
 
     -- the line's records are within the text
     pub line-ordered : line.first ≤ line.end
@@ -61,14 +59,14 @@ module _ (u : Rule) (default : Alignment) (text : List ℕ) (c : LineComposer) (
     line-within = reads_back.within
 
     pub summing_less : length (remaining_lines u default text d) < length (remaining_lines u default text c)
-    summing_less = counting_less u default text c counts.lines s.counting_on o p line d e
+    summing_less = counting_less u default text c d counts.lines s.counting_on line p
 
     module _ (one : LineCounts) (f : one ≡ line_counts u.limit (line_at u text line ∷ [])) where
       -- the sum so far, the line's counts and those of the remaining lines are those of all lines
       parts : sum counts (sum one (line_counts u.limit (remaining_lines u default text d))) ≡ line_counts u.limit (lines u WordWrap default text)
       parts =
           ap (sum counts)
-          (rw f (sym (first-line u.limit (line_at u text line) (remaining_lines u default text d)) ∙ ap (line_counts u.limit) (sym (pulled-left u default text c o p line d e))))
+          (rw f (sym (first-line u.limit (line_at u text line) (remaining_lines u default text d)) ∙ ap (line_counts u.limit) (sym p.pulled-lines)))
           ∙ s.same
 
       fits : (counts.lines + one.lines < 2 ^ 28)
@@ -95,14 +93,14 @@ module _ (u : Rule) (default : Alignment) (text : List ℕ) (c : LineComposer) (
           rw g
           (record {
             short = s.short;
-            counting_on = rw n (counting_goes u default text c counts.lines s.counting_on o p line d e);
+            counting_on = rw n (counting_goes u default text c d counts.lines s.counting_on line p);
             same = sum_assoc counts one (line_counts u.limit (remaining_lines u default text d)) ∙ parts;
           })
 
-  pub summing_done : o ≡ Done → counts ≡ line_counts u.limit (lines u WordWrap default text)
+  pub summing_done : PulledLine u default text c None d → counts ≡ line_counts u.limit (lines u WordWrap default text)
   unfolding line_counts
-  summing_done e =
-      let z : remaining_lines u default text c ≡ [] = rw e at p.pulled-lines in
+  summing_done p =
+      let z : remaining_lines u default text c ≡ [] = p.pulled-lines in
       sym (sum-none counts) ∙ rw z at s.same
 
 pub ruleset summing = (summing_starts, line-ordered, line-within, summing_less, lines_fit, placed_fit, clipped_fit, zero_width_fit, summing_goes, summing_done)

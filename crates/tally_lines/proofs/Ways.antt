@@ -1,4 +1,4 @@
--- An emitted glyph is exactly one of zero-width, placed and clipped; and one law for each path through `with_glyph`.
+-- An emitted glyph is exactly one of zero-width, placed and clipped.
 use Prim.Native.Nat.{ℕ, ◌+◌}
 use mathlib.Core.Path.{◌≡◌, refl, ap}
 use mathlib.Core.Bool.{Bool, true, false}
@@ -10,11 +10,9 @@ use Rattle.text.specs.Lists.{count_of}
 use Rattle.text.specs.Line.{Start}
 use Rattle.place.specs.declared.Place.{Place}
 use Rattle.place.specs.declared.Place.TheVariants.{ZeroWidth, Placed, Halved, Outside}
-use Rattle.place.specs.Place.{place_of, counts_as_placed, counts_as_clipped}
+use Rattle.place.specs.Place.{counts_as_placed, counts_as_clipped}
 use Rattle.place.proofs.Places.{by_place}
 use Rattle.line_composer.specs.Places.{place_in, is_placed, is_clipped, is_zero_width}
-use Rattle.tally_lines.specs.declared.LineCounts.{LineCounts}
-use Rattle.tally_lines.specs.TallyingExtra.{with_glyph}
 
 -- the place of a glyph, and the results of the three tests on it
 pub record Becomes (limit : ℕ) (s : Start) (place : Place) (zero-width is-placed is-clipped : Bool) : Type 0 where
@@ -62,26 +60,3 @@ all_counted limit (s ∷ ss) =
     (λ b. simp (b.of_zero_width, b.of_placed, b.of_clipped) (omega arith))
     (λ b. simp (b.of_zero_width, b.of_placed, b.of_clipped) (omega arith))
     (λ b. simp (b.of_zero_width, b.of_placed, b.of_clipped) (omega arith))
-
-module _ (c : LineCounts) (limit column w : ℕ) (p : Place) (k : p ≡ place_of limit column w) where
-  pub with_zero : p ≡ ZeroWidth
-      → record { lines = c.lines; placed = c.placed; clipped = c.clipped; zero_width = c.zero_width + 1 } ≡ with_glyph c (place_of limit column w)
-  unfolding with_glyph
-  with_zero e = rw (← k, e) refl
-
-  pub with_placed : p ≡ Placed
-      → record { lines = c.lines; placed = c.placed + 1; clipped = c.clipped; zero_width = c.zero_width } ≡ with_glyph c (place_of limit column w)
-  unfolding with_glyph
-  with_placed e = rw (← k, e) refl
-
-  pub with_halved : p ≡ Halved
-      → record { lines = c.lines; placed = c.placed; clipped = c.clipped + 1; zero_width = c.zero_width } ≡ with_glyph c (place_of limit column w)
-  unfolding with_glyph
-  with_halved e = rw (← k, e) refl
-
-  pub with_outside : p ≡ Outside
-      → record { lines = c.lines; placed = c.placed; clipped = c.clipped + 1; zero_width = c.zero_width } ≡ with_glyph c (place_of limit column w)
-  unfolding with_glyph
-  with_outside e = rw (← k, e) refl
-
-pub ruleset with-ways = (with_zero, with_placed, with_halved, with_outside)

@@ -9,7 +9,7 @@ ghost use Rattle.line_composer.specs.declared.Method.TheVariants.{WordWrap};
 ghost use Rattle.line_composer.specs.Lines.{lines, line_at};
 ghost use Rattle.tally_lines.specs.TallyingExtra.{empty_lines, with_glyph, sum, line_counts};
 
-use line_composer::{LineComposer, Method, NextLine, WrappedLine};
+use line_composer::{LineComposer, Method, WrappedLine};
 use place::Place;
 use text::Alignment;
 use wrapping::Rule;
@@ -36,33 +36,21 @@ impl LineCounts {
         }
     }
 
-    // Returns the counts with one more glyph, of width w, that starts at `column`. A halved glyph is clipped.
-    fn with_glyph(self, limit: usize, column: usize, w: usize) -> LineCounts
-        requires zero_width_bound { self.placed + self.clipped + self.zero_width + 1 < 2 ^ 32 }
+    // Counts one more glyph, of width w, that starts at `column`. A halved glyph is clipped.
+    #[tactic(auto, unfolding(crate::specs::TallyingExtra::with_glyph))]
+    fn add_glyph(&mut self, limit: usize, column: usize, w: usize)
+        requires zero_width_bound { self.old.placed + self.old.clipped + self.old.zero_width + 1 < 2 ^ 32 }
         requires w_bound { column + w < 2 ^ 32 }
-        ensures { result ≡ with_glyph self (place_of limit column w) }
+        ensures { self.new ≡ with_glyph self.old (place_of limit column w) }
     {
-        let mut next = self;
         match Place::of_glyph(limit, column, w) {
-            Place::ZeroWidth => {
-                next.zero_width += 1;
-                next
-            }
-            Place::Placed => {
-                next.placed += 1;
-                next
-            }
-            Place::Halved => {
-                next.clipped += 1;
-                next
-            }
-            Place::Outside => {
-                next.clipped += 1;
-                next
-            }
+            Place::ZeroWidth => self.zero_width += 1,
+            Place::Placed => self.placed += 1,
+            Place::Halved | Place::Outside => self.clipped += 1,
         }
     }
 
+    #[tactic(auto, unfolding(crate::specs::TallyingExtra::sum))]
     fn plus(self, other: LineCounts) -> LineCounts
         requires lines_bound { (self.lines + other.lines < 2 ^ 32) × (self.placed + other.placed < 2 ^ 32) }
         requires clipped_bound { (self.clipped + other.clipped < 2 ^ 32) × (self.zero_width + other.zero_width < 2 ^ 32) }
@@ -82,17 +70,14 @@ fn one_line_counts(rule: Rule, text: &[u32], line: WrappedLine) -> LineCounts
     requires { (line.first ≤ line.end) × (line.end ≤ length text.now) × FewRecords text.now }
     ensures { result ≡ line_counts rule.limit (line_at rule text.now line ∷ []) }
 {
-    let end = line.end;
     let mut counts = LineCounts::empty(1);
     let mut column = 0;
-    let mut i = line.first;
-    while i < end {
+    for i in line.first..line.end {
         let w = rule.width(text[i]) as usize;
-        i += 1;
         if rule.limit < w {
             continue;
         }
-        counts = counts.with_glyph(rule.limit, column, w);
+        counts.add_glyph(rule.limit, column, w);
         column += w;
     }
     counts
@@ -105,11 +90,8 @@ pub fn line_counts(rule: Rule, text: &[u32]) -> LineCounts
 {
     let mut composer = LineComposer::new(rule, Method::WordWrap, text);
     let mut counts = LineCounts::empty(0);
-    loop {
-        let NextLine::OneLine(line, next) = composer.next(rule, Alignment::Left, text) else {
-            return counts;
-        };
-        composer = next;
+    while let Some(line) = composer.next(rule, Alignment::Left, text) {
         counts = counts.plus(one_line_counts(rule, text, line));
     }
+    counts
 }

@@ -6,17 +6,11 @@ use Rattle.tally_lines.proofs.line_counts.Goals as goal
 pub loop-line-init : goal.loop-line-init
 loop-line-init c = search summing
 
-pub returns-in_default : goal.returns-in_default
-returns-in_default c = search summing
-
-pub one_line_counts-requires : goal.one_line_counts-requires
-one_line_counts-requires c = search summing
-
 pub plus-counts-requires : goal.plus-counts-requires
-plus-counts-requires c = record { lines_bound = search (summing, rules); clipped_bound = search (summing, rules) }
-
-pub loop-line-smaller : goal.loop-line-smaller
-loop-line-smaller c = search summing
+plus-counts-requires c = record { lines_bound = search (summing, rules, c.in-Some.ensures); clipped_bound = search (summing, rules, c.in-Some.ensures) }
 
 pub loop-line-preserved : goal.loop-line-preserved
-loop-line-preserved c = search summing
+loop-line-preserved c = search (summing, c.in-Some.ensures)
+
+pub returns : goal.returns
+returns c = search (summing, c.in_default.ensures)

@@ -2,9 +2,6 @@
 use Rattle.tally_lines.proofs.Sums.{placing}
 use Rattle.tally_lines.proofs.one_line_counts.Goals as goal
 
-pub loop-i-init : goal.loop-i-init
-loop-i-init c = search placing
-
 pub loop-i-preserved-then-rule-w : goal.loop-i-preserved-then-rule-w
 loop-i-preserved-then-rule-w c = search placing
 
