@@ -1,7 +1,7 @@
 -- Laws of the loop of `write_lines`: each line that the composer returns is packed and written.
 use Prim.Native.Nat.{ℕ, ◌+◌, ◌*◌, ◌^◌, ◌<◌, ◌≤◌}
 use mathlib.Core.Path.{◌≡◌, refl, sym, ap, ◌∙◌}
-use mathlib.Core.Bool.{Bool, true, not}
+use mathlib.Core.Bool.{Bool, true, false, not, true≢false}
 use mathlib.Core.List.{List, [], ◌∷◌, ◌++◌, map, append-nil, append_assoc}
 use native.Mathlib.Numerals.{add-one}
 use native.Mathlib.Omega.{arith}
@@ -10,17 +10,16 @@ use mir.Syntax.{w64}
 use lib.Dec.{eqb}
 use lib.ListN.{length, take, drop, set, length-set, take-append-drop}
 use lib.Seq.{take-suc-set, drop-set-lt, drop-drop}
+use Rattle.std.specs.Prelude.{Option, Some, None, is_some}
 use Rattle.text.specs.declared.Alignment.{Alignment}
 use Rattle.wrapping.specs.declared.Rule.{Rule}
 use Rattle.line_composer.specs.declared.WrappedLine.{WrappedLine}
 use Rattle.line_composer.specs.declared.LineComposer.{LineComposer}
-use Rattle.line_composer.specs.declared.NextLine.{NextLine}
-use Rattle.line_composer.specs.declared.NextLine.TheVariants.{OneLine, Done}
 use Rattle.line_composer.specs.declared.Method.TheVariants.{WordWrap}
 use Rattle.line_composer.specs.Lines.{lines, wrapped_line_of, line_at}
 use Rattle.line_composer.specs.Marks.{MarkedLine, with_mark, marked_lines}
 use Rattle.line_composer.specs.ComposingExtra.{remaining_lines, remaining_marked, Started, ReadsBack, PulledLine}
-use Rattle.line_composer.proofs.Pulled.{pulled-left, pulled_reads_back, pulled-mark, last-marked, marked-from-first, nothing-marked}
+use Rattle.line_composer.proofs.Pulled.{marked-from-first, nothing-marked}
 use Rattle.line_composer.proofs.Bounds.{Narrow, narrow-lines, lines-short}
 use Rattle.count_lines.proofs.Counting.{Counting, counting_starts, counting_goes, counting_done}
 use Rattle.entry.specs.Entry.{entry_marked, listed}
@@ -47,35 +46,40 @@ pub record Writing (input : WriteInput) (list : List ℕ) (line : WrappedLine) (
   pub short : length input.text < 2 ^ 15
   pub low : input.rule.limit + 11 < 2 ^ 16
 
+-- the list after the call: the entries of all lines, then the old ones
+abbrev pub after : WriteInput → List ℕ
+after input =
+    map listed (marked_lines input.rule WordWrap input.default input.text) ++ drop (length (lines input.rule WordWrap input.default input.text)) input.old
+
+-- as above if there is a next line; if there is none, all entries are written
+abbrev pub WritingNext : WriteInput → List ℕ → Option WrappedLine → LineComposer → ℕ → Type 0
+WritingNext input list (Some line) c n = Writing input list line c n
+WritingNext input list None c n = list ≡ after input
+
 -- the first line, or none
-module _ (input : WriteInput) (c : LineComposer) (s : Started input.rule WordWrap input.text c) (o : NextLine)
-    (p : PulledLine input.rule input.default input.text c o) where
+module _ (input : WriteInput) (c d : LineComposer) (s : Started input.rule WordWrap input.text c) where
   abbrev counting₀ : Counting input.rule input.default input.text c 0
   counting₀ = counting_starts input.rule input.default input.text c s
 
-  pub writing_starts : (line : WrappedLine) (d : LineComposer) → o ≡ OneLine line d
+  pub writing_starts : (o : Option WrappedLine) → PulledLine input.rule input.default input.text c o d
       → length input.text < 2 ^ 15 → input.rule.limit + 11 < 2 ^ 16
-      → length (lines input.rule WordWrap input.default input.text) ≤ length input.old → Writing input input.old line d 0
-  writing_starts line d e short low r =
-      let left = sym (s.lines_left input.default) ∙ pulled-left input.rule input.default input.text c o p line d e in
+      → length (lines input.rule WordWrap input.default input.text) ≤ length input.old → WritingNext input input.old o d 0
+  writing_starts (Some line) p short low r =
+      let left = sym (s.lines_left input.default) ∙ p.pulled-lines in
       record {
-        counting_on = counting_goes input.rule input.default input.text c 0 counting₀ o p line d e;
-        done = ap (map listed) (marked-from-first input.rule input.default input.text c o p WordWrap s line d e);
+        counting_on = counting_goes input.rule input.default input.text c d 0 counting₀ line p;
+        done = ap (map listed) (marked-from-first input.rule input.default input.text c (Some line) d p WordWrap s line refl);
         after = refl;
         same = refl;
         room = r;
-        reads_back = pulled_reads_back input.rule input.default input.text c o p line d e;
+        reads_back = p.ready.1;
         narrow = rw left at (narrow-lines input.rule input.default input.text);
         short = short;
         low = low;
       }
-
-  nothing_written : o ≡ Done →
-      input.old
-      ≡ map listed (marked_lines input.rule WordWrap input.default input.text) ++ drop (length (lines input.rule WordWrap input.default input.text)) input.old
-  nothing_written e =
-      let count = counting_done input.rule input.default input.text c 0 counting₀ o p e in
-      rw (nothing-marked input.rule input.default input.text c o p WordWrap s e, ← count)
+  writing_starts None p short low r =
+      let count = counting_done input.rule input.default input.text c d 0 counting₀ p in
+      rw (nothing-marked input.rule input.default input.text c None d p WordWrap s refl, ← count)
 
 module _ (input : WriteInput) (list : List ℕ) (line : WrappedLine) (c : LineComposer) (n : ℕ) (w : Writing input list line c n) where
   fewer : n < length (lines input.rule WordWrap input.default input.text)
@@ -117,45 +121,45 @@ module _ (input : WriteInput) (list : List ℕ) (line : WrappedLine) (c : LineCo
       drop-set-lt (n + 1) list n v (omega arith)
       ∙ sym (drop-drop 1 n list) ∙ ap (drop 1) w.after ∙ drop-drop 1 n input.old
 
-  module _ (o : NextLine) (p : PulledLine input.rule input.default input.text c o) where
-    module _ (next : WrappedLine) (d : LineComposer) (e : o ≡ OneLine next d) where
-      pub writing_goes : (v : ℕ) → v ≡ entry_marked line (not (eqb d.from c.from)) → Writing input (set list n v) next d (n + 1)
-      writing_goes v f =
-          let left = pulled-left input.rule input.default input.text c o p next d e in
-          record {
-            counting_on = counting_goes input.rule input.default input.text c (n + 1) w.counting_on o p next d e;
-            done = one_more v _ _ f (pulled-mark input.rule input.default input.text c o p next d e (line_at input.rule input.text line));
-            after = kept v;
-            same = length-set list n v ∙ w.same;
-            room = w.room;
-            reads_back = pulled_reads_back input.rule input.default input.text c o p next d e;
-            narrow = rw left at w.narrow.1;
-            short = w.short;
-            low = w.low;
-          }
+  module _ (d : LineComposer) (v : ℕ) where
+    writing_goes : (next : WrappedLine) → PulledLine input.rule input.default input.text c (Some next) d
+        → v ≡ entry_marked line (not (eqb d.from c.from)) → Writing input (set list n v) next d (n + 1)
+    writing_goes next p f =
+        record {
+          counting_on = counting_goes input.rule input.default input.text c d (n + 1) w.counting_on next p;
+          done = one_more v _ _ f (p.pulled-marked (line_at input.rule input.text line));
+          after = kept v;
+          same = length-set list n v ∙ w.same;
+          room = w.room;
+          reads_back = p.ready.1;
+          narrow = rw p.pulled-lines at w.narrow.1;
+          short = w.short;
+          low = w.low;
+        }
 
-    written : o ≡ Done → (v : ℕ) → v ≡ entry_marked line true →
-        set list n v
-        ≡ map listed (marked_lines input.rule WordWrap input.default input.text) ++ drop (length (lines input.rule WordWrap input.default input.text)) input.old
-    written e v f =
+    writing_done : PulledLine input.rule input.default input.text c None d → v ≡ entry_marked line true → set list n v ≡ after input
+    writing_done p f =
         let all = marked_lines input.rule WordWrap input.default input.text in
         let t : take (n + 1) (set list n v) ≡ map listed all =
         sym (append-nil (take (n + 1) (set list n v)))
-        ∙ one_more v true [] f (last-marked input.rule input.default input.text c o p e (line_at input.rule input.text line)) in
-        let k : n + 1 ≡ length (lines input.rule WordWrap input.default input.text) = counting_done input.rule input.default input.text c (n + 1) w.counting_on o p e in
+        ∙ one_more v true [] f (p.pulled-marked (line_at input.rule input.text line)) in
+        let k : n + 1 ≡ length (lines input.rule WordWrap input.default input.text) = counting_done input.rule input.default input.text c d (n + 1) w.counting_on p in
         let rest = kept v in
         sym (take-append-drop (n + 1) (set list n v)) ∙ cc
 
--- the last two with the inputs apart, as `search` finds them
-module _ (u : Rule) (default : Alignment) (text old : List ℕ) (c : LineComposer) (o : NextLine) (p : PulledLine u default text c o) (e : o ≡ Done) where
-  abbrev after : List ℕ
-  after = map listed (marked_lines u WordWrap default text) ++ drop (length (lines u WordWrap default text)) old
+    module _ (none last : Bool) (f : v ≡ entry_marked line last) where
+      -- there is no next line
+      pub writing_ends : (o : Option WrappedLine) → PulledLine input.rule input.default input.text c o d → is_some o ≡ not none
+          → none ≡ true → last ≡ none → WritingNext input (set list n v) o d (n + 1)
+      writing_ends (Some next) p e t l = absurd (true≢false (rw t at e))
+      writing_ends None p e t l = writing_done p (rw (l, t) at f)
 
-  pub writing_none : Started u WordWrap text c → old ≡ after
-  writing_none s = nothing_written (record { rule = u; default = default; text = text; old = old }) c s o p e
+      -- there is one
+      pub writing_on : (o : Option WrappedLine) → PulledLine input.rule input.default input.text c o d → is_some o ≡ not none
+          → none ≡ false → last ≡ not (eqb d.from c.from) → WritingNext input (set list n v) o d (n + 1)
+      writing_on (Some next) p e t l = writing_goes next p (rw l at f)
+      writing_on None p e t l = absurd (true≢false (sym (rw t at e)))
 
-  pub writing_done : (list : List ℕ) (line : WrappedLine) (n : ℕ)
-      → Writing (record { rule = u; default = default; text = text; old = old }) list line c n → (v : ℕ) → v ≡ entry_marked line true → set list n v ≡ after
-  writing_done list line n w = written (record { rule = u; default = default; text = text; old = old }) list line c n w o p e
-
-pub ruleset writing = (writing_starts, writing_room, writing_fits, writing_scaled, fields_fit, writing_goes, writing_none, writing_done)
+pub next-writing : (input : WriteInput) (list : List ℕ) (o : Option WrappedLine) (line : WrappedLine) (c : LineComposer) (n : ℕ)
+    → WritingNext input list o c n → o ≡ Some line → Writing input list line c n
+next-writing input list o line c n w e = rw e at w

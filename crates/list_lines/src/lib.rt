@@ -10,7 +10,7 @@ ghost use Rattle.entry.specs.Entry.{listed};
 ghost use Rattle.list_lines.specs.Call.{call_of, answer_of, list_after};
 
 use check_settings::limits;
-use line_composer::{LineComposer, Method, NextLine};
+use line_composer::{LineComposer, Method};
 use refuse::{ACCEPTED, Refusal, Verdict};
 use text::{Alignment, AmbiguousWidth};
 use wrapping::Rule;
@@ -31,22 +31,16 @@ fn write_lines(rule: Rule, default_alignment: Alignment, text: &[u32], list: &mu
         let all = marked_lines rule WordWrap default_alignment text.now in
         list.new ≡ map listed all ++ drop count list.old }
 {
-    let start = LineComposer::new(rule, Method::WordWrap, text);
-    let NextLine::OneLine(first, opened) = start.next(rule, default_alignment, text) else {
-        return;
-    };
-    let mut line = first;
-    let mut composer = opened;
-    let mut count = 0;
-    loop {
-        let NextLine::OneLine(after, next) = composer.next(rule, default_alignment, text) else {
-            list[count] = entry::pack(line, true);
+    let mut composer = LineComposer::new(rule, Method::WordWrap, text);
+    let mut next = composer.next(rule, default_alignment, text);
+    for item in list {
+        let Some(line) = next else {
             return;
         };
-        list[count] = entry::pack(line, next.from != composer.from);
-        line = after;
-        composer = next;
-        count += 1;
+        let from = composer.from;
+        next = composer.next(rule, default_alignment, text);
+        let last = next.is_none() || composer.from != from;
+        *item = entry::pack(line, last);
     }
 }
 

@@ -1,40 +1,18 @@
 -- `list_lines::write_lines` meets its contract.
-use Rattle.count_lines.proofs.Counting.{counting_less}
-use Rattle.list_lines.proofs.Writing.{writing, fields_fit}
+use Rattle.list_lines.proofs.Writing.{writing_starts, fields_fit, writing_ends, writing_on, next-writing}
 use Rattle.list_lines.proofs.write_lines.Goals as goal
+use Rattle.list_lines.proofs.write_lines.Goals.{then-is_none, else-is_none}
 
-pub returns-in_default : goal.returns-in_default
-returns-in_default c = search writing
-
-pub loop-after-init : goal.loop-after-init
-loop-after-init c = search writing
+pub loop-item-init : goal.loop-item-init
+loop-item-init c = writing_starts _ _ _ c.new-composer.ensures _ c.next-next.ensures c.requires.text_len_bound.0 c.requires.text_len_bound.2 c.requires.text_in_bounds
 
 pub pack-requires : goal.pack-requires
-pack-requires c = search fields_fit
+pack-requires c = fields_fit _ _ _ _ _ (next-writing _ _ _ _ _ _ c.loop-item.invariant c.in-Some.is)
 
-pub offset_bounds-list-count : goal.offset_bounds-list-count
-offset_bounds-list-count c = search writing
-
-pub bounds-list-count : goal.bounds-list-count
-bounds-list-count c = search writing
-
-pub returns-in_default-next : goal.returns-in_default-next
-returns-in_default-next c = search writing
-
-pub pack-requires-in-loop-after : goal.pack-requires-in-loop-after
-pack-requires-in-loop-after c = search fields_fit
-
-pub offset_bounds-list-count-in-loop-after : goal.offset_bounds-list-count-in-loop-after
-offset_bounds-list-count-in-loop-after c = search writing
-
-pub bounds-list-count-in-loop-after : goal.bounds-list-count-in-loop-after
-bounds-list-count-in-loop-after c = search writing
-
-pub overflow_add-count : goal.overflow_add-count
-overflow_add-count c = search writing
-
-pub loop-after-smaller : goal.loop-after-smaller
-loop-after-smaller c = search counting_less
-
-pub loop-after-preserved : goal.loop-after-preserved
-loop-after-preserved c = search writing
+pub loop-item-preserved : goal.loop-item-preserved
+loop-item-preserved c =
+    let line = next-writing _ _ _ _ _ _ c.loop-item.invariant c.in-Some.is in
+    elim c.if-is_none.branch [
+      | then-is_none w ↦ writing_ends _ _ _ _ _ line _ _ _ _ c.pack.ensures _ c.next-next-in-loop-item.ensures c.is_none.ensures w.if-is_none.true w.last-is
+      | else-is_none w ↦ writing_on _ _ _ _ _ line _ _ _ _ c.pack.ensures _ c.next-next-in-loop-item.ensures c.is_none.ensures w.if-is_none.false w.last-is
+    ]
