@@ -74,25 +74,6 @@ written-starts edge column width p b e k t =
 
 -- ---- the counts
 
-module _ (c : GlyphCounts) (p : Place) where
-  pub with_zero : p ≡ ZeroWidth → c ≡ with_place c p
-  unfolding with_place
-  with_zero e = rw e refl
-
-  pub with_placed : p ≡ Placed → record { placed = c.placed + 1; clipped = c.clipped } ≡ with_place c p
-  unfolding with_place
-  with_placed e = rw e refl
-
-  pub with_halved : p ≡ Halved → record { placed = c.placed; clipped = c.clipped + 1 } ≡ with_place c p
-  unfolding with_place
-  with_halved e = rw e refl
-
-  pub with_outside : p ≡ Outside → record { placed = c.placed; clipped = c.clipped + 1 } ≡ with_place c p
-  unfolding with_place
-  with_outside e = rw e refl
-
-pub ruleset with-places = (with_zero, with_placed, with_halved, with_outside)
-
 -- a place adds to the counts that it counts as
 pub place_counts : (c : GlyphCounts) (p : Place)
     → ((with_place c p).placed ≡ c.placed + cond (counts_as_placed p) 1 0) × ((with_place c p).clipped ≡ c.clipped + cond (counts_as_clipped p) 1 0)

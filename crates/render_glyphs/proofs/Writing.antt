@@ -1,6 +1,6 @@
 -- The loop of `write_glyphs`: the glyphs of a line written on its row in turn.
 use Prim.Native.Nat.{ℕ, ◌+◌, ◌*◌, ◌≤◌, ◌<◌, ◌^◌}
-use mathlib.Core.Path.{◌≡◌, refl, sym, ap, ◌∙◌}
+use mathlib.Core.Path.{◌≡◌, refl, sym, ◌∙◌}
 use mathlib.Core.Bool.{Bool, true, false, cond}
 use mathlib.Core.List.{List, [], ◌∷◌}
 use native.Mathlib.Nat.{add-zero, add_assoc}
@@ -17,12 +17,11 @@ use Rattle.text.specs.Record.{width_of}
 use Rattle.text.specs.Line.{Start, numbered, starts_from}
 use Rattle.text.specs.Lists.{count_of}
 use Rattle.wrapping.specs.declared.Rule.{Rule}
-use Rattle.wrapping.specs.declared.GlyphWidth.{GlyphWidth}
-use Rattle.wrapping.specs.declared.GlyphWidth.TheVariants.{Fits, OverWide}
+use Rattle.std.specs.Prelude.{Option, Some, None}
 use Rattle.wrapping.specs.RunsExtra.{fitting_of}
 use Rattle.wrapping.specs.Wrapping.{is_over_wide, not_over_wide}
 use Rattle.buffer.specs.Drawing.{changed, style_at}
-use Rattle.buffer.proofs.Changed.{length-changed, changed-same, changed-none, changed_then}
+use Rattle.buffer.proofs.Changed.{length-changed, changed-none, changed_then}
 use Rattle.wrapping.proofs.Fittings.{fits-read_as, fits-limit, fits-most, over-limit}
 use Rattle.place.specs.declared.Place.{Place}
 use Rattle.place.specs.Place.{place_of}
@@ -136,11 +135,11 @@ module _ (styles : List ℕ) (style text-style : ℕ) (u : Rule) (records old : 
           }
 
     -- what `fitting` answers of record i
-    module _ (g : GlyphWidth) (h : i < length records) (d : g ≡ fitting_of u (get_or records i 0)) where
-      pub writing_over : g ≡ OverWide → Writing styles style text-style u records old row counts column (i + 1)
+    module _ (g : Option ℕ) (h : i < length records) (d : g ≡ fitting_of u (get_or records i 0)) where
+      pub writing_over : g ≡ None → Writing styles style text-style u records old row counts column (i + 1)
       writing_over k = writing_skips h (width_of u.ambiguous (get_or records i 0)) refl (over-limit u (get_or records i 0) g d k)
 
-      module _ (width : ℕ) (k : g ≡ Fits width) where
+      module _ (width : ℕ) (k : g ≡ Some width) where
         pub writing_fits : length records < 2 ^ 28 → column + width < 2 ^ 32
         writing_fits few = omega (arith, fits-most u (get_or records i 0) g d width k, w.near, w.reached)
 

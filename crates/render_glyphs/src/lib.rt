@@ -9,7 +9,7 @@ ghost use Rattle.render_glyphs.specs.WritingExtra.{is_written, symbol_written, c
 use cell::BLANK_SYMBOL;
 use place::Place;
 use text::glyph;
-use wrapping::{GlyphWidth, Rule};
+use wrapping::Rule;
 
 // Counts of the glyphs placed and clipped on a row.
 #[derive(Clone, Copy)]
@@ -19,26 +19,16 @@ pub struct GlyphCounts {
 }
 
 impl GlyphCounts {
-    // Returns the counts with one more glyph. A halved glyph is clipped.
-    fn with_glyph(self, place: Place) -> GlyphCounts
-        requires { self.placed + self.clipped + 1 < 2 ^ 32 }
-        ensures { result ≡ with_place self place }
+    // Counts one more glyph, by its place. A halved glyph is clipped.
+    #[tactic(auto, unfolding(crate::specs::WritingExtra::with_place))]
+    fn add_glyph(&mut self, place: Place)
+        requires { self.old.placed + self.old.clipped + 1 < 2 ^ 32 }
+        ensures { self.new ≡ with_place self.old place }
     {
-        let mut next = self;
         match place {
-            Place::ZeroWidth => next,
-            Place::Placed => {
-                next.placed += 1;
-                next
-            }
-            Place::Halved => {
-                next.clipped += 1;
-                next
-            }
-            Place::Outside => {
-                next.clipped += 1;
-                next
-            }
+            Place::ZeroWidth => {}
+            Place::Placed => self.placed += 1,
+            Place::Halved | Place::Outside => self.clipped += 1,
         }
     }
 }
@@ -65,12 +55,7 @@ fn write_cell(
 fn is_written(place: Place) -> bool
     ensures { result ≡ is_written place }
 {
-    match place {
-        Place::ZeroWidth => false,
-        Place::Placed => true,
-        Place::Halved => true,
-        Place::Outside => false,
-    }
+    matches!(place, Place::Placed | Place::Halved)
 }
 
 // Returns the symbol that is written for a glyph's symbol: the blank one if the glyph is halved.
@@ -78,13 +63,10 @@ fn symbol_written(place: Place, symbol: u32) -> u64
     requires { symbol < 2 ^ 21 }
     ensures { (result ≡ symbol_written place symbol) × (result < 2 ^ 21) }
 {
-    let own = symbol as u64;
-    match place {
-        Place::ZeroWidth => own,
-        Place::Placed => own,
-        Place::Halved => BLANK_SYMBOL,
-        Place::Outside => own,
+    if let Place::Halved = place {
+        return BLANK_SYMBOL;
     }
+    u64::from(symbol)
 }
 
 // Writes a glyph by its place: a placed one in the cell of its column, a halved one as a blank, the others not at all.
@@ -128,15 +110,12 @@ pub fn write_glyphs(
         clipped: 0,
     };
     let mut column = 0;
-    let mut i = 0;
-    while i < records.len() {
-        let word = records[i];
-        i += 1;
-        let GlyphWidth::Fits(width) = rule.fitting(word) else {
+    for &word in records {
+        let Some(width) = rule.fitting(word) else {
             continue;
         };
         let place = write_glyph(row, styles, text_style, column, width, word);
-        counts = counts.with_glyph(place);
+        counts.add_glyph(place);
         column += width;
     }
     counts
