@@ -16,8 +16,10 @@ pub fn count_lines(rule: Rule, default_alignment: Alignment, text: &[u32]) -> us
 {
     let mut composer = LineComposer::new(rule, Method::WordWrap, text);
     let mut count = 0;
-    while let Some(_) = composer.next(rule, default_alignment, text) {
+    loop {
+        let Some(_) = composer.next(rule, default_alignment, text) else {
+            return count;
+        };
         count += 1;
     }
-    count
 }

@@ -84,7 +84,7 @@ fn next_line(
         Method::WordWrap => wrapper.next_line(rule, records),
         Method::Truncate(column) => {
             if wrapper.live {
-                wrapper.close();
+                *wrapper = wrapper.close();
                 return Some(line_truncator::truncate_line(rule, column, alignment, records));
             }
             None
@@ -98,11 +98,9 @@ impl LineComposer {
         requires { Opens text.now }
         ensures { Started rule method text.now result }
     {
-        let mut wrapper = WordWrapper::new(rule);
-        wrapper.close();
         LineComposer {
             method,
-            wrapper,
+            wrapper: WordWrapper::new(rule).close(),
             from: 0,
             to: 0,
             alignment: Alignment::Left,
@@ -138,13 +136,15 @@ impl LineComposer {
             let to = self.to;
             let alignment = self.alignment;
             let records = &text[from..to];
-            if let Some(run) = next_line(self.method, &mut self.wrapper, rule, alignment, records) {
-                return Some(wrapped_line(from, alignment, run));
-            }
-            if text.len() <= to {
-                return None;
-            }
-            self.open(rule, default_alignment, text, to);
+            let Some(run) = next_line(self.method, &mut self.wrapper, rule, alignment, records)
+            else {
+                if text.len() <= to {
+                    return None;
+                }
+                self.open(rule, default_alignment, text, to);
+                continue;
+            };
+            return Some(wrapped_line(from, alignment, run));
         }
     }
 }

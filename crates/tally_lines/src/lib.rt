@@ -90,8 +90,10 @@ pub fn line_counts(rule: Rule, text: &[u32]) -> LineCounts
 {
     let mut composer = LineComposer::new(rule, Method::WordWrap, text);
     let mut counts = LineCounts::empty(0);
-    while let Some(line) = composer.next(rule, Alignment::Left, text) {
+    loop {
+        let Some(line) = composer.next(rule, Alignment::Left, text) else {
+            return counts;
+        };
         counts = counts.plus(one_line_counts(rule, text, line));
     }
-    counts
 }

@@ -1,4 +1,4 @@
-// Methods of the word wrapper: each changes the state in place.
+// Methods of the word wrapper: each step takes the state and hands on the next one (document 01, 'Expected form in each place').
 ghost use Rattle.std.specs.Prelude.{◌≡◌, ◌+◌, ◌-◌, ◌^◌, ◌≤◌, ◌<◌, length, get_or};
 ghost use Rattle.text.specs.Line.{FewRecords};
 ghost use Rattle.wrapping.specs.RunsExtra.{run_of, glyphs_in};
@@ -29,8 +29,8 @@ impl WordWrapper {
     }
 
     // Returns the pending part of the state.
-    fn pending(&self) -> Pending
-        ensures { result ≡ pending_of self.now }
+    fn pending(self) -> Pending
+        ensures { result ≡ pending_of self }
     {
         Pending {
             row: self.row,
@@ -42,134 +42,138 @@ impl WordWrapper {
 
     // Joins spaces and word to row.
     #[tactic(auto, unfolding(crate::specs::StepsExtra::join_run))]
-    fn join(&mut self, trim: bool)
-        requires { self.old.row.width + self.old.spaces.width + self.old.word.width < 2 ^ 32 }
-        ensures { self.new ≡ join_run trim self.old }
+    fn join(mut self, trim: bool) -> WordWrapper
+        requires { self.row.width + self.spaces.width + self.word.width < 2 ^ 32 }
+        ensures { result ≡ join_run trim self }
     {
         self.row = self.pending().gather(trim);
         self.spaces = Run::empty();
         self.word = Run::empty();
+        self
     }
 
     // Step 2: joins spaces and word to row if the glyph requires it.
     #[tactic(auto, unfolding(crate::specs::StepsExtra::join_if_due_run))]
-    fn join_if_due(&mut self, rule: Rule, w: usize, space: bool)
-        requires { self.old.row.width + self.old.spaces.width + self.old.word.width + w < 2 ^ 32 }
-        ensures { self.new ≡ join_if_due_run rule self.old w space }
+    fn join_if_due(self, rule: Rule, w: usize, space: bool) -> WordWrapper
+        requires { self.row.width + self.spaces.width + self.word.width + w < 2 ^ 32 }
+        ensures { result ≡ join_if_due_run rule self w space }
     {
         if self.pending().must_join(rule, w, space) {
-            self.join(rule.trim);
+            return self.join(rule.trim);
         }
+        self
     }
 
-    // Step 3: empties row, drops spaces while they fit in its remaining width, and returns row.
+    // Step 3 after row is emitted: empties row and drops spaces while they fit in its remaining width.
     #[tactic(auto, unfolding(crate::specs::StepsExtra::emit_row_run))]
-    fn emit_row(&mut self, rule: Rule, records: &[u32]) -> Run
-        requires { (self.old.spaces.end ≤ length records.now) × (self.old.spaces ≡ run_of (glyphs_in rule records.now self.old.spaces)) }
-        ensures row { result ≡ self.old.row }
-        ensures state { self.new ≡ emit_row_run rule records.now self.old }
+    fn emit_row(mut self, rule: Rule, records: &[u32]) -> WordWrapper
+        requires { (self.spaces.end ≤ length records.now) × (self.spaces ≡ run_of (glyphs_in rule records.now self.spaces)) }
+        ensures { result ≡ emit_row_run rule records.now self }
     {
-        let row = self.row;
-        let room = rule.limit.saturating_sub(row.width);
+        let room = rule.limit.saturating_sub(self.row.width);
         self.row = Run::empty();
         self.spaces = self.spaces.after_fitting(records, rule, room);
         self.emitted = true;
-        row
+        self
     }
 
     // Skips the glyph.
     #[tactic(auto, unfolding(crate::specs::StepsExtra::skip_glyph_run))]
-    fn skip_glyph(&mut self)
-        requires { self.old.at + 1 < 2 ^ 64 }
-        ensures { self.new ≡ skip_glyph_run self.old }
+    fn skip_glyph(mut self) -> WordWrapper
+        requires { self.at + 1 < 2 ^ 64 }
+        ensures { result ≡ skip_glyph_run self }
     {
         self.at += 1;
+        self
     }
 
     // Step 4: appends the glyph to spaces or word.
     #[tactic(auto, unfolding(crate::specs::StepsExtra::append_glyph_run))]
-    fn append_glyph(&mut self, w: usize, space: bool)
-        requires { (self.old.row.width + self.old.spaces.width + self.old.word.width + w < 2 ^ 32) × (self.old.at + 1 < 2 ^ 64) }
-        ensures { self.new ≡ append_glyph_run self.old w space }
+    fn append_glyph(mut self, w: usize, space: bool) -> WordWrapper
+        requires { (self.row.width + self.spaces.width + self.word.width + w < 2 ^ 32) × (self.at + 1 < 2 ^ 64) }
+        ensures { result ≡ append_glyph_run self w space }
     {
         let at = self.at;
         self.at = at + 1;
         if space {
             self.spaces = self.spaces.push(at, w);
             self.solid = false;
-        } else {
-            self.word = self.word.push(at, w);
-            self.solid = true;
+            return self;
         }
+        self.word = self.word.push(at, w);
+        self.solid = true;
+        self
     }
 
     // After an emit: drops a whitespace glyph if spaces is now empty, else appends the glyph.
     #[tactic(auto, unfolding(crate::specs::StepsExtra::append_or_drop_run))]
-    fn append_or_drop(&mut self, w: usize, space: bool)
-        requires { (self.old.row.width + self.old.spaces.width + self.old.word.width + w < 2 ^ 32) × (self.old.at + 1 < 2 ^ 64) }
-        ensures { self.new ≡ append_or_drop_run self.old w space }
+    fn append_or_drop(self, w: usize, space: bool) -> WordWrapper
+        requires { (self.row.width + self.spaces.width + self.word.width + w < 2 ^ 32) × (self.at + 1 < 2 ^ 64) }
+        ensures { result ≡ append_or_drop_run self w space }
     {
         if space && self.spaces.end == 0 {
-            self.skip_glyph();
-        } else {
-            self.append_glyph(w, space);
+            return self.skip_glyph();
         }
+        self.append_glyph(w, space)
     }
 
-    // Steps 3 and 4, after the join, for a glyph no wider than the limit: returns the line emitted, or none.
+    // Steps 3 and 4, after the join, for a glyph no wider than the limit: the next state and the line emitted, if any.
     #[tactic(auto, unfolding(crate::specs::StepsExtra::emit_or_append_run))]
-    fn emit_or_append(&mut self, rule: Rule, records: &[u32], w: usize, space: bool) -> Option<Run>
-        requires wrapper_invariant { WrapperInvariant rule records.now self.old }
-        requires few_records { FewRecords records.now × (self.old.at < length records.now) × (w < 8) }
-        ensures line { result ≡ (emit_or_append_run rule records.now self.old w space).line }
-        ensures state { self.new ≡ (emit_or_append_run rule records.now self.old w space).state }
+    fn emit_or_append(
+        self,
+        rule: Rule,
+        records: &[u32],
+        w: usize,
+        space: bool,
+    ) -> (WordWrapper, Option<Run>)
+        requires wrapper_invariant { WrapperInvariant rule records.now self }
+        requires few_records { FewRecords records.now × (self.at < length records.now) × (w < 8) }
+        ensures state { result.0 ≡ (emit_or_append_run rule records.now self w space).state }
+        ensures line { result.1 ≡ (emit_or_append_run rule records.now self w space).line }
     {
+        let row = self.row;
         if self.pending().is_full(rule, w) {
-            let row = self.emit_row(rule, records);
-            self.append_or_drop(w, space);
-            return Some(row);
+            let left = self.emit_row(rule, records);
+            return (left.append_or_drop(w, space), Some(row));
         }
-        self.append_glyph(w, space);
-        None
+        (self.append_glyph(w, space), None)
     }
 
-    // Processes the glyph at `at` (steps 1 to 4) and returns the line emitted, or none. `WordWrapper::process_input` in reflow.rs:
-    // its loop body is here, the rest in `finish`.
-    fn step(&mut self, rule: Rule, records: &[u32]) -> Option<Run>
-        requires wrapper_invariant { WrapperInvariant rule records.now self.old }
-        requires few_records { FewRecords records.now × (self.old.at < length records.now) }
-        ensures line { result ≡ (step_run rule records.now self.old (get_or records.now self.old.at 0)).line }
-        ensures state { self.new ≡ (step_run rule records.now self.old (get_or records.now self.old.at 0)).state }
+    // Processes the glyph at `at` (steps 1 to 4) and hands on the next state, and the line emitted, if any. `WordWrapper::process_input`
+    // in reflow.rs: its loop body is here, the rest in `finish`.
+    fn step(self, rule: Rule, records: &[u32]) -> (WordWrapper, Option<Run>)
+        requires wrapper_invariant { WrapperInvariant rule records.now self }
+        requires few_records { FewRecords records.now × (self.at < length records.now) }
+        ensures state { result.0 ≡ (step_run rule records.now self (get_or records.now self.at 0)).state }
+        ensures line { result.1 ≡ (step_run rule records.now self (get_or records.now self.at 0)).line }
     {
         let record = records[self.at];
         let space = glyph::is_whitespace(record);
         let Some(w) = rule.fitting(record) else {
-            self.skip_glyph();
-            return None;
+            return (self.skip_glyph(), None);
         };
-        self.join_if_due(rule, w, space);
-        self.emit_or_append(rule, records, w, space)
+        self.join_if_due(rule, w, space)
+            .emit_or_append(rule, records, w, space)
     }
 
-    // Leaves no line remaining.
+    // Returns the state with no line remaining.
     #[tactic(auto, unfolding(crate::specs::StepsExtra::close_run))]
-    pub fn close(&mut self)
-        ensures { self.new ≡ close_run self.old }
+    pub fn close(mut self) -> WordWrapper
+        ensures { result ≡ close_run self }
     {
         self.live = false;
+        self
     }
 
-    // Ends the text line: returns its last line, if one remains, and leaves none (reflow.rs: the end of
-    // `WordWrapper::process_input`).
+    // Ends the text line: returns its last line, if one remains (reflow.rs: the end of `WordWrapper::process_input`).
     #[tactic(auto, unfolding(crate::specs::StepsExtra::finish_run))]
-    fn finish(&mut self, rule: Rule) -> Option<Run>
-        requires { self.old.row.width + self.old.spaces.width + self.old.word.width < 2 ^ 32 }
-        ensures line { result ≡ (finish_run rule self.old).line }
-        ensures state { self.new ≡ (finish_run rule self.old).state }
+    fn finish(self, rule: Rule) -> (WordWrapper, Option<Run>)
+        requires { self.row.width + self.spaces.width + self.word.width < 2 ^ 32 }
+        ensures state { result.0 ≡ (finish_run rule self).state }
+        ensures line { result.1 ≡ (finish_run rule self).line }
     {
         let last = self.pending().last_line(rule.trim, self.emitted);
-        self.close();
-        last
+        (self.close(), last)
     }
 
     // Returns the next composed line of the text line with these records, or none, and then none remains (reflow.rs:
@@ -181,11 +185,15 @@ impl WordWrapper {
     {
         if self.live {
             while self.at < records.len() {
-                if let Some(line) = self.step(rule, records) {
+                let (next, line) = self.step(rule, records);
+                *self = next;
+                if let Some(line) = line {
                     return Some(line);
                 }
             }
-            return self.finish(rule);
+            let (closed, last) = self.finish(rule);
+            *self = closed;
+            return last;
         }
         None
     }

@@ -12,5 +12,5 @@ plus-counts-requires c = record { lines_bound = search (summing, rules, c.in-Som
 pub loop-line-preserved : goal.loop-line-preserved
 loop-line-preserved c = search (summing, c.in-Some.ensures)
 
-pub returns : goal.returns
-returns c = search (summing, c.in_default.ensures)
+pub returns-in_default : goal.returns-in_default
+returns-in_default c = search (summing, c.in_default.ensures)

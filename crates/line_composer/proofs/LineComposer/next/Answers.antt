@@ -5,8 +5,8 @@ use Rattle.line_composer.proofs.LineComposer.next.Goals as goal
 pub loop-run-init : goal.loop-run-init
 loop-run-init c = search composing
 
-pub returns-in-Some : goal.returns-in-Some
-returns-in-Some c = search composing
+pub returns-in-loop-run : goal.returns-in-loop-run
+returns-in-loop-run c = search composing
 
 pub returns-then-text-to : goal.returns-then-text-to
 returns-then-text-to c = search composing

@@ -6,8 +6,8 @@ use Rattle.word_wrapper.proofs.WordWrapper.emit_or_append.Goals as goal
 pub is_full-requires : goal.is_full-requires
 is_full-requires c = rw c.pending.ensures (omega (arith, sound-sum, sound-within))
 
-pub emit_row-row-requires : goal.emit_row-row-requires
-emit_row-row-requires c = search sound-spaces
+pub emit_row-left-requires : goal.emit_row-left-requires
+emit_row-left-requires c = search sound-spaces
 
 pub append_or_drop-requires : goal.append_or_drop-requires
 append_or_drop-requires c = (search emptied-fits, search emptied_next)

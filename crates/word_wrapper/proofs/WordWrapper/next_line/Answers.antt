@@ -12,8 +12,8 @@ loop-self-smaller c = search pulling
 pub loop-self-preserved : goal.loop-self-preserved
 loop-self-preserved c = search pulling
 
-pub finish-requires : goal.finish-requires
-finish-requires c = omega (arith, sound-sum, sound-within)
+pub finish-last-requires : goal.finish-last-requires
+finish-last-requires c = omega (arith, sound-sum, sound-within)
 
 pub returns-then-self : goal.returns-then-self
 returns-then-self c = search pulling
