@@ -10,11 +10,10 @@ use Rattle.wrapping.specs.declared.Rule.{Rule}
 use Rattle.line_composer.specs.declared.Method.{Method}
 use Rattle.line_composer.specs.declared.WrappedLine.{WrappedLine}
 use Rattle.line_composer.specs.declared.LineComposer.{LineComposer}
-use Rattle.line_composer.specs.declared.NextLine.{NextLine}
-use Rattle.line_composer.specs.declared.NextLine.TheVariants.{OneLine, Done}
+use Rattle.std.specs.Prelude.{Option, Some, None}
 use Rattle.line_composer.specs.Lines.{Line, line_at}
 use Rattle.line_composer.specs.ComposingExtra.{remaining_lines, Ready, Started, PulledLine}
-use Rattle.line_composer.proofs.Pulled.{pulled-left, pulled-ready, none_left}
+use Rattle.line_composer.proofs.Pulled.{pulled-left, pulled-ready, none_left, ended-left, ended-ready}
 use Rattle.render_lines.specs.DrawingExtra.{ComposerAt}
 
 -- after a line is pulled, the rest starts one line later
@@ -37,20 +36,20 @@ pub skipping_starts : (u : Rule) (method : Method) (default : Alignment) (text :
 skipping_starts u method default text n c s = record { reached = omega arith; ready = s.ready; lines_left = refl }
 
 module _ (u : Rule) (default : Alignment) (text : List ℕ) (n : ℕ) (first c : LineComposer) (i : ℕ) (s : Skipping u default text n first c i) where
-  pub skipping_goes : (o : NextLine) (line : WrappedLine) (d : LineComposer) → i < n → PulledLine u default text c o → o ≡ OneLine line d → Skipping u default text n first d (i + 1)
+  pub skipping_goes : (o : Option WrappedLine) (line : WrappedLine) (d : LineComposer) → i < n → PulledLine u default text c o d → o ≡ Some line → Skipping u default text n first d (i + 1)
   skipping_goes o line d h p e =
       record {
         reached = omega arith;
-        ready = pulled-ready u default text c o p line d e;
-        lines_left = drop_more i _ _ (line_at u text line) (sym (pulled-left u default text c o p line d e) ∙ s.lines_left);
+        ready = pulled-ready u default text c o d p line e;
+        lines_left = drop_more i _ _ (line_at u text line) (sym (pulled-left u default text c o d p line e) ∙ s.lines_left);
       }
 
-  pub skipping_short : (method : Method) (o : NextLine) → Started u method text first → PulledLine u default text c o → o ≡ Done → ComposerAt u method default text n c
-  skipping_short method o t p e =
-      let z : remaining_lines u default text c ≡ [] = none_left u default text c o p e in
+  pub skipping_short : (method : Method) (o : Option WrappedLine) (d : LineComposer) → Started u method text first → PulledLine u default text c o d → o ≡ None → ComposerAt u method default text n d
+  skipping_short method o d t p e =
+      let z : remaining_lines u default text c ≡ [] = none_left u default text c o d p e in
       record {
-        ready = s.ready;
-        lines_left = z ∙ drop_past i n _ s.reached (sym z ∙ s.lines_left) ∙ ap (drop n) (t.lines_left default);
+        ready = ended-ready u default text c o d p e;
+        lines_left = ended-left u default text c o d p e ∙ drop_past i n _ s.reached (sym z ∙ s.lines_left) ∙ ap (drop n) (t.lines_left default);
       }
 
   pub skipping_done : (method : Method) → Started u method text first → n ≤ i → ComposerAt u method default text n c

@@ -1,5 +1,5 @@
 -- The loop of `render_lines`: lines pulled one by one, each drawn on its row.
-use Prim.Native.Nat.{ℕ, suc, ◌+◌, ◌-◌, ◌^◌, ◌<◌, ◌≤◌}
+use Prim.Native.Nat.{ℕ, suc, ◌+◌, ◌-◌, ◌<◌, ◌≤◌}
 use mathlib.Core.Path.{◌≡◌, refl, sym, ap, ◌∙◌}
 use mathlib.Core.Bool.{Bool, true, false, cond, ◌&&◌}
 use mathlib.Core.Logic.{inr, dite}
@@ -9,9 +9,9 @@ use native.Mathlib.Decide.{dec_lt}
 use native.Mathlib.Omega.{arith}
 use borrow.Author.Tests.{lt-ltb}
 use mir.Val.{Fits}
-use mir.Syntax.{w16, w32}
+use mir.Syntax.{w32}
 use lib.ListN.{length, get_or, take, drop, length-drop, get_or-eq_default}
-use lib.Seq.{get_or-drop, take-nil}
+use lib.Seq.{get_or-drop}
 use Rattle.text.specs.Line.{FewRecords}
 use Rattle.layout.specs.declared.Rect.{Rect}
 use Rattle.layout.specs.Rect.{right_of, bottom_of, within}
@@ -22,17 +22,16 @@ use Rattle.buffer.proofs.Drawn.{drawn-same}
 use Rattle.buffer.proofs.Rows.{DrawingRows, rows_start, rows-turn-at, rows-done, rows-outside}
 use Rattle.line_composer.specs.declared.WrappedLine.{WrappedLine}
 use Rattle.line_composer.specs.declared.LineComposer.{LineComposer}
-use Rattle.line_composer.specs.declared.NextLine.{NextLine}
-use Rattle.line_composer.specs.declared.NextLine.TheVariants.{OneLine, Done}
-use Rattle.line_composer.specs.Lines.{Line, lines, line_at}
-use Rattle.line_composer.specs.ComposingExtra.{remaining_lines, Ready, ReadsBack, PulledLine}
+use Rattle.std.specs.Prelude.{Option, Some, None}
+use Rattle.line_composer.specs.Lines.{Line, line_at}
+use Rattle.line_composer.specs.ComposingExtra.{remaining_lines, Ready, PulledLine}
 use Rattle.render_glyphs.specs.declared.GlyphCounts.{GlyphCounts}
 use Rattle.render_line.specs.RenderLine.{drawn_starts, line_on, placed_in, clipped_in}
 use Rattle.render_lines.specs.declared.TextOptions.{TextOptions}
 use Rattle.render_lines.specs.Rows.{no_composed_line, text_on, lines_drawn, rows_drawn, sum_of, placed_on, clipped_on}
 use Rattle.buffer.specs.PartsExtra.{AreaOnScreen}
 use Rattle.render_lines.specs.DrawingExtra.{Composable, ComposerAt, lines_for}
-use Rattle.line_composer.proofs.Pulled.{pulled-left, pulled-ready, pulled_reads_back, none_left}
+use Rattle.line_composer.proofs.Pulled.{pulled-left, pulled-ready, none_left}
 use Rattle.render_lines.proofs.Skipping.{drop_more}
 use Rattle.render_line.proofs.RowDrawn.{bottom-sum}
 use Rattle.render_lines.proofs.Bounds.{placed-few, clipped-few, counted-few}
@@ -111,19 +110,10 @@ module _ (s : Screen) (styles text : List ℕ) (area : Rect) (options : TextOpti
       }
 
   module _ (old cells : List ℕ) (c : LineComposer) (placed clipped row : ℕ) (t : DrawingText s old styles text area options cells c placed clipped row) where
-    pub area_stays : AreaOnScreen s (length cells) area
-    area_stays = rw t.drawing.same_length t.on_screen
-
-    pub next_row : row < area.height → Fits w16 (row + 1)
-    next_row h = record { fits = omega (arith, bottom-sum s (length old) area t.on_screen, t.on_screen.on_screen.bottom, t.on_screen.few_rows) }
-
-    module _ (o : NextLine) (p : PulledLine options.rule options.default_alignment text c o) where
-      module _ (line : WrappedLine) (d : LineComposer) (e : o ≡ OneLine line d) where
+    module _ (o : Option WrappedLine) (d : LineComposer) (p : PulledLine options.rule options.default_alignment text c o d) where
+      module _ (line : WrappedLine) (e : o ≡ Some line) where
         left-line_then_rest : remaining_lines options.rule options.default_alignment text c ≡ line_at options.rule text line ∷ remaining_lines options.rule options.default_alignment text d
-        left-line_then_rest = pulled-left options.rule options.default_alignment text c o p line d e
-
-        pub line_reads_back : ReadsBack options.rule text line
-        line_reads_back = pulled_reads_back options.rule options.default_alignment text c o p line d e
+        left-line_then_rest = pulled-left options.rule options.default_alignment text c o d p line e
 
         -- the line pulled is the one of this row
         line-at_scroll_row : line_at options.rule text line ≡ get_or (lines_for options text) (options.scroll + row) no_composed_line
@@ -185,7 +175,7 @@ module _ (s : Screen) (styles text : List ℕ) (area : Rect) (options : TextOpti
                 record {
                   on_screen = t.on_screen;
                   few = t.few;
-                  ready = pulled-ready options.rule options.default_alignment text c o p line d e;
+                  ready = pulled-ready options.rule options.default_alignment text c o d p line e;
                   lines_left = rw z at (drop_more (options.scroll + row) _ _ (line_at options.rule text line) (sym left-line_then_rest ∙ t.lines_left));
                   drawing =
                       rows-turn-at s.columns area.x (right_of area) area.y (bottom_of area) (line_row styles text area options) old cells (area.y + row) t.drawing
@@ -197,10 +187,10 @@ module _ (s : Screen) (styles text : List ℕ) (area : Rect) (options : TextOpti
                 }
 
       -- if no line remains, this row and the later ones have none
-      module _ (e : o ≡ Done) where
+      module _ (e : o ≡ None) where
         no_line-from-row : (j : ℕ) → row ≤ j → get_or (lines_for options text) (options.scroll + j) no_composed_line ≡ no_composed_line
         no_line-from-row j h =
-            let z : remaining_lines options.rule options.default_alignment text c ≡ [] = none_left options.rule options.default_alignment text c o p e in
+            let z : remaining_lines options.rule options.default_alignment text c ≡ [] = none_left options.rule options.default_alignment text c o d p e in
             let n : length (lines_for options text) ≤ options.scroll + j = omega (arith, ap length (sym z ∙ t.lines_left), length-drop (options.scroll + row) (lines_for options text)) in
             get_or-eq_default (lines_for options text) no_composed_line n
 
@@ -229,18 +219,6 @@ module _ (s : Screen) (styles text : List ℕ) (area : Rect) (options : TextOpti
             ∙ drawn-same s.columns _ _ old t.on_screen.on_screen.columns
             (λ column line cell _. rest-idle idle-rows column line cell))
 
-        nothing_left : take (area.height - row) (remaining_lines options.rule options.default_alignment text c) ≡ []
-        nothing_left = rw (none_left options.rule options.default_alignment text c o p e) (take-nil (area.height - row))
-
-        pub rows_short : row ≡ rows_drawn (lines_for options text) area options.scroll
-        rows_short = omega (arith, ap length nothing_left, t.counted)
-
-        pub placed-short : placed ≡ placed_on (lines_for options text) area options.scroll
-        placed-short = omega (arith, ap (sum_of (placed_in area.width)) nothing_left, t.is-placed)
-
-        pub clipped-short : clipped ≡ clipped_on (lines_for options text) area options.scroll
-        clipped-short = omega (arith, ap (sum_of (clipped_in area.width)) nothing_left, t.is-clipped)
-
     -- after the last row
     module _ (h : area.height ≤ row) where
       pub cells-done : cells ≡ drawn s.columns (text_on styles options.style (lines_for options text) area options.scroll) old
@@ -248,15 +226,3 @@ module _ (s : Screen) (styles text : List ℕ) (area : Rect) (options : TextOpti
           rw (text-rows styles text area options)
           (rows-done s.columns area.x (right_of area) area.y (bottom_of area) (line_row styles text area options) old cells (area.y + row) t.drawing
           (omega (arith, bottom-sum s (length old) area t.on_screen)))
-
-      nothing-below : take (area.height - row) (remaining_lines options.rule options.default_alignment text c) ≡ []
-      nothing-below = let n : area.height - row ≡ 0 = omega arith in rw n
-
-      pub rows-drawn : row ≡ rows_drawn (lines_for options text) area options.scroll
-      rows-drawn = omega (arith, ap length nothing-below, t.counted)
-
-      pub placed-done : placed ≡ placed_on (lines_for options text) area options.scroll
-      placed-done = omega (arith, ap (sum_of (placed_in area.width)) nothing-below, t.is-placed)
-
-      pub clipped-done : clipped ≡ clipped_on (lines_for options text) area options.scroll
-      clipped-done = omega (arith, ap (sum_of (clipped_in area.width)) nothing-below, t.is-clipped)

@@ -9,7 +9,7 @@ ghost use Rattle.render_lines.specs.DrawingExtra.{Composable, ComposerAt, lines_
 
 use buffer::Screen;
 use layout::Rect;
-use line_composer::{LineComposer, Method, NextLine};
+use line_composer::{LineComposer, Method};
 use text::Alignment;
 use wrapping::Rule;
 
@@ -31,25 +31,16 @@ pub struct TextOptions {
     pub scroll: u16,
 }
 
-// Returns the composer positioned before line n of a text, or after the last line if there are fewer.
-fn skip_lines(
-    rule: Rule,
-    method: Method,
-    default_alignment: Alignment,
-    text: &[u32],
-    n: usize,
-) -> LineComposer
+// Returns the composer positioned before the scroll row of a text, or after the last line if there are fewer.
+fn skip_lines(text: &[u32], options: TextOptions) -> LineComposer
     requires { Composable text.now }
-    ensures { ComposerAt rule method default_alignment text.now n result }
+    ensures { ComposerAt options.rule options.method options.default_alignment text.now options.scroll result }
 {
-    let mut composer = LineComposer::new(rule, method, text);
-    let mut i = 0;
-    while i < n {
-        let NextLine::OneLine(_, next) = composer.next(rule, default_alignment, text) else {
+    let mut composer = LineComposer::new(options.rule, options.method, text);
+    for _ in 0..options.scroll {
+        let Some(_) = composer.next(options.rule, options.default_alignment, text) else {
             return composer;
         };
-        composer = next;
-        i += 1;
     }
     composer
 }
@@ -72,22 +63,13 @@ pub fn render_lines(
     ensures clipped { result.clipped ≡ clipped_on (lines_for options text.now) area options.scroll }
 {
     let rule = options.rule;
-    let method = options.method;
-    let default_alignment = options.default_alignment;
-    let mut composer = skip_lines(
-        rule,
-        method,
-        default_alignment,
-        text,
-        options.scroll as usize,
-    );
+    let mut composer = skip_lines(text, options);
     let mut placed = 0;
     let mut clipped = 0;
-    let mut row: u16 = 0;
-    while row < area.height {
-        let NextLine::OneLine(line, next) = composer.next(rule, default_alignment, text) else {
+    for row in 0..area.height {
+        let Some(line) = composer.next(rule, options.default_alignment, text) else {
             return DrawCounts {
-                rows: row as u32,
+                rows: u32::from(row),
                 placed,
                 clipped,
             };
@@ -105,11 +87,9 @@ pub fn render_lines(
         );
         placed += glyphs.placed;
         clipped += glyphs.clipped;
-        composer = next;
-        row += 1;
     }
     DrawCounts {
-        rows: row as u32,
+        rows: u32::from(area.height),
         placed,
         clipped,
     }
