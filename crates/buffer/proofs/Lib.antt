@@ -5,6 +5,4 @@ pub mod Rows
 pub mod Over
 pub mod OnScreen
 pub mod Order
-pub mod Inks
-pub mod Filling
 pub mod Keeping

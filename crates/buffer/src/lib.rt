@@ -8,8 +8,6 @@ ghost use Rattle.buffer.specs.PartsExtra.{in_row, OnScreen};
 
 use layout::Rect;
 
-pub mod fill;
-
 // Size of a screen in cells.
 #[derive(Clone, Copy)]
 pub struct Screen {
@@ -40,6 +38,7 @@ impl Screen {
 }
 
 // Applies an ink to a cell.
+#[tactic(auto, unfolding(crate::specs::InkExtra::inked))]
 pub fn ink_cell(ink: Ink, cell: u64) -> u64
     requires { SymbolFits ink }
     ensures { result ≡ inked ink cell }
@@ -56,10 +55,8 @@ fn paint_row(cells: &mut [u64], ink: Ink)
     requires { SymbolFits ink }
     ensures { cells.new ≡ changed (λ i cell. inked ink cell) cells.old }
 {
-    let mut i = 0;
-    while i < cells.len() {
-        cells[i] = ink_cell(ink, cells[i]);
-        i += 1;
+    for cell in cells.iter_mut() {
+        *cell = ink_cell(ink, *cell);
     }
 }
 
@@ -84,10 +81,8 @@ pub fn paint_area(screen: Screen, cells: &mut [u64], area: Rect, ink: Ink)
     let left = area.x as usize;
     let right = area.right() as usize;
     let bottom = area.bottom() as usize;
-    let mut y = area.y as usize;
-    while y < bottom {
+    for y in area.y as usize..bottom {
         paint_row_part(columns, cells, y, left, right, ink);
-        y += 1;
     }
 }
 

@@ -1,3 +1,1 @@
-pub mod Signs
-pub mod Cells
 pub mod NotEmpty

@@ -18,29 +18,29 @@ impl Rect {
     pub fn right(self) -> u16
         ensures { result ≡ right_of self }
     {
-        num::saturating_add(self.x, self.width)
+        self.x.saturating_add(self.width)
     }
 
     // Returns y + height, saturating at 65,535.
     pub fn bottom(self) -> u16
         ensures { result ≡ bottom_of self }
     {
-        num::saturating_add(self.y, self.height)
+        self.y.saturating_add(self.height)
     }
 
     // Returns the cells that two rectangles share: document 01's meeting.
     pub fn intersection(self, other: Rect) -> Rect
         ensures { result ≡ meet self other }
     {
-        let x = num::max(self.x, other.x);
-        let y = num::max(self.y, other.y);
-        let right = num::min(self.right(), other.right());
-        let bottom = num::min(self.bottom(), other.bottom());
+        let x = self.x.max(other.x);
+        let y = self.y.max(other.y);
+        let right = self.right().min(other.right());
+        let bottom = self.bottom().min(other.bottom());
         Rect {
             x,
             y,
-            width: num::saturating_sub(right, x),
-            height: num::saturating_sub(bottom, y),
+            width: right.saturating_sub(x),
+            height: bottom.saturating_sub(y),
         }
     }
 

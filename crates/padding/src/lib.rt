@@ -54,7 +54,7 @@ impl Padding {
     pub fn proportional(value: u16) -> Padding
         ensures { result ≡ padding_of (held (2 * value)) (held (2 * value)) value value }
     {
-        let twice = num::saturating_add(value, value);
+        let twice = value.saturating_add(value);
         Padding::new(twice, twice, value, value)
     }
 

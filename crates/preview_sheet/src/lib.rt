@@ -146,7 +146,7 @@ pub fn draw(
     let notice = notice_at(opening, first);
     let columns = opening.columns as u32;
     let rows = opening.rows as u32;
-    buffer::fill::fill(cells, blank);
+    cells.fill(blank);
     draw_both(columns, rows, cells, styles, text, titles, area, notice)
 }
 
