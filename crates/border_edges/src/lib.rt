@@ -20,14 +20,14 @@ pub struct Edge {
 fn last_column(area: Rect) -> u16
     ensures { result ≡ right_of area - 1 }
 {
-    num::saturating_sub(area.right(), 1)
+    area.right().saturating_sub(1)
 }
 
 // Returns the last row of a rectangle: its bottom less 1, saturating at 0.
 fn last_row(area: Rect) -> u16
     ensures { result ≡ bottom_of area - 1 }
 {
-    num::saturating_sub(area.bottom(), 1)
+    area.bottom().saturating_sub(1)
 }
 
 // Whether both borders are present.

@@ -17,8 +17,8 @@ fn rect_between(left: u16, top: u16, right: u16, bottom: u16) -> Rect
     Rect {
         x: left,
         y: top,
-        width: num::saturating_sub(right, left),
-        height: num::saturating_sub(bottom, top),
+        width: right.saturating_sub(left),
+        height: bottom.saturating_sub(top),
     }
 }
 
@@ -30,7 +30,7 @@ fn above(area: Rect, spared: Rect) -> Rect
         area.x,
         area.y,
         area.right(),
-        num::min(area.bottom(), spared.y),
+        area.bottom().min(spared.y),
     )
 }
 
@@ -40,7 +40,7 @@ fn below(area: Rect, spared: Rect) -> Rect
 {
     rect_between(
         area.x,
-        num::max(area.y, spared.bottom()),
+        area.y.max(spared.bottom()),
         area.right(),
         area.bottom(),
     )
@@ -50,18 +50,18 @@ fn below(area: Rect, spared: Rect) -> Rect
 fn left_of(area: Rect, spared: Rect) -> Rect
     ensures { result ≡ left_of area spared }
 {
-    let top = num::max(area.y, spared.y);
-    let bottom = num::min(area.bottom(), spared.bottom());
-    rect_between(area.x, top, num::min(area.right(), spared.x), bottom)
+    let top = area.y.max(spared.y);
+    let bottom = area.bottom().min(spared.bottom());
+    rect_between(area.x, top, area.right().min(spared.x), bottom)
 }
 
 // Returns the part of a rectangle right of another, in the other's rows.
 fn right_from(area: Rect, spared: Rect) -> Rect
     ensures { result ≡ right_from area spared }
 {
-    let top = num::max(area.y, spared.y);
-    let bottom = num::min(area.bottom(), spared.bottom());
-    rect_between(num::max(area.x, spared.right()), top, area.right(), bottom)
+    let top = area.y.max(spared.y);
+    let bottom = area.bottom().min(spared.bottom());
+    rect_between(area.x.max(spared.right()), top, area.right(), bottom)
 }
 
 // Paints the cells of a rectangle above and below another; both lie on the screen.

@@ -129,10 +129,7 @@ fn add_spaced(
     ensures { Added block group (title_of ambiguous word glyphs.now) sum result }
 {
     if group.has_title(block, word) {
-        return num::saturating_add(
-            sum,
-            places::spaced(title::line_width_u16(glyphs, ambiguous)),
-        );
+        return sum.saturating_add(places::spaced(title::line_width_u16(glyphs, ambiguous)));
     }
     sum
 }
@@ -190,7 +187,7 @@ fn center_place(area: Rect, total: u16) -> Place
     ensures { result ≡ center_place area total }
 {
     if total <= area.width {
-        let x = num::saturating_add(area.x, (area.width - total) / 2);
+        let x = area.x.saturating_add((area.width - total) / 2);
         let moved = Rect {
             x,
             y: area.y,
@@ -232,7 +229,7 @@ pub fn render_center_titles(
         alignment: Alignment::Center,
     };
     let spaced = spaced_width(titles, ambiguous, block, group);
-    let place = center_place(area, num::saturating_sub(spaced, 1));
+    let place = center_place(area, spaced.saturating_sub(1));
     render_titles_forward(
         screen, cells, styles, titles, ambiguous, block, group, place,
     );

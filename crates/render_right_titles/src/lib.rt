@@ -23,7 +23,7 @@ fn before_title(area: Rect, width: u16) -> Rect
     Rect {
         x: area.x,
         y: area.y,
-        width: num::saturating_sub(num::saturating_sub(area.width, width), 1),
+        width: area.width.saturating_sub(width).saturating_sub(1),
         height: area.height,
     }
 }
@@ -33,9 +33,9 @@ fn right_part(area: Rect, width: u16) -> Rect
     ensures { result ≡ right_part width area }
 {
     Rect {
-        x: num::max(num::saturating_sub(area.right(), width), area.x),
+        x: area.right().saturating_sub(width).max(area.x),
         y: area.y,
-        width: num::min(width, area.width),
+        width: width.min(area.width),
         height: area.height,
     }
 }

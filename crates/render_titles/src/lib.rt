@@ -20,7 +20,7 @@ fn titles_row(position: TitlePosition, area: Rect) -> u16
 {
     match position {
         TitlePosition::Top => area.y,
-        TitlePosition::Bottom => num::saturating_sub(area.bottom(), 1),
+        TitlePosition::Bottom => area.bottom().saturating_sub(1),
     }
 }
 
@@ -32,9 +32,9 @@ fn titles_area(block: Block, position: TitlePosition, area: Rect) -> Rect
     let left = block::inner_area::cells_taken(on.left);
     let right = block::inner_area::cells_taken(on.right);
     Rect {
-        x: num::saturating_add(area.x, left),
+        x: area.x.saturating_add(left),
         y: titles_row(position, area),
-        width: num::saturating_sub(num::saturating_sub(area.width, left), right),
+        width: area.width.saturating_sub(left).saturating_sub(right),
         height: 1,
     }
 }

@@ -13,7 +13,7 @@ fn line_start(alignment: Alignment, t: u16, w: u16) -> u16
     match alignment {
         Alignment::Left => 0,
         Alignment::Center => 0,
-        Alignment::Right => num::saturating_sub(w, t),
+        Alignment::Right => w.saturating_sub(t),
     }
 }
 
@@ -24,7 +24,7 @@ fn hidden_columns(alignment: Alignment, t: u16, w: u16) -> u16
     match alignment {
         Alignment::Left => 0,
         Alignment::Center => 0,
-        Alignment::Right => num::saturating_sub(t, w),
+        Alignment::Right => t.saturating_sub(w),
     }
 }
 

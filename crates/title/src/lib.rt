@@ -22,7 +22,7 @@ pub fn line_width_u16(glyphs: &[u32], ambiguous: AmbiguousWidth) -> u16
     let mut width: u16 = 0;
     let mut i = 0;
     while i < glyphs.len() {
-        width = num::saturating_add(width, text::glyph::width(glyphs[i], ambiguous) as u16);
+        width = width.saturating_add(text::glyph::width(glyphs[i], ambiguous) as u16);
         i += 1;
     }
     width

@@ -11,7 +11,7 @@ use text::{Alignment, head};
 pub fn spaced(width: u16) -> u16
     ensures { result ≡ held (width + 1) }
 {
-    num::saturating_add(width, 1)
+    width.saturating_add(1)
 }
 
 impl Place {
@@ -19,7 +19,7 @@ impl Place {
     pub fn width(self, width: u16) -> u16
         ensures { result ≡ placed_width self width }
     {
-        num::saturating_sub(num::min(self.area.width, width), self.offset)
+        self.area.width.min(width).saturating_sub(self.offset)
     }
 
     // Returns the alignment of the next title: if titles are truncated, right while the offset is above 0, then left; otherwise
@@ -43,12 +43,12 @@ impl Place {
         let old = self.area;
         let advance = spaced(width);
         let area = Rect {
-            x: num::saturating_add(old.x, advance),
+            x: old.x.saturating_add(advance),
             y: old.y,
-            width: num::saturating_sub(old.width, advance),
+            width: old.width.saturating_sub(advance),
             height: old.height,
         };
-        let offset = num::saturating_sub(num::saturating_sub(self.offset, width), 1);
+        let offset = self.offset.saturating_sub(width).saturating_sub(1);
         Place {
             area,
             offset,

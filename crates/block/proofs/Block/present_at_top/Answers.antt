@@ -1,9 +1,0 @@
--- `block::Block::present_at_top` meets its contract.
-use Rattle.text.proofs.Either.{either}
-use Rattle.block.proofs.Block.present_at_top.Goals as goal
-
-pub returns-then-borders : goal.returns-then-borders
-returns-then-borders c = search either
-
-pub returns : goal.returns
-returns c = search either
