@@ -46,5 +46,3 @@ module _ (s : Screen) (n m : ℕ) (area spared r : Rect) where
   unfolding right_from
   right_on_screen e on also same left top upper =
       rw e (between_on_screen s n m _ _ _ _ area on same (omega arith) (omega arith) (omega arith) (omega arith))
-
-pub ruleset parts-on-screen = (above-on_screen, below-on_screen, left_on_screen, right_on_screen)

@@ -23,18 +23,15 @@ fn rect_between(left: u16, top: u16, right: u16, bottom: u16) -> Rect
 }
 
 // Returns the part of a rectangle above another.
+#[tactic(auto, unfolding(crate::specs::AroundExtra::above))]
 fn above(area: Rect, spared: Rect) -> Rect
     ensures { result ≡ above area spared }
 {
-    rect_between(
-        area.x,
-        area.y,
-        area.right(),
-        area.bottom().min(spared.y),
-    )
+    rect_between(area.x, area.y, area.right(), area.bottom().min(spared.y))
 }
 
 // Returns the part of a rectangle below another.
+#[tactic(auto, unfolding(crate::specs::AroundExtra::below))]
 fn below(area: Rect, spared: Rect) -> Rect
     ensures { result ≡ below area spared }
 {
@@ -47,6 +44,7 @@ fn below(area: Rect, spared: Rect) -> Rect
 }
 
 // Returns the part of a rectangle left of another, in the other's rows.
+#[tactic(auto, unfolding(crate::specs::AroundExtra::left_of))]
 fn left_of(area: Rect, spared: Rect) -> Rect
     ensures { result ≡ left_of area spared }
 {
@@ -56,6 +54,7 @@ fn left_of(area: Rect, spared: Rect) -> Rect
 }
 
 // Returns the part of a rectangle right of another, in the other's rows.
+#[tactic(auto, unfolding(crate::specs::AroundExtra::right_from))]
 fn right_from(area: Rect, spared: Rect) -> Rect
     ensures { result ≡ right_from area spared }
 {
@@ -64,26 +63,16 @@ fn right_from(area: Rect, spared: Rect) -> Rect
     rect_between(area.x.max(spared.right()), top, area.right(), bottom)
 }
 
-// Paints the cells of a rectangle above and below another; both lie on the screen.
-fn paint_other_rows(screen: Screen, cells: &mut [u64], spared: Rect, area: Rect, ink: Ink)
+// Paints the cells of two rectangles on the screen, one after the other.
+#[tactic(auto, using(crate::proofs::Painted::both_painted))]
+fn paint_both(screen: Screen, cells: &mut [u64], one: Rect, other: Rect, ink: Ink)
     requires symbol_fits { SymbolFits ink }
-    requires on_screen { OnScreen screen (length cells.old) spared × OnScreen screen (length cells.old) area }
-    ensures { let drawing = in_order (over (above area spared) (inked ink) ∷ over (below area spared) (inked ink) ∷ []) in
+    requires on_screen { OnScreen screen (length cells.old) one × OnScreen screen (length cells.old) other }
+    ensures { let drawing = in_order (over one (inked ink) ∷ over other (inked ink) ∷ []) in
         cells.new ≡ drawn screen.columns drawing cells.old }
 {
-    buffer::paint_area(screen, cells, above(area, spared), ink);
-    buffer::paint_area(screen, cells, below(area, spared), ink);
-}
-
-// Paints the cells of a rectangle left and right of another, in the other's rows; both lie on the screen.
-fn paint_same_rows(screen: Screen, cells: &mut [u64], spared: Rect, area: Rect, ink: Ink)
-    requires symbol_fits { SymbolFits ink }
-    requires on_screen { OnScreen screen (length cells.old) spared × OnScreen screen (length cells.old) area }
-    ensures { let drawing = in_order (over (left_of area spared) (inked ink) ∷ over (right_from area spared) (inked ink) ∷ []) in
-        cells.new ≡ drawn screen.columns drawing cells.old }
-{
-    buffer::paint_area(screen, cells, left_of(area, spared), ink);
-    buffer::paint_area(screen, cells, right_from(area, spared), ink);
+    buffer::paint_area(screen, cells, one, ink);
+    buffer::paint_area(screen, cells, other, ink);
 }
 
 // Paints the cells of a rectangle outside another; both lie on the screen (block/shadow.rs: `for_each_shadow_cell`).
@@ -92,6 +81,10 @@ pub fn paint_outside(screen: Screen, cells: &mut [u64], spared: Rect, area: Rect
     requires on_screen { OnScreen screen (length cells.old) spared × OnScreen screen (length cells.old) area }
     ensures { cells.new ≡ drawn screen.columns (sparing spared (over area (inked ink))) cells.old }
 {
-    paint_other_rows(screen, cells, spared, area, ink);
-    paint_same_rows(screen, cells, spared, area, ink);
+    let above = above(area, spared);
+    let below = below(area, spared);
+    let left = left_of(area, spared);
+    let right = right_from(area, spared);
+    paint_both(screen, cells, above, below, ink);
+    paint_both(screen, cells, left, right, ink);
 }
