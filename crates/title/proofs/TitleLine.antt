@@ -28,15 +28,6 @@ use Rattle.title.specs.Title.{title_line_width, line_start, hidden_columns, titl
 use Rattle.title.specs.FittingExtra.{TitleArea}
 use Rattle.title.proofs.Moving.{line-moved}
 
-module _ (alignment : Alignment) (t w : ℕ) where
-  -- a right line that fits ends in the last column
-  pub start_right : (r : ℕ) → alignment ≡ Right → r ≡ w - t → r ≡ line_start alignment t w
-  start_right r e p = rw e p
-
-  -- a right line that doesn't fit hides its first columns
-  pub hidden-right : (r : ℕ) → alignment ≡ Right → r ≡ t - w → r ≡ hidden_columns alignment t w
-  hidden-right r e p = rw e p
-
 -- the start column is at most w
 start-at-most_w : (alignment : Alignment) (t w : ℕ) → line_start alignment t w ≤ w
 start-at-most_w Left t w = omega arith

@@ -6,25 +6,15 @@ ghost use Rattle.title.specs.Title.{line_start, hidden_columns, title_line};
 
 use text::{Alignment, AmbiguousWidth};
 
-// Returns the start column of a line of width t in w columns.
-fn line_start(alignment: Alignment, t: u16, w: u16) -> u16
-    ensures { result ≡ line_start alignment t w }
+// Returns the columns of `whole` that are left beside `part`, if the alignment is right, else 0: the start column of a line of width
+// `part`, and the number of hidden columns of a line of width `whole`.
+fn columns_before(alignment: Alignment, part: u16, whole: u16) -> u16
+    ensures start { result ≡ line_start alignment part whole }
+    ensures hidden { result ≡ hidden_columns alignment whole part }
 {
     match alignment {
-        Alignment::Left => 0,
-        Alignment::Center => 0,
-        Alignment::Right => w.saturating_sub(t),
-    }
-}
-
-// Returns the number of hidden columns of a line of width t in w columns.
-fn hidden_columns(alignment: Alignment, t: u16, w: u16) -> u16
-    ensures { result ≡ hidden_columns alignment t w }
-{
-    match alignment {
-        Alignment::Left => 0,
-        Alignment::Center => 0,
-        Alignment::Right => t.saturating_sub(w),
+        Alignment::Left | Alignment::Center => 0,
+        Alignment::Right => whole.saturating_sub(part),
     }
 }
 
@@ -42,7 +32,7 @@ pub fn write_title_line(
         row.new ≡ changed line row.old }
 {
     let t = crate::line_width_u16(glyphs, ambiguous);
-    let hidden = hidden_columns(alignment, t, w) as usize;
-    let start = line_start(alignment, t, w) as usize;
+    let hidden = columns_before(alignment, w, t) as usize;
+    let start = columns_before(alignment, t, w) as usize;
     title_glyphs::write_glyphs(&mut row[start..], styles, hidden, glyphs, ambiguous);
 }

@@ -16,14 +16,13 @@ use layout::Rect;
 use text::{Alignment, AmbiguousWidth};
 
 // Returns the width of a title line, saturating at 65,535 (block.rs: `Block::line_width_u16`).
+#[tactic(auto, using(crate::proofs::Widths::adding))]
 pub fn line_width_u16(glyphs: &[u32], ambiguous: AmbiguousWidth) -> u16
     ensures { result ≡ title_line_width (glyphs_of_title ambiguous glyphs.now) }
 {
     let mut width: u16 = 0;
-    let mut i = 0;
-    while i < glyphs.len() {
-        width = width.saturating_add(text::glyph::width(glyphs[i], ambiguous) as u16);
-        i += 1;
+    for word in glyphs {
+        width = width.saturating_add(text::glyph::width(*word, ambiguous) as u16);
     }
     width
 }

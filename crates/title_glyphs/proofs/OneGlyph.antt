@@ -67,4 +67,4 @@ module _ (a : AmbiguousWidth) (styles : List ℕ) (hidden column word : ℕ) (ro
         ∙ changed-same (λ i c. cond (eqb i (column - hidden)) (ink c) c) _ row
         (λ i c _. simp (column_shift hidden column i h, le-leb hidden column h, lt-ltb 0 (width_of a word) some))
 
-pub ruleset one-glyph = (glyph-hidden, glyph_zero, glyph-drawn)
+pub ruleset one_glyph = (glyph-hidden, glyph_zero, glyph-drawn)

@@ -11,6 +11,7 @@ use buffer::Ink;
 use text::{AmbiguousWidth, glyph};
 
 // Writes a glyph that starts at `column` of its line, unless it starts in the hidden columns or has width 0.
+#[tactic(auto, using(crate::proofs::OneGlyph::one_glyph))]
 fn write_glyph(
     row: &mut [u64],
     styles: &[u64],
@@ -50,15 +51,12 @@ pub fn write_glyphs(
 {
     let end = hidden + row.len();
     let mut column = 0;
-    let mut i = 0;
-    while i < glyphs.len() {
-        let word = glyphs[i];
-        let next = column + glyph::width(word, ambiguous) as usize;
+    for word in glyphs {
+        let next = column + glyph::width(*word, ambiguous) as usize;
         if end < next {
             return;
         }
-        write_glyph(row, styles, hidden, column, word, ambiguous);
+        write_glyph(row, styles, hidden, column, *word, ambiguous);
         column = next;
-        i += 1;
     }
 }
