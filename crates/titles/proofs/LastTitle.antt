@@ -82,8 +82,8 @@ module _ (titles : List ℕ) (end i : ℕ) (s : Seeking titles end i) where
         record { before = omega (arith, s.before); is_last = ap (lines_from 0) split ∙ found ∙ rw (size, k, m) }
 
   -- as there is a title, the loop doesn't end without a head
-  pub seeking_ends : i ≤ 0 → 0 < length (lines_from 0 (take end titles)) → LastHead titles end i
-  seeking_ends h q =
+  pub seeking_ends : (at : ℕ) → i ≤ 0 → 0 < length (lines_from 0 (take end titles)) → LastHead titles end at
+  seeking_ends at h q =
       let z : i ≡ 0 = omega arith in
       let n : end - 0 ≡ end = omega arith in
       let f : lines_from 0 (take end titles) ≡ [] = rw (z, n) at (s.none 0) in

@@ -1,4 +1,3 @@
-pub mod Choosing
 pub mod Areas
 pub mod Placing
 pub mod NextTitle

@@ -6,16 +6,15 @@ ghost use Rattle.titles.specs.PlacingExtra.{LastHead};
 use text::head;
 
 // Returns the record number of the last head before record `end`.
+#[tactic(auto, using(crate::proofs::LastTitle::seeking))]
 pub fn last_head(titles: &[u32], end: usize) -> usize
     requires { (end ≤ length titles.now) × (0 < length (lines_from 0 (take end titles.now))) }
     ensures { LastHead titles.now end result }
 {
-    let mut i = end;
-    while 0 < i {
-        i -= 1;
+    for i in (0..end).rev() {
         if head::is_head(titles[i]) {
             return i;
         }
     }
-    i
+    0
 }
