@@ -29,8 +29,8 @@ fn titles_area(block: Block, position: TitlePosition, area: Rect) -> Rect
     ensures { result ≡ titles_area block position area }
 {
     let on = block.borders;
-    let left = block::inner_area::cells_taken(on.left);
-    let right = block::inner_area::cells_taken(on.right);
+    let left = u16::from(on.left);
+    let right = u16::from(on.right);
     Rect {
         x: area.x.saturating_add(left),
         y: titles_row(position, area),

@@ -1,6 +1,5 @@
 -- `render_right_titles::render_previous_title` meets its contract.
 use Rattle.titles.proofs.RightTitles.{moved_back}
-use borrow.Author.Rules.{rules}
 use Rattle.render_right_titles.proofs.render_previous_title.Goals as goal
 
 pub returns-then-is_empty : goal.returns-then-is_empty

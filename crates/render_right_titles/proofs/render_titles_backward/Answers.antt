@@ -1,6 +1,5 @@
 -- `render_right_titles::render_titles_backward` meets its contract.
-use Rattle.titles.proofs.RightTitles.{WalkingBack, walking-back}
-use borrow.Author.Rules.{rules}
+use Rattle.titles.proofs.RightTitles.{walking-back}
 use Rattle.render_right_titles.proofs.render_titles_backward.Goals as goal
 
 pub loop-end-init : goal.loop-end-init

@@ -1,6 +1,5 @@
 -- `render_right_titles::render_titles_backward` meets its contract.
-use Rattle.titles.proofs.RightTitles.{WalkingBack, walking-back}
-use borrow.Author.Rules.{rules}
+use Rattle.titles.proofs.RightTitles.{WalkingBack}
 use Rattle.render_right_titles.proofs.render_titles_backward.Given as goal
 
 abbrev pub invariant-loop-end : goal.invariant-loop-end

@@ -1,7 +1,0 @@
--- `render_right_titles::right_part` meets its contract.
-use Rattle.titles.proofs.RightTitles.{at-right-end}
-use borrow.Author.Rules.{rules}
-use Rattle.render_right_titles.proofs.right_part.Goals as goal
-
-pub returns : goal.returns
-returns c = search at-right-end
