@@ -14,7 +14,8 @@ ghost use Rattle.titles.specs.PlacingExtra.{placed_width, next_place, placed_at,
 use block::Block;
 use buffer::Screen;
 use layout::Rect;
-use text::{Alignment, AmbiguousWidth, TitlePosition, line};
+use text::line::Lines;
+use text::{Alignment, AmbiguousWidth, TitlePosition};
 use titles::{Group, Place, places};
 
 // Draws a title at a place with a non-empty area, and returns the place after it.
@@ -82,6 +83,7 @@ fn render_next_title(
 
 // Draws the titles of a group one after another from a place on: the loop of `Block::render_left_titles` and of both
 // `Block::render_centered_titles_..` in block.rs.
+#[tactic(auto, using(titles::proofs::Walking::walk_ends))]
 fn render_titles_forward(
     screen: Screen,
     cells: &mut [u64],
@@ -98,22 +100,10 @@ fn render_titles_forward(
         cells.new ≡ drawn screen.columns drawing cells.old }
 {
     let mut place = place;
-    let mut at = 0;
-    while at < titles.len() {
-        let from = at + 1;
-        let end = from + line::line_length(&titles[from..]);
+    for line in Lines::new(titles) {
         place = render_next_title(
-            screen,
-            cells,
-            styles,
-            block,
-            group,
-            place,
-            titles[at],
-            &titles[from..end],
-            ambiguous,
+            screen, cells, styles, block, group, place, line.0, line.1, ambiguous,
         );
-        at = end;
     }
 }
 
@@ -135,17 +125,14 @@ fn add_spaced(
 }
 
 // Returns the sum of the widths of a group's titles, with one column after each.
+#[tactic(auto, using(titles::proofs::Spaced::sum_starts))]
 fn spaced_width(titles: &[u32], ambiguous: AmbiguousWidth, block: Block, group: Group) -> u16
     requires { Opens titles.now }
     ensures { result ≡ spaced_from 0 (titles_of block group (titles_from ambiguous titles.now)) }
 {
     let mut sum: u16 = 0;
-    let mut at = 0;
-    while at < titles.len() {
-        let from = at + 1;
-        let end = from + line::line_length(&titles[from..]);
-        sum = add_spaced(sum, block, group, titles[at], &titles[from..end], ambiguous);
-        at = end;
+    for line in Lines::new(titles) {
+        sum = add_spaced(sum, block, group, line.0, line.1, ambiguous);
     }
     sum
 }

@@ -1,6 +1,6 @@
 pub mod Areas
 pub mod Placing
-pub mod NextTitle
+pub mod CutTitles
 pub mod Walking
 pub mod Spaced
 pub mod Left

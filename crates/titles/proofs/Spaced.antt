@@ -1,20 +1,19 @@
 -- Sum of the titles' widths with one column after each: the loop that adds them, and that titles that fit don't saturate it.
 use Prim.Native.Nat.{ℕ, ◌+◌, ◌-◌, ◌<◌, ◌≤◌}
-use mathlib.Core.Path.{◌≡◌, refl, sym, ap, ◌∙◌}
+use mathlib.Core.Path.{◌≡◌, sym, ap, ◌∙◌}
 use mathlib.Core.Bool.{Bool, true, false}
 use mathlib.Core.List.{List, [], ◌∷◌}
 use native.Mathlib.Omega.{arith}
-use lib.ListN.{length, get_or, take, drop}
 use Rattle.num.specs.Held.{held}
 use Rattle.text.specs.declared.AmbiguousWidth.{AmbiguousWidth}
-use Rattle.text.specs.Line.{until_head, Opens}
-use Rattle.text.proofs.TextLines.{AtHead, rest, opens-start}
+use Rattle.text.specs.Line.{Opens}
+use Rattle.text.specs.LinesExtra.{cut_lines}
 use Rattle.block.specs.declared.Block.{Block}
 use Rattle.title.specs.Title.{title_line_width}
 use Rattle.titles.specs.declared.Group.{Group}
 use Rattle.titles.specs.Titles.{Title, titles_from, is_chosen, spaced_from, title_width, total_width}
 use Rattle.titles.specs.PlacingExtra.{titles_of, title_of, Added}
-use Rattle.titles.proofs.NextTitle.{titles_after, title-opens, title-first, none_left}
+use Rattle.titles.proofs.CutTitles.{cut_titles, cut_read}
 
 -- ---- the loop
 
@@ -27,32 +26,29 @@ module _ (b : Block) (g : Group) (t : Title) (sum : ℕ) (has : Bool) (chosen : 
   pub added_other : has ≡ false → Added b g t sum sum
   added_other f ts = rw (← chosen, f)
 
--- Before each turn: record `at` is a head or the end, and adding the titles from there to `sum` gives the sum of all.
-pub record Summing (a : AmbiguousWidth) (b : Block) (g : Group) (titles : List ℕ) (sum at : ℕ) : Type 0 where
-  pub opens : AtHead titles at
-  pub same : spaced_from sum (titles_of b g (titles_after a titles at)) ≡ spaced_from 0 (titles_of b g (titles_from a titles))
+-- Before each turn: adding the titles of the lines left to `sum` gives the sum of all.
+pub record Summing (a : AmbiguousWidth) (b : Block) (g : Group) (titles : List ℕ) (sum : ℕ) (left : List (ℕ × List ℕ)) : Type 0 where
+  pub same : spaced_from sum (titles_of b g (cut_titles a left)) ≡ spaced_from 0 (titles_of b g (titles_from a titles))
 
 module _ (a : AmbiguousWidth) (b : Block) (g : Group) (titles : List ℕ) where
-  pub sum-starts : Opens titles → Summing a b g titles 0 0
-  sum-starts e = record { opens = opens-start titles e; same = refl }
+  pub sum_starts : (left : List (ℕ × List ℕ)) → left ≡ cut_lines titles → Opens titles → Summing a b g titles 0 left
+  sum_starts left e o = record { same = rw (e, cut_read a titles o) }
 
-  module _ (sum at : ℕ) (w : Summing a b g titles sum at) where
-    pub sum_goes : (n next : ℕ) → at < length titles → n ≡ length (until_head (rest titles (at + 1)))
-        → Added b g (title_of a (get_or titles at 0) (take (at + 1 + n - (at + 1)) (drop (at + 1) titles))) sum next
-        → Summing a b g titles next (at + 1 + n)
-    sum_goes n next h is-length d =
+  module _ (sum : ℕ) (left : List (ℕ × List ℕ)) (w : Summing a b g titles sum left) where
+    pub sum_goes : (line : ℕ × List ℕ) (others : List (ℕ × List ℕ)) (next : ℕ) → left ≡ line ∷ others
+        → Added b g (title_of a line.0 line.1) sum next → Summing a b g titles next others
+    sum_goes line others next e d =
         record {
-          opens = title-opens titles at n h w.opens is-length;
           same =
-              d (titles_after a titles (at + 1 + n))
-              ∙ ap (λ (ts : List Title). spaced_from sum (titles_of b g ts)) (sym (title-first titles at n h w.opens is-length a))
+              d (cut_titles a others)
+              ∙ ap (λ (ls : List (ℕ × List ℕ)). spaced_from sum (titles_of b g (cut_titles a ls))) (sym e)
               ∙ w.same;
         }
 
-    pub sum-ends : length titles ≤ at → sum ≡ spaced_from 0 (titles_of b g (titles_from a titles))
-    sum-ends h = rw (none_left a titles at w.opens h) at w.same
+    pub sum-ends : left ≡ [] → sum ≡ spaced_from 0 (titles_of b g (titles_from a titles))
+    sum-ends e = rw e at w.same
 
-pub ruleset summing = (added_chosen, added_other, sum-starts, sum_goes, sum-ends)
+pub ruleset summing = (added_chosen, added_other, sum_starts, sum_goes, sum-ends)
 
 -- ---- sums that don't saturate
 
