@@ -68,10 +68,10 @@ pub fn pack(line: WrappedLine, mark: bool) -> u64
     requires { (line.first < 2 ^ 15) × (line.end < 2 ^ 15) × (line.width < 2 ^ 16) }
     ensures { result ≡ entry_marked line mark }
 {
-    let alignment = line.alignment;
+    let alignment = u32::from(line.alignment);
     line.first as u64 * FIRST_PLACE
         + line.end as u64 * END_PLACE
         + line.width as u64 * WIDTH_PLACE
-        + text::alignment_number(alignment) as u64 * ALIGNMENT_PLACE
+        + u64::from(alignment) * ALIGNMENT_PLACE
         + mark_number(mark) * MARK_PLACE
 }
