@@ -90,9 +90,5 @@ pub fn paint_area(screen: Screen, cells: &mut [u64], area: Rect, ink: Ink)
 pub fn style_at(styles: &[u64], number: u8) -> u64
     ensures { result ≡ style_at styles.now number }
 {
-    let i = number as usize;
-    if i < styles.len() {
-        return styles[i];
-    }
-    0
+    styles.get(usize::from(number)).copied().unwrap_or(0)
 }
