@@ -2,7 +2,7 @@
 #![tactic(auto)]
 
 ghost use Rattle.std.specs.Prelude.{◌≡◌, ◌<◌, ◌^◌};
-ghost use Rattle.entry.specs.Entry.{entry_first, entry_end, entry_width, entry_alignment, entry_mark, mark_number, entry_marked};
+ghost use Rattle.entry.specs.Entry.{entry_first, entry_end, entry_width, entry_alignment, entry_mark, entry_marked};
 
 use line_composer::WrappedLine;
 
@@ -56,14 +56,8 @@ pub fn mark(entry: u64) -> u64
     entry / MARK_PLACE % MARKS
 }
 
-// Returns the number of a mark, its one bit.
-fn mark_number(mark: bool) -> u64
-    ensures { (result ≡ mark_number mark) × (result < 2) }
-{
-    if mark { 1 } else { 0 }
-}
-
 // Packs a composed line and its mark into an entry.
+#[tactic(auto, unfolding(crate::specs::Entry::entry_packed, crate::specs::Entry::entry_marked))]
 pub fn pack(line: WrappedLine, mark: bool) -> u64
     requires { (line.first < 2 ^ 15) × (line.end < 2 ^ 15) × (line.width < 2 ^ 16) }
     ensures { result ≡ entry_marked line mark }
@@ -73,5 +67,5 @@ pub fn pack(line: WrappedLine, mark: bool) -> u64
         + line.end as u64 * END_PLACE
         + line.width as u64 * WIDTH_PLACE
         + u64::from(alignment) * ALIGNMENT_PLACE
-        + mark_number(mark) * MARK_PLACE
+        + u64::from(mark) * MARK_PLACE
 }
