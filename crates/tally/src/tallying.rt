@@ -16,10 +16,7 @@ fn read_glyph_counts(rule: Rule, text: &[u32]) -> TextGlyphCounts
 {
     let mut glyphs = 0;
     let mut over_wide = 0;
-    let mut i = 0;
-    while i < text.len() {
-        let glyph_or_head = text[i];
-        i += 1;
+    for &glyph_or_head in text {
         if head::is_head(glyph_or_head) {
             continue;
         }
