@@ -10,6 +10,7 @@ use native.Mathlib.Omega.{arith}
 use mir.Val.{Fits}
 use mir.Syntax.{w32}
 use lib.ListN.{length}
+use Rattle.std.specs.Prelude.{Ok, Err}
 use Rattle.text.specs.Line.{glyphs_from}
 use Rattle.text.proofs.Bools.{cond_cases}
 use Rattle.layout.specs.declared.Rect.{Rect}
@@ -17,9 +18,7 @@ use Rattle.layout.specs.Rect.{is_empty}
 use Rattle.layout.proofs.NotEmpty.{not-empty}
 use Rattle.refuse.specs.declared.Ceilings.{Ceilings}
 use Rattle.refuse.specs.declared.Refusal.{Refusal}
-use Rattle.refuse.specs.declared.Verdict.{Verdict}
-use Rattle.refuse.specs.declared.Verdict.TheVariants.{Accepted, Refused as RefusedFor}
-use Rattle.refuse.specs.Refusal.{verdict_number}
+use Rattle.refuse.specs.Refusal.{verdict_number, Verdict}
 use Rattle.refuse.proofs.Calls.{answer_refused, answered-number, answered_value}
 use Rattle.refuse.proofs.Lowest.{InOrder}
 use Rattle.paragraph.specs.Notice.{settings_of, notice_lines, inner_area_of}
@@ -34,8 +33,7 @@ use Rattle.pages.specs.Pages.{inner_area, composed_lines, page_count, pages_of}
 use Rattle.pages.specs.Reading.{Seen, pages_read, OneCell, WrappedNotice}
 use Rattle.pages.proofs.Pages.{pages}
 use Rattle.count_pages.specs.declared.PageCounts.{PageCounts}
-use Rattle.count_pages.specs.declared.PagesAnswer.TheVariants.{Pages, Refused}
-use Rattle.count_pages.specs.Call.{pages_in, answer_of, no_page_counts, counts_of, pages_answer_number, pages_answer_counts}
+use Rattle.count_pages.specs.Call.{pages_in, answer_of, no_page_counts, counts_of, pages_answer_counts}
 use Rattle.count_pages.specs.CallerExtra.{answered, read_by, CallerReadsAll}
 use Rattle.count_pages.proofs.Lines.{notice-lines-few}
 
@@ -44,26 +42,26 @@ pub lowest-first : (most : Ceilings) (call : Call) → InOrder (causes_of most c
 lowest-first most call = draw-laws.lowest-first most call
 
 module _ (call : Call) where
-  pub answer_number : pages_answer_number (answer_of call) ≡ verdict_number (verdict_of call)
+  pub answer_number : verdict_number (answer_of call) ≡ verdict_number (verdict_of call)
   unfolding answer_of
-  answer_number = answered-number Pages Refused pages_answer_number (λ counts. refl) (λ why. refl) (verdict_of call) (pages_in call)
+  answer_number = answered-number (verdict_of call) (pages_in call)
 
   pub answer_counts : pages_answer_counts (answer_of call) ≡ counts_of call
   unfolding answer_of counts_of
-  answer_counts = answered_value Pages Refused pages_answer_counts (λ counts. counts) no_page_counts (λ counts. refl) (λ why. refl) (verdict_of call) (pages_in call)
+  answer_counts = answered_value pages_answer_counts (λ counts. counts) no_page_counts (λ counts. refl) (λ why. refl) (verdict_of call) (pages_in call)
 
   -- the call is accepted exactly where the notice's two calls are, and refused where one of them is
-  pub pages_split : Split (pages_answer_number (answer_of call)) (frame_number call) (text_number call)
+  pub pages_split : Split (verdict_number (answer_of call)) (frame_number call) (text_number call)
   pages_split = rw answer_number (split call)
 
   -- accepted, with a non-empty inner area
-  pub pages-answered : verdict_of call ≡ Accepted → is_empty (inner_area call) ≡ false
+  pub pages-answered : verdict_of call ≡ Ok tt → is_empty (inner_area call) ≡ false
       → pages_answer_counts (answer_of call) ≡ record { inner = inner_area call; lines = length (composed_lines call); pages = pages_of call }
   unfolding answer_of pages_in
   pages-answered accepted some = rw (accepted, some)
 
   -- accepted, with an empty inner area
-  pub none-answered : verdict_of call ≡ Accepted → is_empty (inner_area call) ≡ true
+  pub none-answered : verdict_of call ≡ Ok tt → is_empty (inner_area call) ≡ true
       → pages_answer_counts (answer_of call) ≡ record { inner = inner_area call; lines = 0; pages = 0 }
   unfolding answer_of pages_in
   none-answered accepted empty = rw (accepted, empty)
@@ -78,15 +76,15 @@ module _ (call : Call) where
 
   -- v is the verdict of the checks
   module _ (v : Verdict) (e : v ≡ verdict_of call) where
-    pub pages_refused : (why : Refusal) → v ≡ RefusedFor why → Refused why ≡ answer_of call
+    pub pages_refused : (why : Refusal) → v ≡ Err why → Err why ≡ answer_of call
     unfolding answer_of
-    pages_refused why r = answer_refused Pages Refused (verdict_of call) (pages_in call) why (sym e ∙ r)
+    pages_refused why r = answer_refused (verdict_of call) (pages_in call) why (sym e ∙ r)
 
-    module _ (a : v ≡ Accepted) (inner : Rect) (i : inner ≡ inner_area_of (screen_in call) call.titles call.notice.block call.area) where
-      pub pages-none : is_empty inner ≡ true → Pages (record { inner = inner; lines = 0; pages = 0 }) ≡ answer_of call
+    module _ (a : v ≡ Ok tt) (inner : Rect) (i : inner ≡ inner_area_of (screen_in call) call.titles call.notice.block call.area) where
+      pub pages-none : is_empty inner ≡ true → Ok (record { inner = inner; lines = 0; pages = 0 }) ≡ answer_of call
       unfolding answer_of pages_in inner_area
       pages-none empty =
-          let k : verdict_of call ≡ Accepted = sym e ∙ a in
+          let k : verdict_of call ≡ Ok tt = sym e ∙ a in
           let f : is_empty (inner_area_of (screen_in call) call.titles call.notice.block call.area) ≡ true = rw i at empty in
           rw (k, f, i)
 
@@ -101,10 +99,10 @@ module _ (call : Call) where
           pub lines_fit : Fits w32 lines
           lines_fit = record { fits = omega (arith, few-lines) }
 
-          pub pages-counted : (pages : ℕ) → pages ≡ page_count lines inner.height → Pages (record { inner = inner; lines = lines; pages = pages }) ≡ answer_of call
+          pub pages-counted : (pages : ℕ) → pages ≡ page_count lines inner.height → Ok (record { inner = inner; lines = lines; pages = pages }) ≡ answer_of call
           unfolding answer_of pages_in inner_area composed_lines pages_of
           pages-counted pages p =
-              let k : verdict_of call ≡ Accepted = sym e ∙ a in
+              let k : verdict_of call ≡ Ok tt = sym e ∙ a in
               let f : is_empty (inner_area_of (screen_in call) call.titles call.notice.block call.area) ≡ false = rw i at some in
               rw (k, f, p, l, i)
 

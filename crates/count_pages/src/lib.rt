@@ -9,12 +9,12 @@ ghost use Rattle.draw_notice.specs.Call.{call_of};
 ghost use Rattle.pages.specs.Pages.{page_count};
 ghost use Rattle.count_pages.specs.Call.{answer_of};
 
-use buffer::Screen;
+use check_settings::screen;
 use draw_notice::draw_notice_verdict;
 use layout::Rect;
 use line_composer::Wrap;
 use paragraph::Notice;
-use refuse::{Refusal, Verdict};
+use refuse::Refusal;
 use text::line;
 use wrapping::Rule;
 
@@ -24,13 +24,6 @@ pub struct PageCounts {
     pub inner: Rect,
     pub lines: u32,
     pub pages: u32,
-}
-
-// Answer of the call: the area and counts, or the reason for the refusal.
-#[derive(Clone, Copy)]
-pub enum PagesAnswer {
-    Pages(PageCounts),
-    Refused(Refusal),
 }
 
 // Counts the composed lines of a notice at a width above 0, at which each text line gives one line if unwrapped.
@@ -71,28 +64,22 @@ pub fn pages(
     titles: &[u32],
     area: Rect,
     notice: Notice,
-) -> PagesAnswer
+) -> Result<PageCounts, Refusal>
     ensures { let call = call_of columns rows cells.now styles.now text.now titles.now area notice in
         result ≡ answer_of call }
 {
-    let checked = draw_notice_verdict(columns, rows, cells, styles, text, titles, area, notice);
-    if let Verdict::Refused(why) = checked {
-        return PagesAnswer::Refused(why);
-    }
-    let screen = Screen {
-        columns: columns as u16,
-        rows: rows as u16,
-    };
+    draw_notice_verdict(columns, rows, cells, styles, text, titles, area, notice)?;
+    let screen = screen::screen_size(columns, rows);
     let inner = paragraph::inner_area(screen, titles, notice.block, area);
     if inner.is_empty() {
-        return PagesAnswer::Pages(PageCounts {
+        return Ok(PageCounts {
             inner,
             lines: 0,
             pages: 0,
         });
     }
     let lines = count_at(notice, inner.width, text) as u32;
-    PagesAnswer::Pages(PageCounts {
+    Ok(PageCounts {
         inner,
         lines,
         pages: page_count(lines, inner.height),

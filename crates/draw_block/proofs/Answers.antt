@@ -5,13 +5,12 @@ use mathlib.Core.Path.{◌≡◌, refl, sym, ◌∙◌}
 use mathlib.Core.Bool.{false}
 use mathlib.Core.List.{List}
 use lib.ListN.{length}
+use Rattle.std.specs.Prelude.{Ok, Err}
 use Rattle.text.specs.Line.{Opens}
 use Rattle.refuse.specs.declared.Ceilings.{Ceilings}
 use Rattle.refuse.specs.declared.Refusal.{Refusal}
 use Rattle.refuse.specs.declared.Refusal.TheVariants.{Screen, Titles, Symbol}
-use Rattle.refuse.specs.declared.Verdict.{Verdict}
-use Rattle.refuse.specs.declared.Verdict.TheVariants.{Accepted, Refused as RefusedFor}
-use Rattle.refuse.specs.Refusal.{verdict_number}
+use Rattle.refuse.specs.Refusal.{verdict_number, Verdict}
 use Rattle.refuse.specs.Causes.{most_accepted, screen_causes, screen_wrong}
 use Rattle.refuse.proofs.Calls.{no_cause, left_refused, left-accepted}
 use Rattle.refuse.proofs.Accepted.{titles_open}
@@ -21,8 +20,7 @@ use Rattle.block.specs.Causes.{SymbolsFit}
 use Rattle.buffer.specs.Drawing.{drawn}
 use Rattle.buffer.specs.Screen.{screen_of}
 use Rattle.buffer.specs.PartsExtra.{HasCells}
-use Rattle.draw_block.specs.declared.BlockAnswer.TheVariants.{Done, Refused}
-use Rattle.draw_block.specs.Call.{Call, causes_of, verdict_of, framed, answer_of, block_answer_number, drawing_of, cells_after}
+use Rattle.draw_block.specs.Call.{Call, causes_of, verdict_of, answer_of, drawing_of, cells_after}
 
 -- a cause that holds refuses the call, and a refusal names the lowest cause that holds
 pub lowest-first : (most : Ceilings) (call : Call) → InOrder (causes_of most call)
@@ -30,50 +28,31 @@ unfolding causes_of screen_causes
 lowest-first most call = in_order (causes_of most call) refl
 
 -- the answer's number is the verdict's
-framed-number : (verdict : Verdict) → block_answer_number (framed verdict) ≡ verdict_number verdict
-framed-number Accepted = refl
-framed-number (RefusedFor why) = refl
-
-pub answer_number : (call : Call) → block_answer_number (answer_of call) ≡ verdict_number (verdict_of call)
-unfolding answer_of
-answer_number call = framed-number (verdict_of call)
+pub answer_number : (call : Call) → verdict_number (answer_of call) ≡ verdict_number (verdict_of call)
+answer_number call = refl
 
 -- a refused call changes no cell
-pub refused_cells : (call : Call) (why : Refusal) → verdict_of call ≡ RefusedFor why → cells_after call ≡ call.cells
+pub refused_cells : (call : Call) (why : Refusal) → verdict_of call ≡ Err why → cells_after call ≡ call.cells
 unfolding cells_after
 refused_cells call why e = rw e
 
 -- v is the verdict that the checks returned
-module _ (call : Call) (v : Verdict) (e : v ≡ verdict_of call) where
-  pub block_refused : (why : Refusal) → v ≡ RefusedFor why → (Refused why ≡ answer_of call) × (call.cells ≡ cells_after call)
-  unfolding answer_of cells_after
-  block_refused why r =
-      let k : verdict_of call ≡ RefusedFor why = sym e ∙ r in
-      (rw k, left_refused (verdict_of call) (drawn call.columns (drawing_of call) call.cells) call.cells why k)
+module _ (call : Call) (v : Verdict) (e : v ≡ verdict_of call) (a : v ≡ Ok tt) where
+  screen_right : screen_wrong most_accepted call.columns call.rows (length call.cells) ≡ false
+  unfolding verdict_of causes_of screen_causes
+  screen_right = no_cause (causes_of most_accepted call) Screen (sym e ∙ a)
 
-  module _ (a : v ≡ Accepted) where
-    pub block-drawn : (next : List ℕ) → next ≡ drawn call.columns (drawing_of call) call.cells
-        → (Done ≡ answer_of call) × (next ≡ cells_after call)
-    unfolding answer_of cells_after
-    block-drawn next p =
-        let k : verdict_of call ≡ Accepted = sym e ∙ a in
-        (rw k, left-accepted (verdict_of call) (drawn call.columns (drawing_of call) call.cells) call.cells k next p)
+  pub few_columns : call.columns < 2 ^ 16
+  few_columns = columns_fit call.columns call.rows (length call.cells) screen_right
 
-    screen_right : screen_wrong most_accepted call.columns call.rows (length call.cells) ≡ false
-    unfolding verdict_of causes_of screen_causes
-    screen_right = no_cause (causes_of most_accepted call) Screen (sym e ∙ a)
+  pub few_rows : call.rows < 2 ^ 16
+  few_rows = rows_fit call.columns call.rows (length call.cells) screen_right
 
-    pub few_columns : call.columns < 2 ^ 16
-    few_columns = columns_fit call.columns call.rows (length call.cells) screen_right
-
-    pub few_rows : call.rows < 2 ^ 16
-    few_rows = rows_fit call.columns call.rows (length call.cells) screen_right
-
-    pub drawable : SymbolsFit call.block × HasCells (screen_of call.columns call.rows) (length call.cells) × Opens call.titles
-    unfolding verdict_of causes_of screen_causes
-    drawable =
-        let causes = causes_of most_accepted call in (
-          no_cause causes Symbol (sym e ∙ a),
-          has_cells call.columns call.rows (length call.cells) screen_right,
-          titles_open most_accepted call.titles (no_cause causes Titles (sym e ∙ a)),
-        )
+  pub drawable : SymbolsFit call.block × HasCells (screen_of call.columns call.rows) (length call.cells) × Opens call.titles
+  unfolding verdict_of causes_of screen_causes
+  drawable =
+      let causes = causes_of most_accepted call in (
+        no_cause causes Symbol (sym e ∙ a),
+        has_cells call.columns call.rows (length call.cells) screen_right,
+        titles_open most_accepted call.titles (no_cause causes Titles (sym e ∙ a)),
+      )

@@ -6,6 +6,7 @@ use mathlib.Core.Path.{◌≡◌, refl, sym}
 use mathlib.Core.Bool.{false}
 use mathlib.Core.List.{List}
 use lib.ListN.{length, get_or}
+use Rattle.std.specs.Prelude.{Ok}
 use Rattle.cell.specs.Cell.{cell_from}
 use Rattle.layout.specs.declared.Rect.{Rect}
 use Rattle.layout.specs.Rect.{meet, contains}
@@ -14,7 +15,6 @@ use Rattle.buffer.specs.Drawing.{area_of}
 use Rattle.buffer.specs.Screen.{screen_of}
 use Rattle.buffer.proofs.Keeping.{untouched_bits, whole_cell}
 use Rattle.check_settings.proofs.Left.{left-length, left_keeps}
-use Rattle.refuse.specs.declared.Verdict.TheVariants.{Accepted}
 use Rattle.shadow.proofs.Keeping.{in_shadow}
 use Rattle.titles.specs.Titles.{titles_from}
 use Rattle.render_block.proofs.KeepsBits.{keeps_bits as block-keeps-bits}
@@ -48,7 +48,7 @@ module _ (call : Call) where
     elsewhere outside unshadowed =
         left_keeps whole_cell (verdict_of call) call.columns (drawing_of call) call.cells i h
         (λ accepted cell.
-        block-elsewhere call.styles screen_in (drawable call Accepted (sym accepted) refl).1.few_columns call.ambiguous call.titles call.block call.area
+        block-elsewhere call.styles screen_in (drawable call (Ok tt) (sym accepted) refl).1.few_columns call.ambiguous call.titles call.block call.area
         (i % call.columns) (i / call.columns) cell outside unshadowed)
 
   -- the same call on other cells
@@ -56,5 +56,5 @@ module _ (call : Call) where
   on_cells cells = call_of call.columns call.rows cells call.styles call.titles call.ambiguous call.area call.block
 
   pub answer_blind : (cells : List ℕ) → length cells ≡ length call.cells → answer_of (on_cells cells) ≡ answer_of call
-  unfolding answer_of verdict_of causes_of
+  unfolding verdict_of causes_of
   answer_blind cells e = rw e

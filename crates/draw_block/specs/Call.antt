@@ -7,17 +7,13 @@ use Rattle.buffer.specs.Drawing.{Drawing, drawn}
 use Rattle.buffer.specs.Screen.{screen_of}
 use Rattle.refuse.specs.declared.Ceilings.{Ceilings}
 use Rattle.refuse.specs.declared.Refusal.TheVariants.{Titles, StyleNumber, Symbol}
-use Rattle.refuse.specs.declared.Verdict.{Verdict}
-use Rattle.refuse.specs.declared.Verdict.TheVariants.{Accepted, Refused as RefusedFor}
-use Rattle.refuse.specs.Refusal.{Cause, ◌if◌, first_cause, refusal_number, unless_refused}
+use Rattle.refuse.specs.Refusal.{Cause, ◌if◌, first_cause, unless_refused, Verdict}
 use Rattle.refuse.specs.Causes.{most_accepted, screen_causes, titles_wrong, style_numbers_wrong, symbols_wrong}
 use Rattle.block.specs.declared.Block.{Block}
 use Rattle.block.specs.Causes.{block_symbols}
 use Rattle.check_block.specs.Styles.{frame_styles}
 use Rattle.titles.specs.Titles.{titles_from}
 use Rattle.render_block.specs.Frame.{block_of}
-use Rattle.draw_block.specs.declared.BlockAnswer.{BlockAnswer}
-use Rattle.draw_block.specs.declared.BlockAnswer.TheVariants.{Done, Refused}
 
 -- inputs of the call, with the cells before it
 pub record Call : Type 0 where
@@ -56,17 +52,8 @@ unfoldable pub verdict_of : Call → Verdict
 verdict_of call = first_cause (causes_of most_accepted call)
 
 -- answer: drawn, even if on no cell, or the cause of refusal
-abbrev pub framed : Verdict → BlockAnswer
-framed Accepted = Done
-framed (RefusedFor why) = Refused why
-
-unfoldable pub answer_of : Call → BlockAnswer
-answer_of call = framed (verdict_of call)
-
--- number of an answer, 0 if the block is drawn
-abbrev pub block_answer_number : BlockAnswer → ℕ
-block_answer_number Done = 0
-block_answer_number (Refused why) = refusal_number why
+abbrev pub answer_of : Call → Verdict
+answer_of = verdict_of
 
 -- cells after the call: the block drawn on them; if the call is refused, "all cells" left
 unfoldable pub drawing_of : Call → Drawing

@@ -5,20 +5,13 @@ ghost use Rattle.std.specs.Prelude.{◌≡◌};
 ghost use Rattle.draw_block.specs.Call.{call_of, verdict_of, answer_of, cells_after};
 
 use block::Block;
-use buffer::Screen;
 use check_settings::screen;
 use layout::Rect;
-use refuse::{ACCEPTED, Refusal, Verdict};
+use refuse::{ACCEPTED, Refusal, refuse_if};
 use text::AmbiguousWidth;
 
-// Answer of the call: drawn, or the cause of refusal.
-#[derive(Clone, Copy)]
-pub enum BlockAnswer {
-    Done,
-    Refused(Refusal),
-}
-
 // Returns the verdict of the call's checks, lowest cause first.
+#[tactic(auto, unfolding(crate::specs::Call::verdict_of, crate::specs::Call::causes_of, refuse::specs::Causes::screen_causes))]
 fn draw_block_verdict(
     columns: u32,
     rows: u32,
@@ -28,28 +21,23 @@ fn draw_block_verdict(
     ambiguous: AmbiguousWidth,
     area: Rect,
     block: Block,
-) -> Verdict
+) -> Result<(), Refusal>
     ensures { let call = call_of columns rows cells.now styles.now titles.now ambiguous area block in
         result ≡ verdict_of call }
 {
-    let lent = cells.len();
-    if let Verdict::Refused(why) = screen::screen_verdict(ACCEPTED, columns, rows, lent, styles) {
-        return Verdict::Refused(why);
-    }
-    if check_records::titles_wrong(ACCEPTED, titles) {
-        return Verdict::Refused(Refusal::Titles);
-    }
-    if check_block::style_numbers_wrong(styles.len(), titles, block) {
-        return Verdict::Refused(Refusal::StyleNumber);
-    }
-    if block.symbols_wrong() {
-        return Verdict::Refused(Refusal::Symbol);
-    }
-    Verdict::Accepted
+    screen::screen_verdict(ACCEPTED, columns, rows, cells.len(), styles)?;
+    refuse_if(
+        check_records::titles_wrong(ACCEPTED, titles),
+        Refusal::Titles,
+    )?;
+    let no_style = check_block::style_numbers_wrong(styles.len(), titles, block);
+    refuse_if(no_style, Refusal::StyleNumber)?;
+    refuse_if(block.symbols_wrong(), Refusal::Symbol)
 }
 
 // Draws a block with its titles (block.rs: `Block::render`). Refused for causes 1, 2, 5, 6 and 7; a refused call
 // changes no cell.
+#[tactic(auto, unfolding(crate::specs::Call::cells_after, crate::specs::Call::drawing_of))]
 pub fn draw_block(
     columns: u32,
     rows: u32,
@@ -59,19 +47,12 @@ pub fn draw_block(
     ambiguous: AmbiguousWidth,
     area: Rect,
     block: Block,
-) -> BlockAnswer
+) -> Result<(), Refusal>
     ensures { let call = call_of columns rows cells.old styles.now titles.now ambiguous area block in
         (result ≡ answer_of call) × (cells.new ≡ cells_after call) }
 {
-    if let Verdict::Refused(why) = draw_block_verdict(
-        columns, rows, cells, styles, titles, ambiguous, area, block,
-    ) {
-        return BlockAnswer::Refused(why);
-    }
-    let screen = Screen {
-        columns: columns as u16,
-        rows: rows as u16,
-    };
+    draw_block_verdict(columns, rows, cells, styles, titles, ambiguous, area, block)?;
+    let screen = screen::screen_size(columns, rows);
     render_block::render(screen, cells, styles, titles, ambiguous, block, area);
-    BlockAnswer::Done
+    Ok(())
 }

@@ -6,14 +6,13 @@ use mathlib.Core.Bool.{Bool, true, false}
 use mathlib.Core.List.{List}
 use lib.ListN.{length}
 use borrow.Author.Tests.{le-leb, lt-leb}
+use Rattle.std.specs.Prelude.{Ok, Err}
 use Rattle.text.specs.Line.{Opens}
 use Rattle.layout.specs.declared.Rect.{Rect}
 use Rattle.refuse.specs.declared.Ceilings.{Ceilings}
 use Rattle.refuse.specs.declared.Refusal.{Refusal}
 use Rattle.refuse.specs.declared.Refusal.TheVariants.{Screen, Titles, Symbol}
-use Rattle.refuse.specs.declared.Verdict.{Verdict}
-use Rattle.refuse.specs.declared.Verdict.TheVariants.{Accepted, Refused as RefusedFor}
-use Rattle.refuse.specs.Refusal.{verdict_number}
+use Rattle.refuse.specs.Refusal.{verdict_number, Verdict}
 use Rattle.refuse.specs.Causes.{most_accepted, screen_causes, screen_wrong, style_numbers_wrong}
 use Rattle.refuse.proofs.Calls.{no_cause, answer_refused, answer_accepted, left_refused, left-accepted, answered-number, answered_value}
 use Rattle.refuse.proofs.Accepted.{titles_open}
@@ -24,21 +23,8 @@ use Rattle.block.specs.Causes.{SymbolsFit}
 use Rattle.check_block.specs.Styles.{frame_styles}
 use Rattle.buffer.specs.Drawing.{drawn}
 use Rattle.buffer.specs.PartsExtra.{HasCells}
-use Rattle.inner.specs.declared.InnerAnswer.TheVariants.{Area, Refused}
-use Rattle.inner.specs.Call.{no_rect, inner_answer_number, inner_answer_rect}
+use Rattle.inner.specs.Call.{no_rect, inner_answer_rect}
 use Rattle.draw_frame.specs.Call.{Call, notice_frame_styles, causes_of, verdict_of, screen_in, inner_in, answer_of, area_of, drawing_of, cells_after}
-
--- cause 6: one law for each path through `style_numbers_wrong`
-module _ (count style : ℕ) (b : Block) (titles : List ℕ) where
-  pub own-style : count ≤ style → true ≡ style_numbers_wrong count (notice_frame_styles style b titles)
-  unfolding notice_frame_styles
-  own-style h = rw (le-leb count style h)
-
-  pub block-style : (x : Bool) → style < count → x ≡ style_numbers_wrong count (frame_styles b titles) → x ≡ style_numbers_wrong count (notice_frame_styles style b titles)
-  unfolding notice_frame_styles
-  block-style x h p = rw (lt-leb count style h) p
-
-pub ruleset style-numbers = (own-style, block-style)
 
 -- a call is refused if and only if a cause holds, and for the lowest such cause
 pub lowest-first : (most : Ceilings) (call : Call) → InOrder (causes_of most call)
@@ -46,21 +32,21 @@ unfolding causes_of screen_causes
 lowest-first most call = in_order (causes_of most call) refl
 
 module _ (call : Call) where
-  pub answer_number : inner_answer_number (answer_of call) ≡ verdict_number (verdict_of call)
+  pub answer_number : verdict_number (answer_of call) ≡ verdict_number (verdict_of call)
   unfolding answer_of
-  answer_number = answered-number Area Refused inner_answer_number (λ area. refl) (λ why. refl) (verdict_of call) (inner_in call)
+  answer_number = answered-number (verdict_of call) (inner_in call)
 
   pub answer_area : inner_answer_rect (answer_of call) ≡ area_of call
   unfolding answer_of area_of
-  answer_area = answered_value Area Refused inner_answer_rect (λ area. area) no_rect (λ area. refl) (λ why. refl) (verdict_of call) (inner_in call)
+  answer_area = answered_value inner_answer_rect (λ area. area) no_rect (λ area. refl) (λ why. refl) (verdict_of call) (inner_in call)
 
   -- a refused call leaves all cells unchanged
-  pub refused_cells : (why : Refusal) → verdict_of call ≡ RefusedFor why → cells_after call ≡ call.cells
+  pub refused_cells : (why : Refusal) → verdict_of call ≡ Err why → cells_after call ≡ call.cells
   unfolding cells_after
   refused_cells why e = rw e
 
   -- an accepted call has valid inputs
-  module _ (k : verdict_of call ≡ Accepted) where
+  module _ (k : verdict_of call ≡ Ok tt) where
     screen_right : screen_wrong most_accepted call.columns call.rows (length call.cells) ≡ false
     unfolding verdict_of causes_of screen_causes
     screen_right = no_cause (causes_of most_accepted call) Screen k
@@ -69,32 +55,18 @@ module _ (call : Call) where
     screen_cells = has_cells call.columns call.rows (length call.cells) screen_right
 
   -- v is the verdict of the checks
-  module _ (v : Verdict) (e : v ≡ verdict_of call) where
-    pub frame_refused : (why : Refusal) → v ≡ RefusedFor why → (Refused why ≡ answer_of call) × (call.cells ≡ cells_after call)
-    unfolding answer_of cells_after
-    frame_refused why r =
-        let k : verdict_of call ≡ RefusedFor why = sym e ∙ r in
-        (answer_refused Area Refused (verdict_of call) (inner_in call) why k, left_refused (verdict_of call) (drawn call.columns (drawing_of call) call.cells) call.cells why k)
+  module _ (v : Verdict) (e : v ≡ verdict_of call) (a : v ≡ Ok tt) where
+    pub few_columns : call.columns < 2 ^ 16
+    few_columns = columns_fit call.columns call.rows (length call.cells) (screen_right (sym e ∙ a))
 
-    module _ (a : v ≡ Accepted) where
-      pub frame_drawn : (r : Rect) (next : List ℕ) → r ≡ inner_in call → next ≡ drawn call.columns (drawing_of call) call.cells
-          → (Area r ≡ answer_of call) × (next ≡ cells_after call)
-      unfolding answer_of cells_after
-      frame_drawn r next i p =
-          let k : verdict_of call ≡ Accepted = sym e ∙ a in
-          (answer_accepted Area Refused (verdict_of call) (inner_in call) k r i, left-accepted (verdict_of call) (drawn call.columns (drawing_of call) call.cells) call.cells k next p)
+    pub few_rows : call.rows < 2 ^ 16
+    few_rows = rows_fit call.columns call.rows (length call.cells) (screen_right (sym e ∙ a))
 
-      pub few_columns : call.columns < 2 ^ 16
-      few_columns = columns_fit call.columns call.rows (length call.cells) (screen_right (sym e ∙ a))
-
-      pub few_rows : call.rows < 2 ^ 16
-      few_rows = rows_fit call.columns call.rows (length call.cells) (screen_right (sym e ∙ a))
-
-      pub drawable : SymbolsFit call.block × HasCells (screen_in call) (length call.cells) × Opens call.titles
-      unfolding verdict_of causes_of screen_causes
-      drawable =
-          let causes = causes_of most_accepted call in (
-            no_cause causes Symbol (sym e ∙ a),
-            screen_cells (sym e ∙ a),
-            titles_open most_accepted call.titles (no_cause causes Titles (sym e ∙ a)),
-          )
+    pub drawable : SymbolsFit call.block × HasCells (screen_in call) (length call.cells) × Opens call.titles
+    unfolding verdict_of causes_of screen_causes
+    drawable =
+        let causes = causes_of most_accepted call in (
+          no_cause causes Symbol (sym e ∙ a),
+          screen_cells (sym e ∙ a),
+          titles_open most_accepted call.titles (no_cause causes Titles (sym e ∙ a)),
+        )

@@ -1,15 +1,15 @@
 -- Document 02, C-15: "one draws the frame, paragraph style first, and answers the inner area (four zeros where refused)". "The frame call
 -- checks 1, 2, 5, 6, 7 over its own inputs". The causes, the answer and the drawing of the call `draw_frame`.
-use Rattle.std.specs.Prelude.{ℕ, List, [], ◌∷◌, ◌++◌, length}
+use Rattle.std.specs.Prelude.{ℕ, List, [], ◌∷◌, ◌++◌, length, Result}
 use Rattle.text.specs.declared.AmbiguousWidth.{AmbiguousWidth}
 use Rattle.layout.specs.declared.Rect.{Rect}
 use Rattle.buffer.specs.declared.Screen.{Screen as ScreenSize}
 use Rattle.buffer.specs.Drawing.{Drawing, drawn}
 use Rattle.buffer.specs.Screen.{screen_of}
 use Rattle.refuse.specs.declared.Ceilings.{Ceilings}
+use Rattle.refuse.specs.declared.Refusal.{Refusal}
 use Rattle.refuse.specs.declared.Refusal.TheVariants.{Titles, StyleNumber, Symbol}
-use Rattle.refuse.specs.declared.Verdict.{Verdict}
-use Rattle.refuse.specs.Refusal.{Cause, ◌if◌, first_cause, answering, unless_refused}
+use Rattle.refuse.specs.Refusal.{Cause, ◌if◌, first_cause, answering, unless_refused, Verdict}
 use Rattle.refuse.specs.Causes.{most_accepted, screen_causes, titles_wrong, style_numbers_wrong, symbols_wrong}
 use Rattle.block.specs.declared.Block.{Block}
 use Rattle.block.specs.Causes.{block_symbols}
@@ -17,8 +17,6 @@ use Rattle.check_block.specs.Styles.{frame_styles}
 use Rattle.titles.specs.Titles.{titles_from}
 use Rattle.paragraph.specs.Notice.{inner_area_of}
 use Rattle.paragraph.specs.Apart.{frame_of}
-use Rattle.inner.specs.declared.InnerAnswer.{InnerAnswer}
-use Rattle.inner.specs.declared.InnerAnswer.TheVariants.{Area, Refused}
 use Rattle.inner.specs.Call.{no_rect}
 
 -- inputs of the call; `cells` before the call, `style` the number of the paragraph style
@@ -70,8 +68,8 @@ screen_in call = screen_of call.columns call.rows
 unfoldable pub inner_in : Call → Rect
 inner_in call = inner_area_of (screen_in call) call.titles call.block call.area
 
-unfoldable pub answer_of : Call → InnerAnswer
-answer_of call = answering Area Refused (verdict_of call) (inner_in call)
+unfoldable pub answer_of : Call → Result Rect Refusal
+answer_of call = answering (verdict_of call) (inner_in call)
 
 -- the area in the answer: "four zeros where refused"
 unfoldable pub area_of : Call → Rect

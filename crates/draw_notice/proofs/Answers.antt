@@ -3,10 +3,10 @@ use Prim.Native.Nat.{◌<◌, ◌^◌}
 use mathlib.Core.Path.{◌≡◌, refl, sym, ◌∙◌}
 use mathlib.Core.Bool.{false}
 use lib.ListN.{length}
+use Rattle.std.specs.Prelude.{Ok}
+use Rattle.refuse.specs.Refusal.{Verdict}
 use Rattle.refuse.specs.declared.Ceilings.{Ceilings}
 use Rattle.refuse.specs.declared.Refusal.TheVariants.{Screen, TextLength, TextHeads}
-use Rattle.refuse.specs.declared.Verdict.{Verdict}
-use Rattle.refuse.specs.declared.Verdict.TheVariants.{Accepted}
 use Rattle.refuse.specs.Causes.{most_accepted, screen_causes, text_causes, screen_wrong}
 use Rattle.refuse.proofs.Calls.{no_cause}
 use Rattle.refuse.proofs.Accepted.{TextAccepted, sound}
@@ -23,7 +23,7 @@ lowest-first most call = in_order (causes_of most call) refl
 
 module _ (call : Call) where
   -- if accepted, the inputs are valid
-  module _ (k : verdict_of call ≡ Accepted) where
+  module _ (k : verdict_of call ≡ Ok tt) where
     pub screen_right : screen_wrong most_accepted call.columns call.rows (length call.cells) ≡ false
     unfolding verdict_of causes_of screen_causes text_causes
     screen_right = no_cause (causes_of most_accepted call) Screen k
@@ -38,7 +38,7 @@ module _ (call : Call) where
     screen_cells = has_cells call.columns call.rows (length call.cells) screen_right
 
   -- v is the verdict of the checks
-  module _ (v : Verdict) (e : v ≡ verdict_of call) (a : v ≡ Accepted) where
+  module _ (v : Verdict) (e : v ≡ verdict_of call) (a : v ≡ Ok tt) where
     pub few_columns : call.columns < 2 ^ 16
     few_columns = columns_fit call.columns call.rows (length call.cells) (screen_right (sym e ∙ a))
 

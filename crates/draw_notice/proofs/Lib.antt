@@ -1,3 +1,2 @@
-pub mod Styles
 pub mod Answers
 pub mod Pair

@@ -8,6 +8,7 @@ use mathlib.Core.Bool.{Bool, true, false, cond, ◌||◌}
 use mathlib.Core.List.{List, [], ◌∷◌, ◌++◌}
 use lib.Dec.{leb}
 use lib.ListN.{length, get_or}
+use Rattle.std.specs.Prelude.{Ok, Err, ⊤}
 use Rattle.text.proofs.Bools.{neither}
 use Rattle.text.proofs.Either.{some-append}
 use Rattle.layout.specs.declared.Rect.{Rect}
@@ -16,7 +17,6 @@ use Rattle.buffer.specs.Drawing.{drawn}
 use Rattle.buffer.specs.PartsExtra.{HasCells}
 use Rattle.refuse.specs.declared.Refusal.{Refusal}
 use Rattle.refuse.specs.declared.Refusal.TheVariants.{Screen, Styles, TextLength, TextHeads, Titles, StyleNumber, Symbol}
-use Rattle.refuse.specs.declared.Verdict.TheVariants.{Accepted, Refused}
 use Rattle.refuse.specs.Refusal.{◌if◌, first_cause, verdict_number}
 use Rattle.refuse.specs.Causes.{most_accepted, screen_causes, text_causes, screen_wrong, styles_wrong, text_too_long, text_heads_wrong, titles_wrong, no_style, style_numbers_wrong, symbols_wrong}
 use Rattle.refuse.proofs.Calls.{no_cause}
@@ -54,7 +54,7 @@ styles-split count n text titles =
 module _ (call : Call) where
   -- ---- where both are accepted, the notice drawn whole is
 
-  pub accepted-whole : BothAccepted call → verdict_of call ≡ Accepted
+  pub accepted-whole : BothAccepted call → verdict_of call ≡ Ok tt
   unfolding verdict_of causes_of screen_causes text_causes frame.verdict_of frame.causes_of text.verdict_of text.causes_of
   accepted-whole both =
       let framed = no_cause (frame.causes_of most_accepted (frame_call call)) in
@@ -126,21 +126,21 @@ text_verdict call =
 -- ---- which of the two is refused
 
 -- the numbers of a call that checks titles, style numbers and symbols, and of one that checks style numbers alone
-frame-own : (i f y : Bool) → OneOf (0 ∷ 5 ∷ 6 ∷ 7 ∷ []) (verdict_number (cond i (Refused Titles) (cond f (Refused StyleNumber) (cond y (Refused Symbol) Accepted))))
+frame-own : (i f y : Bool) → OneOf (0 ∷ 5 ∷ 6 ∷ 7 ∷ []) (verdict_number {A = ⊤} (cond i (Err Titles) (cond f (Err StyleNumber) (cond y (Err Symbol) (Ok tt)))))
 frame-own true f y = refl
 frame-own false true y = refl
 frame-own false false true = refl
 frame-own false false false = refl
 
-text-own : (x : Bool) → OneOf (0 ∷ 6 ∷ []) (verdict_number (cond x (Refused StyleNumber) Accepted))
+text-own : (x : Bool) → OneOf (0 ∷ 6 ∷ []) (verdict_number {A = ⊤} (cond x (Err StyleNumber) (Ok tt)))
 text-own true = refl
 text-own false = refl
 
 -- causes 1 to 7: screen, styles, text length, text heads, titles, style numbers of the text or of the frame, symbols
 split-causes : (s t l h i x f y : Bool) → Split
-    (verdict_number (cond s (Refused Screen) (cond t (Refused Styles) (cond l (Refused TextLength) (cond h (Refused TextHeads) (cond i (Refused Titles) (cond (x || f) (Refused StyleNumber) (cond y (Refused Symbol) Accepted))))))))
-    (verdict_number (cond s (Refused Screen) (cond t (Refused Styles) (cond i (Refused Titles) (cond f (Refused StyleNumber) (cond y (Refused Symbol) Accepted))))))
-    (verdict_number (cond s (Refused Screen) (cond t (Refused Styles) (cond l (Refused TextLength) (cond h (Refused TextHeads) (cond x (Refused StyleNumber) Accepted))))))
+    (verdict_number {A = ⊤} (cond s (Err Screen) (cond t (Err Styles) (cond l (Err TextLength) (cond h (Err TextHeads) (cond i (Err Titles) (cond (x || f) (Err StyleNumber) (cond y (Err Symbol) (Ok tt)))))))))
+    (verdict_number {A = ⊤} (cond s (Err Screen) (cond t (Err Styles) (cond i (Err Titles) (cond f (Err StyleNumber) (cond y (Err Symbol) (Ok tt)))))))
+    (verdict_number {A = ⊤} (cond s (Err Screen) (cond t (Err Styles) (cond l (Err TextLength) (cond h (Err TextHeads) (cond x (Err StyleNumber) (Ok tt)))))))
 split-causes true t l h i x f y = refused_1
 split-causes false true l h i x f y = refused_2
 split-causes false false true h i x f y = refused_3 (frame-own i f y)
@@ -169,7 +169,7 @@ module _ (call : Call) where
       (symbols_wrong (block_symbols call.notice.block)))
 
   -- both are accepted where the notice drawn whole is
-  pub accepted-apart : verdict_of call ≡ Accepted → BothAccepted call
+  pub accepted-apart : verdict_of call ≡ Ok tt → BothAccepted call
   unfolding verdict_of causes_of screen_causes text_causes frame.verdict_of frame.causes_of text.verdict_of text.causes_of
   accepted-apart k =
       let count = length call.styles in
@@ -184,11 +184,11 @@ module _ (call : Call) where
   -- ---- what is drawn if one is refused, and where
 
   -- four zeros are an empty area
-  pub nothing-drawn : (why : Refusal) → frame.verdict_of (frame_call call) ≡ Refused why → pair_cells call ≡ call.cells
+  pub nothing-drawn : (why : Refusal) → frame.verdict_of (frame_call call) ≡ Err why → pair_cells call ≡ call.cells
   unfolding pair_cells frame.answer_of
   nothing-drawn why e = text-untouched.empty-area (text_call call) (rw e refl) ∙ frame-laws.refused_cells (frame_call call) why e
 
-  pub frame_alone : (why : Refusal) → text.verdict_of (text_call call) ≡ Refused why → pair_cells call ≡ frame.cells_after (frame_call call)
+  pub frame_alone : (why : Refusal) → text.verdict_of (text_call call) ≡ Err why → pair_cells call ≡ frame.cells_after (frame_call call)
   unfolding pair_cells
   frame_alone why e = text-laws.refused_cells (text_call call) why e
 

@@ -8,8 +8,7 @@ use Rattle.buffer.specs.Drawing.{Drawing, drawn}
 use Rattle.buffer.specs.Screen.{screen_of}
 use Rattle.refuse.specs.declared.Ceilings.{Ceilings}
 use Rattle.refuse.specs.declared.Refusal.TheVariants.{Titles, StyleNumber, Symbol}
-use Rattle.refuse.specs.declared.Verdict.{Verdict}
-use Rattle.refuse.specs.Refusal.{Cause, ◌if◌, first_cause, unless_refused}
+use Rattle.refuse.specs.Refusal.{Cause, ◌if◌, first_cause, unless_refused, Verdict}
 use Rattle.refuse.specs.Causes.{most_accepted, screen_causes, text_causes, titles_wrong, style_numbers_wrong, symbols_wrong}
 use Rattle.block.specs.Causes.{block_symbols}
 use Rattle.check_block.specs.Styles.{frame_styles}

@@ -1,15 +1,14 @@
 -- Document 02, C-15: "The old combined call is withdrawn and its callers make the two in that order." The two calls of a notice: the cells
 -- and counts that they leave, and which of them is refused.
-use Rattle.std.specs.Prelude.{ℕ, ◌≡◌, true, List, [], ◌∷◌, eqb}
+use Rattle.std.specs.Prelude.{ℕ, ◌≡◌, true, List, [], ◌∷◌, eqb, Ok}
 use Rattle.text.specs.Lists.{some}
-use Rattle.refuse.specs.declared.Verdict.TheVariants.{Accepted}
 use Rattle.refuse.specs.Refusal.{verdict_number}
 use Rattle.render_lines.specs.declared.DrawCounts.{DrawCounts}
 use Rattle.paragraph.specs.Notice.{settings_of}
-use Rattle.inner.specs.Call.{inner_answer_number, inner_answer_rect}
+use Rattle.inner.specs.Call.{inner_answer_rect}
 use Rattle.draw_frame.specs.Call as frame
 use Rattle.draw_text.specs.Call as text
-use Rattle.draw_text.specs.Call.{draw_answer_number, draw_answer_counts}
+use Rattle.draw_text.specs.Call.{draw_answer_counts}
 use Rattle.draw_notice.specs.Call.{Call, verdict_of, counts_of, cells_after}
 
 -- the frame call of a notice
@@ -32,8 +31,8 @@ pair_counts call = draw_answer_counts (text.answer_of (text_call call))
 
 -- "Where both are accepted"
 pub record BothAccepted (call : Call) : Type 0 where
-  pub frame_accepted : frame.verdict_of (frame_call call) ≡ Accepted
-  pub text_accepted : text.verdict_of (text_call call) ≡ Accepted
+  pub frame_accepted : frame.verdict_of (frame_call call) ≡ Ok tt
+  pub text_accepted : text.verdict_of (text_call call) ≡ Ok tt
 
 -- "frame, then text into the area it answered, must leave the cells and counts that the combined drawing defined"
 pub record SameAsCombined (call : Call) : Type 0 where
@@ -46,10 +45,10 @@ abbrev pub whole_number : Call → ℕ
 whole_number call = verdict_number (verdict_of call)
 
 abbrev pub frame_number : Call → ℕ
-frame_number call = inner_answer_number (frame.answer_of (frame_call call))
+frame_number call = verdict_number (frame.answer_of (frame_call call))
 
 abbrev pub text_number : Call → ℕ
-text_number call = draw_answer_number (text.answer_of (text_call call))
+text_number call = verdict_number (text.answer_of (text_call call))
 
 abbrev pub OneOf : List ℕ → ℕ → Type 0
 OneOf numbers n = some (eqb n) numbers ≡ true

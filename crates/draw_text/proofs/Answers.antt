@@ -6,12 +6,11 @@ use mathlib.Core.Bool.{Bool, true, false}
 use mathlib.Core.List.{List}
 use lib.ListN.{length}
 use borrow.Author.Tests.{le-leb, lt-leb}
+use Rattle.std.specs.Prelude.{Ok, Err}
 use Rattle.refuse.specs.declared.Ceilings.{Ceilings}
 use Rattle.refuse.specs.declared.Refusal.{Refusal}
 use Rattle.refuse.specs.declared.Refusal.TheVariants.{Screen, TextLength, TextHeads}
-use Rattle.refuse.specs.declared.Verdict.{Verdict}
-use Rattle.refuse.specs.declared.Verdict.TheVariants.{Accepted, Refused as RefusedFor}
-use Rattle.refuse.specs.Refusal.{verdict_number}
+use Rattle.refuse.specs.Refusal.{verdict_number, Verdict}
 use Rattle.refuse.specs.Causes.{most_accepted, screen_causes, text_causes, screen_wrong, glyph_styles, style_numbers_wrong}
 use Rattle.refuse.proofs.Calls.{no_cause, answer_refused, answer_accepted, left_refused, left-accepted, answered-number, answered_value}
 use Rattle.refuse.proofs.Accepted.{sound}
@@ -23,25 +22,7 @@ use Rattle.render_lines.specs.declared.DrawCounts.{DrawCounts}
 use Rattle.render_lines.specs.DrawingExtra.{Composable}
 use Rattle.render_text.specs.declared.TextSettings.{TextSettings}
 use Rattle.paragraph.specs.Notice.{no_draw_counts}
-use Rattle.draw_text.specs.declared.DrawAnswer.TheVariants.{Counts, Refused}
-use Rattle.draw_text.specs.Call.{Call, text_styles, causes_of, verdict_of, screen_in, drawing_of, rows_of, answer_of, counts_of, cells_after, draw_answer_number, draw_answer_counts}
-
--- cause 6: one law for each path through `style_numbers_wrong`
-module _ (count : ℕ) (s : TextSettings) (text : List ℕ) where
-  pub own-style : count ≤ s.style → true ≡ style_numbers_wrong count (text_styles s text)
-  unfolding text_styles
-  own-style h = rw (le-leb count s.style h)
-
-  module _ (default : s.style < count) where
-    pub text-style : count ≤ s.text_style → true ≡ style_numbers_wrong count (text_styles s text)
-    unfolding text_styles
-    text-style h = rw (lt-leb count s.style default, le-leb count s.text_style h)
-
-    pub glyph-style : (x : Bool) → s.text_style < count → x ≡ style_numbers_wrong count (glyph_styles text) → x ≡ style_numbers_wrong count (text_styles s text)
-    unfolding text_styles
-    glyph-style x h p = rw (lt-leb count s.style default, lt-leb count s.text_style h) p
-
-pub ruleset style-numbers = (own-style, text-style, glyph-style)
+use Rattle.draw_text.specs.Call.{Call, text_styles, causes_of, verdict_of, screen_in, drawing_of, rows_of, answer_of, counts_of, cells_after, draw_answer_counts}
 
 -- a call is refused if and only if a cause holds, and for the lowest such cause
 pub lowest-first : (most : Ceilings) (call : Call) → InOrder (causes_of most call)
@@ -49,48 +30,34 @@ unfolding causes_of screen_causes text_causes
 lowest-first most call = in_order (causes_of most call) refl
 
 module _ (call : Call) where
-  pub answer_number : draw_answer_number (answer_of call) ≡ verdict_number (verdict_of call)
+  pub answer_number : verdict_number (answer_of call) ≡ verdict_number (verdict_of call)
   unfolding answer_of
-  answer_number = answered-number Counts Refused draw_answer_number (λ counts. refl) (λ why. refl) (verdict_of call) (rows_of call)
+  answer_number = answered-number (verdict_of call) (rows_of call)
 
   pub answer_counts : draw_answer_counts (answer_of call) ≡ counts_of call
   unfolding answer_of counts_of
-  answer_counts = answered_value Counts Refused draw_answer_counts (λ counts. counts) no_draw_counts (λ counts. refl) (λ why. refl) (verdict_of call) (rows_of call)
+  answer_counts = answered_value draw_answer_counts (λ counts. counts) no_draw_counts (λ counts. refl) (λ why. refl) (verdict_of call) (rows_of call)
 
   -- a refused call leaves all cells unchanged
-  pub refused_cells : (why : Refusal) → verdict_of call ≡ RefusedFor why → cells_after call ≡ call.cells
+  pub refused_cells : (why : Refusal) → verdict_of call ≡ Err why → cells_after call ≡ call.cells
   unfolding cells_after
   refused_cells why e = rw e
 
   -- v is the verdict of the checks
-  module _ (v : Verdict) (e : v ≡ verdict_of call) where
-    pub text_refused : (why : Refusal) → v ≡ RefusedFor why → (Refused why ≡ answer_of call) × (call.cells ≡ cells_after call)
-    unfolding answer_of cells_after
-    text_refused why r =
-        let k : verdict_of call ≡ RefusedFor why = sym e ∙ r in
-        (answer_refused Counts Refused (verdict_of call) (rows_of call) why k, left_refused (verdict_of call) (drawn call.columns (drawing_of call) call.cells) call.cells why k)
+  module _ (v : Verdict) (e : v ≡ verdict_of call) (a : v ≡ Ok tt) where
+    screen_right : screen_wrong most_accepted call.columns call.rows (length call.cells) ≡ false
+    unfolding verdict_of causes_of screen_causes text_causes
+    screen_right = no_cause (causes_of most_accepted call) Screen (sym e ∙ a)
 
-    module _ (a : v ≡ Accepted) where
-      screen_right : screen_wrong most_accepted call.columns call.rows (length call.cells) ≡ false
-      unfolding verdict_of causes_of screen_causes text_causes
-      screen_right = no_cause (causes_of most_accepted call) Screen (sym e ∙ a)
+    pub few_columns : call.columns < 2 ^ 16
+    few_columns = columns_fit call.columns call.rows (length call.cells) screen_right
 
-      pub text_drawn : (r : DrawCounts) (next : List ℕ) → r ≡ rows_of call → next ≡ drawn call.columns (drawing_of call) call.cells
-          → (Counts r ≡ answer_of call) × (next ≡ cells_after call)
-      unfolding answer_of cells_after
-      text_drawn r next c p =
-          let k : verdict_of call ≡ Accepted = sym e ∙ a in
-          (answer_accepted Counts Refused (verdict_of call) (rows_of call) k r c, left-accepted (verdict_of call) (drawn call.columns (drawing_of call) call.cells) call.cells k next p)
+    pub few_rows : call.rows < 2 ^ 16
+    few_rows = rows_fit call.columns call.rows (length call.cells) screen_right
 
-      pub few_columns : call.columns < 2 ^ 16
-      few_columns = columns_fit call.columns call.rows (length call.cells) screen_right
-
-      pub few_rows : call.rows < 2 ^ 16
-      few_rows = rows_fit call.columns call.rows (length call.cells) screen_right
-
-      pub composable : Composable call.text × HasCells (screen_in call) (length call.cells)
-      unfolding verdict_of causes_of screen_causes text_causes
-      composable =
-          let causes = causes_of most_accepted call in
-          let s = sound call.text (no_cause causes TextLength (sym e ∙ a)) (no_cause causes TextHeads (sym e ∙ a)) in
-          (record { opens = s.opens; few = s.few }, has_cells call.columns call.rows (length call.cells) screen_right)
+    pub composable : Composable call.text × HasCells (screen_in call) (length call.cells)
+    unfolding verdict_of causes_of screen_causes text_causes
+    composable =
+        let causes = causes_of most_accepted call in
+        let s = sound call.text (no_cause causes TextLength (sym e ∙ a)) (no_cause causes TextHeads (sym e ∙ a)) in
+        (record { opens = s.opens; few = s.few }, has_cells call.columns call.rows (length call.cells) screen_right)

@@ -6,14 +6,13 @@ use mathlib.Core.Path.{◌≡◌, refl}
 use mathlib.Core.Bool.{true, false}
 use mathlib.Core.List.{List}
 use lib.ListN.{length, get_or}
+use Rattle.std.specs.Prelude.{Ok, Err}
 use Rattle.cell.specs.Cell.{cell_from}
 use Rattle.layout.specs.Rect.{is_empty, contains}
 use Rattle.buffer.specs.Drawing.{drawn}
 use Rattle.buffer.proofs.Keeping.{untouched_bits, whole_cell}
 use Rattle.check_settings.proofs.Left.{left-length, left_keeps}
-use Rattle.refuse.specs.declared.Verdict.{Verdict}
-use Rattle.refuse.specs.declared.Verdict.TheVariants.{Accepted, Refused as RefusedFor}
-use Rattle.refuse.specs.Refusal.{unless_refused}
+use Rattle.refuse.specs.Refusal.{unless_refused, Verdict}
 use Rattle.paragraph.proofs.KeepsBits.{paragraph_keeps_bits}
 use Rattle.paragraph.proofs.Elsewhere.{paragraph_elsewhere}
 use Rattle.paragraph.proofs.Apart.{paragraph_empty}
@@ -45,8 +44,8 @@ module _ (call : Call) where
   empty-area none = go (verdict_of call) refl
     where
       go : (v : Verdict) → v ≡ verdict_of call → unless_refused v (drawn call.columns (drawing_of call) call.cells) call.cells ≡ call.cells
-      go Accepted e = paragraph_empty (screen_in call) call.styles call.text call.settings call.area call.cells none (composable call Accepted e refl).1.columns
-      go (RefusedFor why) e = refl
+      go (Ok _) e = paragraph_empty (screen_in call) call.styles call.text call.settings call.area call.cells none (composable call (Ok tt) e refl).1.columns
+      go (Err why) e = refl
 
   -- the same call on other cells
   abbrev pub on_cells : List ℕ → Call

@@ -1,21 +1,19 @@
 -- Document 02, C-15: "one lays paragraph style and text into a given area, met with the screen first". "the text call checks 1, 2, 3, 4,
 -- 6", "over its own inputs". The causes, the answer and the drawing of the call `draw_text`.
-use Rattle.std.specs.Prelude.{ℕ, List, [], ◌∷◌, ◌++◌, length}
+use Rattle.std.specs.Prelude.{ℕ, List, [], ◌∷◌, ◌++◌, length, Result, Ok, Err}
 use Rattle.layout.specs.declared.Rect.{Rect}
 use Rattle.buffer.specs.declared.Screen.{Screen as ScreenSize}
 use Rattle.buffer.specs.Drawing.{Drawing, drawn}
 use Rattle.buffer.specs.Screen.{screen_of}
 use Rattle.refuse.specs.declared.Ceilings.{Ceilings}
+use Rattle.refuse.specs.declared.Refusal.{Refusal}
 use Rattle.refuse.specs.declared.Refusal.TheVariants.{StyleNumber}
-use Rattle.refuse.specs.declared.Verdict.{Verdict}
-use Rattle.refuse.specs.Refusal.{Cause, ◌if◌, first_cause, refusal_number, answering, unless_refused}
+use Rattle.refuse.specs.Refusal.{Cause, ◌if◌, first_cause, answering, unless_refused, Verdict}
 use Rattle.refuse.specs.Causes.{most_accepted, screen_causes, text_causes, glyph_styles, style_numbers_wrong}
 use Rattle.render_lines.specs.declared.DrawCounts.{DrawCounts}
 use Rattle.render_text.specs.declared.TextSettings.{TextSettings}
 use Rattle.paragraph.specs.Notice.{no_draw_counts}
 use Rattle.paragraph.specs.Apart.{paragraph_of, paragraph_counts}
-use Rattle.draw_text.specs.declared.DrawAnswer.{DrawAnswer}
-use Rattle.draw_text.specs.declared.DrawAnswer.TheVariants.{Counts, Refused}
 
 -- inputs of the call; `cells` before the call
 pub record Call : Type 0 where
@@ -55,8 +53,8 @@ drawing_of call = paragraph_of call.styles (screen_in call) call.text call.setti
 unfoldable pub rows_of : Call → DrawCounts
 rows_of call = paragraph_counts (screen_in call) call.text call.settings call.area
 
-unfoldable pub answer_of : Call → DrawAnswer
-answer_of call = answering Counts Refused (verdict_of call) (rows_of call)
+unfoldable pub answer_of : Call → Result DrawCounts Refusal
+answer_of call = answering (verdict_of call) (rows_of call)
 
 -- the counts in the answer: "number, counts 0" if refused
 unfoldable pub counts_of : Call → DrawCounts
@@ -66,11 +64,7 @@ counts_of call = unless_refused (verdict_of call) (rows_of call) no_draw_counts
 unfoldable pub cells_after : Call → List ℕ
 cells_after call = unless_refused (verdict_of call) (drawn call.columns (drawing_of call) call.cells) call.cells
 
--- an answer as document 01's number, 0 if accepted, and counts
-abbrev pub draw_answer_number : DrawAnswer → ℕ
-draw_answer_number (Counts counts) = 0
-draw_answer_number (Refused why) = refusal_number why
-
-abbrev pub draw_answer_counts : DrawAnswer → DrawCounts
-draw_answer_counts (Counts counts) = counts
-draw_answer_counts (Refused why) = no_draw_counts
+-- the counts of an answer
+abbrev pub draw_answer_counts : Result DrawCounts Refusal → DrawCounts
+draw_answer_counts (Ok counts) = counts
+draw_answer_counts (Err why) = no_draw_counts

@@ -1,22 +1,18 @@
 -- Not in the papers: the calls' answers as flat structs, for C programs. A refused call returns its number and zeros, as in
 -- document 01's table; a call with a setting whose number names no case returns 255 and zeros.
-use Rattle.std.specs.Prelude.{ℕ}
+use Rattle.std.specs.Prelude.{ℕ, Result}
 use Rattle.layout.specs.declared.Rect.{Rect}
-use Rattle.inner.specs.declared.InnerAnswer.{InnerAnswer}
-use Rattle.inner.specs.Call.{inner_answer_number, inner_answer_rect}
-use Rattle.list_lines.specs.declared.ListAnswer.{ListAnswer}
-use Rattle.list_lines.specs.Call.{list_answer_number, list_answer_count}
+use Rattle.refuse.specs.declared.Refusal.{Refusal}
+use Rattle.refuse.specs.Refusal.{verdict_number}
+use Rattle.inner.specs.Call.{inner_answer_rect}
+use Rattle.list_lines.specs.Call.{list_answer_count}
 use Rattle.tally.specs.declared.TallyCounts.{TallyCounts}
-use Rattle.tally.specs.declared.TallyAnswer.{TallyAnswer}
-use Rattle.tally.specs.Call.{tally_answer_number, tally_answer_counts}
-use Rattle.measure.specs.declared.MeasureAnswer.{MeasureAnswer}
-use Rattle.measure.specs.Answers.{measure_answer_number, measure_answer_value}
+use Rattle.tally.specs.Call.{tally_answer_counts}
+use Rattle.measure.specs.Answers.{measure_answer_value}
 use Rattle.render_lines.specs.declared.DrawCounts.{DrawCounts}
-use Rattle.draw_text.specs.declared.DrawAnswer.{DrawAnswer}
-use Rattle.draw_text.specs.Call.{draw_answer_number, draw_answer_counts}
+use Rattle.draw_text.specs.Call.{draw_answer_counts}
 use Rattle.count_pages.specs.declared.PageCounts.{PageCounts}
-use Rattle.count_pages.specs.declared.PagesAnswer.{PagesAnswer}
-use Rattle.count_pages.specs.Call.{pages_answer_number, pages_answer_counts}
+use Rattle.count_pages.specs.Call.{pages_answer_counts}
 use Rattle.flat_answers.specs.declared.FlatListAnswer.{FlatListAnswer}
 use Rattle.flat_answers.specs.declared.FlatTallyAnswer.{FlatTallyAnswer}
 use Rattle.flat_answers.specs.declared.FlatAreaAnswer.{FlatAreaAnswer}
@@ -29,14 +25,14 @@ abbrev pub unknown_number : ℕ
 unknown_number = 255
 
 -- each answer as a flat struct
-unfoldable pub list_flat : ListAnswer → FlatListAnswer
-list_flat answer = record { lines = list_answer_count answer; number = list_answer_number answer }
+unfoldable pub list_flat : Result ℕ Refusal → FlatListAnswer
+list_flat answer = record { lines = list_answer_count answer; number = verdict_number answer }
 
-unfoldable pub tally_flat : TallyAnswer → FlatTallyAnswer
+unfoldable pub tally_flat : Result TallyCounts Refusal → FlatTallyAnswer
 tally_flat answer =
     let c : TallyCounts = tally_answer_counts answer in
     record {
-      number = tally_answer_number answer;
+      number = verdict_number answer;
       lines = c.lines;
       placed = c.placed;
       clipped = c.clipped;
@@ -45,24 +41,24 @@ tally_flat answer =
       dropped = c.dropped;
     }
 
-unfoldable pub area_flat : InnerAnswer → FlatAreaAnswer
+unfoldable pub area_flat : Result Rect Refusal → FlatAreaAnswer
 area_flat answer =
     let r : Rect = inner_answer_rect answer in
-    record { number = inner_answer_number answer; x = r.x; y = r.y; width = r.width; height = r.height }
+    record { number = verdict_number answer; x = r.x; y = r.y; width = r.width; height = r.height }
 
-unfoldable pub draw_flat : DrawAnswer → FlatDrawAnswer
+unfoldable pub draw_flat : Result DrawCounts Refusal → FlatDrawAnswer
 draw_flat answer =
     let r : DrawCounts = draw_answer_counts answer in
-    record { number = draw_answer_number answer; rows = r.rows; placed = r.placed; clipped = r.clipped }
+    record { number = verdict_number answer; rows = r.rows; placed = r.placed; clipped = r.clipped }
 
-unfoldable pub measure_flat : MeasureAnswer → FlatMeasureAnswer
-measure_flat answer = record { number = measure_answer_number answer; value = measure_answer_value answer }
+unfoldable pub measure_flat : Result ℕ Refusal → FlatMeasureAnswer
+measure_flat answer = record { number = verdict_number answer; value = measure_answer_value answer }
 
-unfoldable pub pages_flat : PagesAnswer → FlatPagesAnswer
+unfoldable pub pages_flat : Result PageCounts Refusal → FlatPagesAnswer
 pages_flat answer =
     let c : PageCounts = pages_answer_counts answer in
     record {
-      number = pages_answer_number answer;
+      number = verdict_number answer;
       x = c.inner.x;
       y = c.inner.y;
       width = c.inner.width;

@@ -2,12 +2,10 @@
 #![tactic(auto)]
 
 ghost use Rattle.std.specs.Prelude.{◌≡◌};
-ghost use Rattle.draw_block.specs.Call.{block_answer_number};
+ghost use Rattle.refuse.specs.Refusal.{verdict_number};
 ghost use Rattle.flat_answers.specs.AnswerExtra.{list_flat, tally_flat, area_flat, draw_flat, measure_flat, pages_flat};
 
-use notice::{
-    BlockAnswer, DrawAnswer, InnerAnswer, ListAnswer, MeasureAnswer, PagesAnswer, TallyAnswer,
-};
+use notice::{DrawCounts, PageCounts, Rect, Refusal, TallyCounts};
 
 // Answer of a list call: count of lines written, and 0 or the number of the refusal.
 #[repr(C)]
@@ -72,125 +70,192 @@ pub struct FlatPagesAnswer {
     pub pages: u32,
 }
 
-pub fn list_answer(listed: ListAnswer) -> FlatListAnswer
-    ensures { result ≡ list_flat listed }
+// Returns 0, or the number of the refusal.
+pub fn verdict_number(verdict: Result<(), Refusal>) -> u32
+    ensures { result ≡ verdict_number verdict }
 {
-    match listed {
-        ListAnswer::Written(lines) => FlatListAnswer { lines, number: 0 },
-        ListAnswer::Refused(why) => FlatListAnswer {
-            lines: 0,
-            number: why.number(),
-        },
+    match verdict {
+        Ok(_) => 0,
+        Err(why) => u32::from(why),
     }
 }
 
-pub fn tally_answer(tallied: TallyAnswer) -> FlatTallyAnswer
-    ensures { result ≡ tally_flat tallied }
-{
-    match tallied {
-        TallyAnswer::Counted(counts) => FlatTallyAnswer {
-            number: 0,
-            lines: counts.lines,
-            placed: counts.placed,
-            clipped: counts.clipped,
-            zero_width: counts.zero_width,
-            over_wide: counts.over_wide,
-            dropped: counts.dropped,
-        },
-        TallyAnswer::Refused(why) => FlatTallyAnswer {
-            number: why.number(),
+impl FlatListAnswer {
+    // The answer of a call that is refused, or has a number that names no case: its number and zeros.
+    pub fn refused(number: u32) -> FlatListAnswer
+        ensures { result ≡ record { lines = 0; number = number } }
+    {
+        FlatListAnswer { number, lines: 0 }
+    }
+}
+
+impl From<Result<usize, Refusal>> for FlatListAnswer {
+    ghost from_gives = { λ answer flat. flat ≡ list_flat answer };
+
+    #[tactic(auto, unfolding(crate::specs::AnswerExtra::list_flat))]
+    fn from(answer: Result<usize, Refusal>) -> FlatListAnswer {
+        match answer {
+            Ok(lines) => FlatListAnswer { lines, number: 0 },
+            Err(why) => FlatListAnswer::refused(u32::from(why)),
+        }
+    }
+}
+
+impl FlatTallyAnswer {
+    // The answer of a call that is refused, or has a number that names no case: its number and zeros.
+    pub fn refused(number: u32) -> FlatTallyAnswer
+        ensures { result ≡ record { number = number; lines = 0; placed = 0; clipped = 0; zero_width = 0; over_wide = 0; dropped = 0 } }
+    {
+        FlatTallyAnswer {
+            number,
             lines: 0,
             placed: 0,
             clipped: 0,
             zero_width: 0,
             over_wide: 0,
             dropped: 0,
-        },
+        }
     }
 }
 
-pub fn area_answer(inner: InnerAnswer) -> FlatAreaAnswer
-    ensures { result ≡ area_flat inner }
-{
-    match inner {
-        InnerAnswer::Area(area) => FlatAreaAnswer {
-            number: 0,
-            x: area.x,
-            y: area.y,
-            width: area.width,
-            height: area.height,
-        },
-        InnerAnswer::Refused(why) => FlatAreaAnswer {
-            number: why.number(),
+impl From<Result<TallyCounts, Refusal>> for FlatTallyAnswer {
+    ghost from_gives = { λ answer flat. flat ≡ tally_flat answer };
+
+    #[tactic(auto, unfolding(crate::specs::AnswerExtra::tally_flat))]
+    fn from(answer: Result<TallyCounts, Refusal>) -> FlatTallyAnswer {
+        match answer {
+            Ok(counts) => FlatTallyAnswer {
+                number: 0,
+                lines: counts.lines,
+                placed: counts.placed,
+                clipped: counts.clipped,
+                zero_width: counts.zero_width,
+                over_wide: counts.over_wide,
+                dropped: counts.dropped,
+            },
+            Err(why) => FlatTallyAnswer::refused(u32::from(why)),
+        }
+    }
+}
+
+impl FlatAreaAnswer {
+    // The answer of a call that is refused, or has a number that names no case: its number and zeros.
+    pub fn refused(number: u32) -> FlatAreaAnswer
+        ensures { result ≡ record { number = number; x = 0; y = 0; width = 0; height = 0 } }
+    {
+        FlatAreaAnswer {
+            number,
             x: 0,
             y: 0,
             width: 0,
             height: 0,
-        },
+        }
     }
 }
 
-pub fn framed_number(framed: BlockAnswer) -> u32
-    ensures { result ≡ block_answer_number framed }
-{
-    match framed {
-        BlockAnswer::Done => 0,
-        BlockAnswer::Refused(why) => why.number(),
+impl From<Result<Rect, Refusal>> for FlatAreaAnswer {
+    ghost from_gives = { λ answer flat. flat ≡ area_flat answer };
+
+    #[tactic(auto, unfolding(crate::specs::AnswerExtra::area_flat))]
+    fn from(answer: Result<Rect, Refusal>) -> FlatAreaAnswer {
+        match answer {
+            Ok(area) => FlatAreaAnswer {
+                number: 0,
+                x: area.x,
+                y: area.y,
+                width: area.width,
+                height: area.height,
+            },
+            Err(why) => FlatAreaAnswer::refused(u32::from(why)),
+        }
     }
 }
 
-pub fn draw_answer(drawn: DrawAnswer) -> FlatDrawAnswer
-    ensures { result ≡ draw_flat drawn }
-{
-    match drawn {
-        DrawAnswer::Counts(rows) => FlatDrawAnswer {
-            number: 0,
-            rows: rows.rows,
-            placed: rows.placed,
-            clipped: rows.clipped,
-        },
-        DrawAnswer::Refused(why) => FlatDrawAnswer {
-            number: why.number(),
+impl FlatDrawAnswer {
+    // The answer of a call that is refused, or has a number that names no case: its number and zeros.
+    pub fn refused(number: u32) -> FlatDrawAnswer
+        ensures { result ≡ record { number = number; rows = 0; placed = 0; clipped = 0 } }
+    {
+        FlatDrawAnswer {
+            number,
             rows: 0,
             placed: 0,
             clipped: 0,
-        },
+        }
     }
 }
 
-pub fn measure_answer(measured: MeasureAnswer) -> FlatMeasureAnswer
-    ensures { result ≡ measure_flat measured }
-{
-    match measured {
-        MeasureAnswer::Value(value) => FlatMeasureAnswer { number: 0, value },
-        MeasureAnswer::Refused(why) => FlatMeasureAnswer {
-            number: why.number(),
-            value: 0,
-        },
+impl From<Result<DrawCounts, Refusal>> for FlatDrawAnswer {
+    ghost from_gives = { λ answer flat. flat ≡ draw_flat answer };
+
+    #[tactic(auto, unfolding(crate::specs::AnswerExtra::draw_flat))]
+    fn from(answer: Result<DrawCounts, Refusal>) -> FlatDrawAnswer {
+        match answer {
+            Ok(rows) => FlatDrawAnswer {
+                number: 0,
+                rows: rows.rows,
+                placed: rows.placed,
+                clipped: rows.clipped,
+            },
+            Err(why) => FlatDrawAnswer::refused(u32::from(why)),
+        }
     }
 }
 
-pub fn pages_answer(counted: PagesAnswer) -> FlatPagesAnswer
-    ensures { result ≡ pages_flat counted }
-{
-    match counted {
-        PagesAnswer::Pages(counts) => FlatPagesAnswer {
-            number: 0,
-            x: counts.inner.x,
-            y: counts.inner.y,
-            width: counts.inner.width,
-            height: counts.inner.height,
-            lines: counts.lines,
-            pages: counts.pages,
-        },
-        PagesAnswer::Refused(why) => FlatPagesAnswer {
-            number: why.number(),
+impl FlatMeasureAnswer {
+    // The answer of a call that is refused, or has a number that names no case: its number and zeros.
+    pub fn refused(number: u32) -> FlatMeasureAnswer
+        ensures { result ≡ record { number = number; value = 0 } }
+    {
+        FlatMeasureAnswer { number, value: 0 }
+    }
+}
+
+impl From<Result<u32, Refusal>> for FlatMeasureAnswer {
+    ghost from_gives = { λ answer flat. flat ≡ measure_flat answer };
+
+    #[tactic(auto, unfolding(crate::specs::AnswerExtra::measure_flat))]
+    fn from(answer: Result<u32, Refusal>) -> FlatMeasureAnswer {
+        match answer {
+            Ok(value) => FlatMeasureAnswer { number: 0, value },
+            Err(why) => FlatMeasureAnswer::refused(u32::from(why)),
+        }
+    }
+}
+
+impl FlatPagesAnswer {
+    // The answer of a call that is refused, or has a number that names no case: its number and zeros.
+    pub fn refused(number: u32) -> FlatPagesAnswer
+        ensures { result ≡ record { number = number; x = 0; y = 0; width = 0; height = 0; lines = 0; pages = 0 } }
+    {
+        FlatPagesAnswer {
+            number,
             x: 0,
             y: 0,
             width: 0,
             height: 0,
             lines: 0,
             pages: 0,
-        },
+        }
+    }
+}
+
+impl From<Result<PageCounts, Refusal>> for FlatPagesAnswer {
+    ghost from_gives = { λ answer flat. flat ≡ pages_flat answer };
+
+    #[tactic(auto, unfolding(crate::specs::AnswerExtra::pages_flat))]
+    fn from(answer: Result<PageCounts, Refusal>) -> FlatPagesAnswer {
+        match answer {
+            Ok(counts) => FlatPagesAnswer {
+                number: 0,
+                x: counts.inner.x,
+                y: counts.inner.y,
+                width: counts.inner.width,
+                height: counts.inner.height,
+                lines: counts.lines,
+                pages: counts.pages,
+            },
+            Err(why) => FlatPagesAnswer::refused(u32::from(why)),
+        }
     }
 }

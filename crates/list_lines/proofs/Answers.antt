@@ -6,18 +6,16 @@ use mathlib.Core.List.{List, ◌++◌, map}
 use borrow.Author.Tests.{ltb-false}
 use lib.Dec.{ltb}
 use lib.ListN.{length, drop}
+use Rattle.std.specs.Prelude.{Ok, Err}
 use Rattle.refuse.specs.declared.Ceilings.{Ceilings}
 use Rattle.refuse.specs.declared.Refusal.{Refusal}
 use Rattle.refuse.specs.declared.Refusal.TheVariants.{ListLength}
-use Rattle.refuse.specs.declared.Verdict.{Verdict}
-use Rattle.refuse.specs.declared.Verdict.TheVariants.{Accepted, Refused as RefusedFor}
-use Rattle.refuse.specs.Refusal.{first_cause, verdict_number, unless_refused}
+use Rattle.refuse.specs.Refusal.{first_cause, verdict_number, unless_refused, Verdict}
 use Rattle.refuse.specs.Causes.{most_accepted, text_causes, line_causes, list_too_short}
 use Rattle.refuse.proofs.Calls.{stop, pass, stop_early, pass_early, answer_refused, answer_accepted, left_refused, left-accepted, answered-number, answered_value}
 use Rattle.refuse.proofs.Lowest.{InOrder, in_order}
 use Rattle.entry.specs.Entry.{listed}
-use Rattle.list_lines.specs.declared.ListAnswer.TheVariants.{Written, Refused}
-use Rattle.list_lines.specs.Call.{Call, lines_of, marked_lines_of, causes_of, verdict_of, answer_of, list_after, list_answer_number, list_answer_count}
+use Rattle.list_lines.specs.Call.{Call, lines_of, marked_lines_of, causes_of, verdict_of, answer_of, list_after, list_answer_count}
 
 -- the call is refused for the lowest cause that holds, and only for a cause that holds
 pub lowest-first : (most : Ceilings) (call : Call) → InOrder (causes_of most call)
@@ -25,16 +23,16 @@ unfolding causes_of line_causes text_causes
 lowest-first most call = in_order (causes_of most call) refl
 
 -- the number of the answer is the verdict's; its count is 0 if the call is refused
-pub answer_number : (call : Call) → list_answer_number (answer_of call) ≡ verdict_number (verdict_of call)
+pub answer_number : (call : Call) → verdict_number (answer_of call) ≡ verdict_number (verdict_of call)
 unfolding answer_of
-answer_number call = answered-number Written Refused list_answer_number (λ count. refl) (λ why. refl) (verdict_of call) (length (lines_of call))
+answer_number call = answered-number (verdict_of call) (length (lines_of call))
 
 pub answer_count : (call : Call) → list_answer_count (answer_of call) ≡ unless_refused (verdict_of call) (length (lines_of call)) 0
 unfolding answer_of
-answer_count call = answered_value Written Refused list_answer_count (λ count. count) 0 (λ count. refl) (λ why. refl) (verdict_of call) (length (lines_of call))
+answer_count call = answered_value list_answer_count (λ count. count) 0 (λ count. refl) (λ why. refl) (verdict_of call) (length (lines_of call))
 
 -- the list after an accepted call
-pub list-accepted : (call : Call) → verdict_of call ≡ Accepted → list_after call ≡ map listed (marked_lines_of call) ++ drop (length (lines_of call)) call.list
+pub list-accepted : (call : Call) → verdict_of call ≡ Ok tt → list_after call ≡ map listed (marked_lines_of call) ++ drop (length (lines_of call)) call.list
 unfolding list_after
 list-accepted call a =
     let new = map listed (marked_lines_of call) ++ drop (length (lines_of call)) call.list in
@@ -43,30 +41,3 @@ list-accepted call a =
 -- a list that isn't too short has an entry for each line
 pub list-room : (entries n count : ℕ) (b : Bool) → count ≡ n → b ≡ list_too_short entries count → b ≡ false → n ≤ entries
 list-room entries n count b c p f = rw c at (ltb-false entries count (sym p ∙ f))
-
--- v is the verdict of the checks of text and limit
-module _ (call : Call) (v : Verdict) (e : v ≡ first_cause (line_causes most_accepted call.text call.limit)) where
-  pub list_refused : (why : Refusal) → v ≡ RefusedFor why → (Refused why ≡ answer_of call) × (call.list ≡ list_after call)
-  unfolding verdict_of causes_of answer_of list_after
-  list_refused why r =
-      let k : verdict_of call ≡ RefusedFor why = sym (stop_early (line_causes most_accepted call.text call.limit) _ v why e r) in
-      (answer_refused Written Refused (verdict_of call) (length (lines_of call)) why k, left_refused (verdict_of call) _ call.list why k)
-
-  module _ (a : v ≡ Accepted) where
-    -- b is the result of the check of the list's length
-    module _ (count : ℕ) (c : count ≡ length (lines_of call)) (b : Bool) (p : b ≡ list_too_short (length call.list) count) where
-      room : b ≡ list_too_short (length call.list) (length (lines_of call))
-      room = p ∙ ap (λ (n : ℕ). ltb (length call.list) n) c
-
-      pub list-short : b ≡ true → (Refused ListLength ≡ answer_of call) × (call.list ≡ list_after call)
-      unfolding verdict_of causes_of answer_of list_after
-      list-short t =
-          let k : verdict_of call ≡ RefusedFor ListLength = sym (pass_early (line_causes most_accepted call.text call.limit) _ v _ e a (stop ListLength _ b Accepted room t)) in
-          (answer_refused Written Refused (verdict_of call) (length (lines_of call)) ListLength k, left_refused (verdict_of call) _ call.list ListLength k)
-
-      pub list_written : b ≡ false → (new : List ℕ) → new ≡ map listed (marked_lines_of call) ++ drop (length (lines_of call)) call.list
-          → (Written count ≡ answer_of call) × (new ≡ list_after call)
-      unfolding verdict_of causes_of answer_of list_after
-      list_written f new w =
-          let k : verdict_of call ≡ Accepted = sym (pass_early (line_causes most_accepted call.text call.limit) _ v _ e a (pass ListLength _ b Accepted Accepted room f refl)) in
-          (answer_accepted Written Refused (verdict_of call) (length (lines_of call)) k count c, left-accepted (verdict_of call) _ call.list k new w)

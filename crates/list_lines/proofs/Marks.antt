@@ -8,12 +8,11 @@ use mathlib.Core.List.{List, [], ◌∷◌, ◌++◌, map, map-append}
 use native.Mathlib.Omega.{arith}
 use lib.ListN.{length, take, drop, length-map}
 use lib.Seq.{take_at, drop_at}
+use Rattle.std.specs.Prelude.{Ok, Err}
 use Rattle.text.specs.Line.{TextLine}
 use Rattle.text.specs.Lists.{count_of}
 use Rattle.text.proofs.Lists.{count-append}
-use Rattle.refuse.specs.declared.Verdict.{Verdict}
-use Rattle.refuse.specs.declared.Verdict.TheVariants.{Accepted, Refused}
-use Rattle.refuse.specs.Refusal.{unless_refused}
+use Rattle.refuse.specs.Refusal.{unless_refused, Verdict}
 use Rattle.line_composer.specs.declared.Method.TheVariants.{WordWrap}
 use Rattle.line_composer.specs.Lines.{Line, wrapped_line_of, lines}
 use Rattle.line_composer.specs.Marks.{MarkedLine, with_mark, marked, all_marked, marked_lines}
@@ -26,7 +25,7 @@ use Rattle.list_lines.proofs.Answers.{list-accepted}
 use Rattle.list_lines.proofs.ReadsBack.{lines_without_marks, marked-length}
 
 -- the entries of an accepted call
-entries_are : (call : Call) → verdict_of call ≡ Accepted → entries_of call ≡ map listed (marked_lines_of call)
+entries_are : (call : Call) → verdict_of call ≡ Ok tt → entries_of call ≡ map listed (marked_lines_of call)
 unfolding entries_of
 entries_are call a =
     ap (take (length (lines_of call))) (list-accepted call a)
@@ -94,7 +93,7 @@ module _ (call : Call) where
     as_many_of [] = refl
     as_many_of (l ∷ ls) = ap (count_of is_marked) (own_then_all l ls) ∙ count-append is_marked (own l) (all ls) ∙ omega (arith, one_of l, as_many_of ls)
 
-    pub one-mark-each : verdict_of call ≡ Accepted → OneMarkEach call
+    pub one-mark-each : verdict_of call ≡ Ok tt → OneMarkEach call
     unfolding marked_lines_of marked_lines
     one-mark-each a =
         let e : entries_of call ≡ all (text_lines call) = entries_are call a in
@@ -108,8 +107,8 @@ module _ (call : Call) where
 -- ---- limit 0
 
 kept_either_way : (v : Verdict) (list : List ℕ) → unless_refused v list list ≡ list
-kept_either_way Accepted list = refl
-kept_either_way (Refused why) list = refl
+kept_either_way (Ok _) list = refl
+kept_either_way (Err why) list = refl
 
 pub none_at_zero : (call : Call) → call.limit ≡ 0 → (lines_of call ≡ []) × (list_after call ≡ call.list)
 unfolding lines_of marked_lines_of list_after
@@ -130,5 +129,5 @@ unfolding listed
 entries_without_marks [] = refl
 entries_without_marks (m ∷ ms) = rw (entry-unmarked (wrapped_line_of m.line) m.mark, entries_without_marks ms)
 
-pub marks_aside : (call : Call) → verdict_of call ≡ Accepted → map unmarked (entries_of call) ≡ map entry_of (lines_of call)
+pub marks_aside : (call : Call) → verdict_of call ≡ Ok tt → map unmarked (entries_of call) ≡ map entry_of (lines_of call)
 marks_aside call a = ap (map unmarked) (entries_are call a) ∙ entries_without_marks (marked_lines_of call) ∙ ap (map entry_of) (lines_without_marks call)

@@ -7,11 +7,11 @@ use mathlib.Core.List.{List, [], ◌∷◌, map}
 use native.Mathlib.Omega.{arith}
 use lib.ListN.{length, get_or, take, drop, length-take, length-drop, length-map, get_or-append, get_or-map}
 use lib.Seq.{slice}
+use Rattle.std.specs.Prelude.{Ok}
 use Rattle.text.specs.Alignment.{alignment_number}
 use Rattle.text.specs.Line.{Glyph, glyph_from, numbered, total}
 use Rattle.text.proofs.Bools.{cond_cases}
 use Rattle.refuse.specs.declared.Refusal.TheVariants.{TextLength, Limit}
-use Rattle.refuse.specs.declared.Verdict.TheVariants.{Accepted}
 use Rattle.refuse.specs.Causes.{most_accepted, text_causes, line_causes}
 use Rattle.refuse.proofs.Accepted.{text-short, limit_low}
 use Rattle.refuse.proofs.Calls.{no_cause}
@@ -89,7 +89,7 @@ get_d_within (x ∷ l) zero a b h = refl
 get_d_within (x ∷ l) (suc i) a b h = get_d_within l i a b (omega arith)
 
 -- the bounds of an accepted call: causes 3 and 8 don't hold
-module _ (call : Call) (a : verdict_of call ≡ Accepted) where
+module _ (call : Call) (a : verdict_of call ≡ Ok tt) where
   short : length call.text ≤ 16384
   unfolding verdict_of causes_of line_causes text_causes
   short = text-short most_accepted call.text (no_cause (causes_of most_accepted call) TextLength a)
@@ -135,7 +135,7 @@ module _ (call : Call) (a : verdict_of call ≡ Accepted) where
 
 -- the fields of each entry that an accepted call writes are first, end, width and alignment of its composed line
 pub entries-read-back :
-    (call : Call) → verdict_of call ≡ Accepted → (i : ℕ) (none : Line) → i < length (lines_of call) →
+    (call : Call) → verdict_of call ≡ Ok tt → (i : ℕ) (none : Line) → i < length (lines_of call) →
     let entry = get_or (list_after call) i 0 in
     let line = get_or (lines_of call) i none in
     (entry_first entry ≡ first_of line.glyphs)
@@ -150,7 +150,7 @@ entries-read-back call a i none h =
 
 -- and its mark is that of the line
 pub marks-read-back :
-    (call : Call) → verdict_of call ≡ Accepted → (i : ℕ) (none : MarkedLine) → i < length (lines_of call)
+    (call : Call) → verdict_of call ≡ Ok tt → (i : ℕ) (none : MarkedLine) → i < length (lines_of call)
     → (get_or (lines_of call) i none.line ≡ (get_or (marked_lines_of call) i none).line)
     × (entry_mark (get_or (list_after call) i 0) ≡ mark_number (get_or (marked_lines_of call) i none).mark)
 marks-read-back call a i none h =

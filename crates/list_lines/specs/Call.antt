@@ -1,12 +1,12 @@
 -- Document 01, 'Why a call is refused': the causes, the answer and the entries of the call `list_lines`. Document 02, C-11: "each
 -- call that reads widths takes an enum setting"; C-17: the marks of its entries.
-use Rattle.std.specs.Prelude.{ℕ, Bool, List, [], ◌∷◌, ◌++◌, map, length, drop}
+use Rattle.std.specs.Prelude.{ℕ, Bool, List, [], ◌∷◌, ◌++◌, map, length, drop, Result, Ok, Err}
 use Rattle.text.specs.declared.Alignment.{Alignment}
 use Rattle.text.specs.declared.AmbiguousWidth.{AmbiguousWidth}
 use Rattle.refuse.specs.declared.Ceilings.{Ceilings}
+use Rattle.refuse.specs.declared.Refusal.{Refusal}
 use Rattle.refuse.specs.declared.Refusal.TheVariants.{ListLength}
-use Rattle.refuse.specs.declared.Verdict.{Verdict}
-use Rattle.refuse.specs.Refusal.{Cause, ◌if◌, first_cause, refusal_number, answering, unless_refused}
+use Rattle.refuse.specs.Refusal.{Cause, ◌if◌, first_cause, answering, unless_refused, Verdict}
 use Rattle.refuse.specs.Causes.{most_accepted, line_causes, list_too_short}
 use Rattle.wrapping.specs.declared.Rule.{Rule}
 use Rattle.wrapping.specs.Rule.{rule_of}
@@ -14,8 +14,6 @@ use Rattle.line_composer.specs.declared.Method.TheVariants.{WordWrap}
 use Rattle.line_composer.specs.Lines.{Line, lines}
 use Rattle.line_composer.specs.Marks.{MarkedLine, marked_lines}
 use Rattle.entry.specs.Entry.{listed}
-use Rattle.list_lines.specs.declared.ListAnswer.{ListAnswer}
-use Rattle.list_lines.specs.declared.ListAnswer.TheVariants.{Written, Refused}
 
 -- inputs of the call, with the list before it
 pub record Call : Type 0 where
@@ -52,19 +50,15 @@ unfoldable pub verdict_of : Call → Verdict
 verdict_of call = first_cause (causes_of most_accepted call)
 
 -- the number of lines written, or why the call was refused
-unfoldable pub answer_of : Call → ListAnswer
-answer_of call = answering Written Refused (verdict_of call) (length (lines_of call))
+unfoldable pub answer_of : Call → Result ℕ Refusal
+answer_of call = answering (verdict_of call) (length (lines_of call))
 
 -- "An accepted list call writes its lines from entry 0 and keeps later entries." A refused one leaves the list unchanged.
 unfoldable pub list_after : Call → List ℕ
 list_after call =
     unless_refused (verdict_of call) (map listed (marked_lines_of call) ++ drop (length (lines_of call)) call.list) call.list
 
--- number and count of an answer: 0 and the lines written, or the table's number and 0 ("number, counts 0")
-abbrev pub list_answer_number : ListAnswer → ℕ
-list_answer_number (Written count) = 0
-list_answer_number (Refused why) = refusal_number why
-
-abbrev pub list_answer_count : ListAnswer → ℕ
-list_answer_count (Written count) = count
-list_answer_count (Refused why) = 0
+-- the count of an answer: the lines written, or 0 ("number, counts 0")
+abbrev pub list_answer_count : Result ℕ Refusal → ℕ
+list_answer_count (Ok count) = count
+list_answer_count (Err why) = 0

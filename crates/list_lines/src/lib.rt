@@ -11,16 +11,9 @@ ghost use Rattle.list_lines.specs.Call.{call_of, answer_of, list_after};
 
 use check_settings::limits;
 use line_composer::{LineComposer, Method};
-use refuse::{ACCEPTED, Refusal, Verdict};
+use refuse::{ACCEPTED, Refusal, refuse_if};
 use text::{Alignment, AmbiguousWidth};
 use wrapping::Rule;
-
-// Answer of a list call: the number of lines written, or why it was refused.
-#[derive(Clone, Copy)]
-pub enum ListAnswer {
-    Written(usize),
-    Refused(Refusal),
-}
 
 // Writes the composed lines of a text to a list that is long enough. A line is written when the next one is known: it is marked, as
 // the last of its text line, if the next one is of another text line, or there is none.
@@ -46,6 +39,7 @@ fn write_lines(rule: Rule, default_alignment: Alignment, text: &[u32], list: &mu
 
 // Lists the composed lines of a text, counting them before the first entry is written. Refused for causes 3, 4, 8 and 9; a refused
 // call changes no entry.
+#[tactic(auto, unfolding(crate::specs::Call::answer_of, crate::specs::Call::list_after, crate::specs::Call::verdict_of, crate::specs::Call::causes_of, crate::specs::Call::lines_of, crate::specs::Call::marked_lines_of, refuse::specs::Causes::line_causes, refuse::specs::Causes::text_causes))]
 pub fn list_lines(
     text: &[u32],
     ambiguous: AmbiguousWidth,
@@ -53,22 +47,21 @@ pub fn list_lines(
     limit: u16,
     trim: bool,
     list: &mut [u64],
-) -> ListAnswer
+) -> Result<usize, Refusal>
     ensures { let call = call_of text.now ambiguous default_alignment limit trim list.old in
         (result ≡ answer_of call) × (list.new ≡ list_after call) }
 {
-    if let Verdict::Refused(why) = check_records::line_verdict(ACCEPTED, text, limit) {
-        return ListAnswer::Refused(why);
-    }
+    check_records::line_verdict(ACCEPTED, text, limit)?;
     let rule = Rule {
         limit: limit as usize,
         trim,
         ambiguous,
     };
     let count = count_lines::count_lines(rule, default_alignment, text);
-    if limits::list_too_short(list.len(), count) {
-        return ListAnswer::Refused(Refusal::ListLength);
-    }
+    refuse_if(
+        limits::list_too_short(list.len(), count),
+        Refusal::ListLength,
+    )?;
     write_lines(rule, default_alignment, text, list);
-    ListAnswer::Written(count)
+    Ok(count)
 }

@@ -1,20 +1,18 @@
 -- The calls `line_count` and `line_width`: their answers, the answers as document 01's numbers, and the order of their causes.
 use Prim.Native.Nat.{ℕ}
 use mathlib.Core.Path.{◌≡◌, refl, sym, ◌∙◌}
+use Rattle.std.specs.Prelude.{Ok, Err}
 use Rattle.refuse.specs.declared.Ceilings.{Ceilings}
 use Rattle.refuse.specs.declared.Refusal.{Refusal}
 use Rattle.refuse.specs.declared.Refusal.TheVariants.{TextLength, TextHeads}
-use Rattle.refuse.specs.declared.Verdict.{Verdict}
-use Rattle.refuse.specs.declared.Verdict.TheVariants.{Accepted, Refused as RefusedFor}
-use Rattle.refuse.specs.Refusal.{verdict_number}
+use Rattle.refuse.specs.Refusal.{verdict_number, Verdict}
 use Rattle.refuse.specs.Causes.{most_accepted, text_causes}
 use Rattle.refuse.proofs.Calls.{no_cause, answer_refused, answer_accepted, answered-number, answered_value}
 use Rattle.refuse.proofs.Accepted.{TextAccepted, sound}
 use Rattle.refuse.proofs.Lowest.{InOrder, in_order}
 use Rattle.measure_text.specs.Measures.{line_width}
 use Rattle.check_block.specs.Causes.{frame_causes}
-use Rattle.measure.specs.declared.MeasureAnswer.TheVariants.{Value, Refused}
-use Rattle.measure.specs.Answers.{measure_answer_number, measure_answer_value}
+use Rattle.measure.specs.Answers.{measure_answer_value}
 use Rattle.measure.specs.LineWidth as width
 use Rattle.measure.specs.LineCount as count
 
@@ -28,52 +26,34 @@ unfolding count.causes_of width.causes_of text_causes frame_causes
 count-lowest-first most call = in_order (count.causes_of most call) refl
 
 module _ (call : width.Call) where
-  pub width-number : measure_answer_number (width.answer_of call) ≡ verdict_number (width.verdict_of call)
+  pub width-number : verdict_number (width.answer_of call) ≡ verdict_number (width.verdict_of call)
   unfolding width.answer_of
-  width-number = answered-number Value Refused measure_answer_number (λ value. refl) (λ why. refl) (width.verdict_of call) (line_width call.ambiguous call.block call.text)
+  width-number = answered-number (width.verdict_of call) (line_width call.ambiguous call.block call.text)
 
   pub width_value : measure_answer_value (width.answer_of call) ≡ width.value_of call
   unfolding width.answer_of width.value_of
-  width_value = answered_value Value Refused measure_answer_value (λ value. value) 0 (λ value. refl) (λ why. refl) (width.verdict_of call) (line_width call.ambiguous call.block call.text)
+  width_value = answered_value measure_answer_value (λ value. value) 0 (λ value. refl) (λ why. refl) (width.verdict_of call) (line_width call.ambiguous call.block call.text)
 
   -- v is the verdict of the checks
-  module _ (v : Verdict) (e : v ≡ width.verdict_of call) where
-    pub width_refused : (why : Refusal) → v ≡ RefusedFor why → Refused why ≡ width.answer_of call
-    unfolding width.answer_of
-    width_refused why r = answer_refused Value Refused (width.verdict_of call) (line_width call.ambiguous call.block call.text) why (sym e ∙ r)
-
-    module _ (a : v ≡ Accepted) where
-      pub width-answered : (value : ℕ) → value ≡ line_width call.ambiguous call.block call.text → Value value ≡ width.answer_of call
-      unfolding width.answer_of
-      width-answered value p = answer_accepted Value Refused (width.verdict_of call) (line_width call.ambiguous call.block call.text) (sym e ∙ a) value p
-
-      pub width-sound : TextAccepted call.text
-      unfolding width.verdict_of width.causes_of text_causes frame_causes
-      width-sound =
-          let causes = width.causes_of most_accepted call in
-          sound call.text (no_cause causes TextLength (sym e ∙ a)) (no_cause causes TextHeads (sym e ∙ a))
+  module _ (v : Verdict) (e : v ≡ width.verdict_of call) (a : v ≡ Ok tt) where
+    pub width-sound : TextAccepted call.text
+    unfolding width.verdict_of width.causes_of text_causes frame_causes
+    width-sound =
+        let causes = width.causes_of most_accepted call in
+        sound call.text (no_cause causes TextLength (sym e ∙ a)) (no_cause causes TextHeads (sym e ∙ a))
 
 module _ (call : count.Call) where
-  pub count-number : measure_answer_number (count.answer_of call) ≡ verdict_number (count.verdict_of call)
+  pub count-number : verdict_number (count.answer_of call) ≡ verdict_number (count.verdict_of call)
   unfolding count.answer_of
-  count-number = answered-number Value Refused measure_answer_number (λ value. refl) (λ why. refl) (count.verdict_of call) (count.count_of call)
+  count-number = answered-number (count.verdict_of call) (count.count_of call)
 
   pub count_value : measure_answer_value (count.answer_of call) ≡ count.value_of call
   unfolding count.answer_of count.value_of
-  count_value = answered_value Value Refused measure_answer_value (λ value. value) 0 (λ value. refl) (λ why. refl) (count.verdict_of call) (count.count_of call)
+  count_value = answered_value measure_answer_value (λ value. value) 0 (λ value. refl) (λ why. refl) (count.verdict_of call) (count.count_of call)
 
-  module _ (v : Verdict) (e : v ≡ count.verdict_of call) where
-    pub count_refused : (why : Refusal) → v ≡ RefusedFor why → Refused why ≡ count.answer_of call
-    unfolding count.answer_of
-    count_refused why r = answer_refused Value Refused (count.verdict_of call) (count.count_of call) why (sym e ∙ r)
-
-    module _ (a : v ≡ Accepted) where
-      pub count-answered : (value : ℕ) → value ≡ count.count_of call → Value value ≡ count.answer_of call
-      unfolding count.answer_of
-      count-answered value p = answer_accepted Value Refused (count.verdict_of call) (count.count_of call) (sym e ∙ a) value p
-
-      pub count-sound : TextAccepted call.text
-      unfolding count.verdict_of count.causes_of width.causes_of text_causes frame_causes
-      count-sound =
-          let causes = count.causes_of most_accepted call in
-          sound call.text (no_cause causes TextLength (sym e ∙ a)) (no_cause causes TextHeads (sym e ∙ a))
+  module _ (v : Verdict) (e : v ≡ count.verdict_of call) (a : v ≡ Ok tt) where
+    pub count-sound : TextAccepted call.text
+    unfolding count.verdict_of count.causes_of width.causes_of text_causes frame_causes
+    count-sound =
+        let causes = count.causes_of most_accepted call in
+        sound call.text (no_cause causes TextLength (sym e ∙ a)) (no_cause causes TextHeads (sym e ∙ a))

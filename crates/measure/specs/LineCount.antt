@@ -1,18 +1,16 @@
 -- Document 01, 'Why a call is refused': the causes and the answer of the call `line_count`. Document 02, C-11: "each call that
 -- reads widths takes an enum setting".
-use Rattle.std.specs.Prelude.{ℕ, List, [], ◌∷◌, ◌++◌}
+use Rattle.std.specs.Prelude.{ℕ, List, [], ◌∷◌, ◌++◌, Result}
 use Rattle.text.specs.declared.AmbiguousWidth.{AmbiguousWidth}
 use Rattle.refuse.specs.declared.Ceilings.{Ceilings}
+use Rattle.refuse.specs.declared.Refusal.{Refusal}
 use Rattle.refuse.specs.declared.Refusal.TheVariants.{Limit}
-use Rattle.refuse.specs.declared.Verdict.{Verdict}
-use Rattle.refuse.specs.Refusal.{Cause, ◌if◌, first_cause, answering, unless_refused}
+use Rattle.refuse.specs.Refusal.{Cause, ◌if◌, first_cause, answering, unless_refused, Verdict}
 use Rattle.refuse.specs.Causes.{most_accepted, limit_wrong}
 use Rattle.block.specs.declared.Block.{Block}
 use Rattle.line_composer.specs.declared.Wrap.{Wrap}
 use Rattle.measure_text.specs.Measures.{line_count}
 use Rattle.measure.specs.LineWidth as width
-use Rattle.measure.specs.declared.MeasureAnswer.{MeasureAnswer}
-use Rattle.measure.specs.declared.MeasureAnswer.TheVariants.{Value, Refused}
 
 -- inputs of the call
 pub record Call : Type 0 where
@@ -40,8 +38,8 @@ verdict_of call = first_cause (causes_of most_accepted call)
 abbrev pub count_of : Call → ℕ
 count_of call = line_count call.ambiguous call.block call.titles call.wrap call.width call.text
 
-unfoldable pub answer_of : Call → MeasureAnswer
-answer_of call = answering Value Refused (verdict_of call) (count_of call)
+unfoldable pub answer_of : Call → Result ℕ Refusal
+answer_of call = answering (verdict_of call) (count_of call)
 
 unfoldable pub value_of : Call → ℕ
 value_of call = unless_refused (verdict_of call) (count_of call) 0

@@ -11,16 +11,11 @@ pub use paragraph::Notice;
 pub use render_text::TextSettings;
 pub use text::{Alignment, AmbiguousWidth, TitlePosition};
 
-// Answers.
-pub use count_pages::{PageCounts, PagesAnswer};
-pub use draw_block::BlockAnswer;
-pub use draw_text::DrawAnswer;
-pub use inner::InnerAnswer;
-pub use list_lines::ListAnswer;
-pub use measure::MeasureAnswer;
+// Answers: a call that is refused returns the cause.
+pub use count_pages::PageCounts;
 pub use refuse::Refusal;
 pub use render_lines::DrawCounts;
-pub use tally::{TallyAnswer, TallyCounts};
+pub use tally::TallyCounts;
 
 // Calls.
 pub use count_pages::pages;

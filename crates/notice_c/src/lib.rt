@@ -8,11 +8,12 @@ ghost use Rattle.tally.specs.Call.{call_of as tallyCall, answer_of as tallyAnswe
 ghost use Rattle.inner.specs.Call.{call_of as innerCall, answer_of as innerAnswer};
 ghost use Rattle.measure.specs.LineCount.{call_of as count_call, answer_of as countAnswer};
 ghost use Rattle.measure.specs.LineWidth.{call_of as width_call, answer_of as widthAnswer};
-ghost use Rattle.draw_block.specs.Call.{call_of as blockCall, answer_of as blockAnswer, cells_after as blockCells, block_answer_number};
+ghost use Rattle.draw_block.specs.Call.{call_of as blockCall, answer_of as blockAnswer, cells_after as blockCells};
 ghost use Rattle.draw_frame.specs.Call.{call_of as frame_call, answer_of as frameAnswer, cells_after as frameCells};
 ghost use Rattle.draw_text.specs.Call.{call_of as text_call, answer_of as textAnswer, cells_after as textCells};
 ghost use Rattle.draw_notice.specs.Call.{call_of as notice_call};
 ghost use Rattle.count_pages.specs.Call.{answer_of as pagesAnswer};
+ghost use Rattle.refuse.specs.Refusal.{verdict_number};
 ghost use Rattle.flat.specs.FlatExtra.{flag_named, alignment_named, ambiguous_known, ambiguous_named, tally_known, list_known, wrap_named};
 ghost use Rattle.flat.specs.FlatExtra.{area_from, block_known, block_from, text_known, settings_from, notice_from};
 ghost use Rattle.flat_answers.specs.AnswerExtra.{unknown_number};
@@ -24,6 +25,9 @@ use flat_answers::{
     FlatAreaAnswer, FlatDrawAnswer, FlatListAnswer, FlatMeasureAnswer, FlatPagesAnswer,
     FlatTallyAnswer,
 };
+
+// The number of a call with a setting whose number names no case.
+const UNKNOWN: u32 = 255;
 
 // Lists the composed lines of a text.
 #[unsafe(no_mangle)]
@@ -41,15 +45,12 @@ pub extern "C" fn notice_list_lines(
         × (list.new ≡ cond known (list_after call) list.old) }
 {
     if !flat::list_known(ambiguous, alignment, trim) {
-        return FlatListAnswer {
-            lines: 0,
-            number: 255,
-        };
+        return FlatListAnswer::refused(UNKNOWN);
     }
     let reading = flat::ambiguous_named(ambiguous);
     let default_alignment = flat::alignment_named(alignment);
     let listed = notice::list_lines(text, reading, default_alignment, limit, trim == 1, list);
-    flat_answers::list_answer(listed)
+    FlatListAnswer::from(listed)
 }
 
 // Tallies a text at a limit.
@@ -59,18 +60,10 @@ pub extern "C" fn notice_tally(text: &[u32], ambiguous: u8, limit: u16, trim: u8
         result ≡ cond (tally_known ambiguous trim) (tally_flat (tallyAnswer call)) tally_unknown }
 {
     if !flat::tally_known(ambiguous, trim) {
-        return FlatTallyAnswer {
-            number: 255,
-            lines: 0,
-            placed: 0,
-            clipped: 0,
-            zero_width: 0,
-            over_wide: 0,
-            dropped: 0,
-        };
+        return FlatTallyAnswer::refused(UNKNOWN);
     }
     let reading = flat::ambiguous_named(ambiguous);
-    flat_answers::tally_answer(notice::tally(text, reading, limit, trim == 1))
+    FlatTallyAnswer::from(notice::tally(text, reading, limit, trim == 1))
 }
 
 // Returns the inner area of a block.
@@ -80,15 +73,9 @@ pub extern "C" fn notice_inner(block: FlatBlock, titles: &[u32], area: FlatArea)
         result ≡ cond (block_known block) (area_flat (innerAnswer call)) area_unknown }
 {
     if !block.is_known() {
-        return FlatAreaAnswer {
-            number: 255,
-            x: 0,
-            y: 0,
-            width: 0,
-            height: 0,
-        };
+        return FlatAreaAnswer::refused(UNKNOWN);
     }
-    flat_answers::area_answer(notice::inner(block.block(), titles, area.area()))
+    FlatAreaAnswer::from(notice::inner(block.block(), titles, area.area()))
 }
 
 // Draws a block.
@@ -107,11 +94,11 @@ pub extern "C" fn notice_draw_block(
         let lent = cells.old in
         let reading = ambiguous_named ambiguous in
         let call = blockCall columns rows lent styles.now titles.now reading (area_from area) (block_from block) in
-        (result ≡ cond known (block_answer_number (blockAnswer call)) unknown_number)
+        (result ≡ cond known (verdict_number (blockAnswer call)) unknown_number)
         × (cells.new ≡ cond known (blockCells call) lent) }
 {
     if !flat::block_and_reading_known(block, ambiguous) {
-        return 255;
+        return UNKNOWN;
     }
     let reading = flat::ambiguous_named(ambiguous);
     let drawn = block.block();
@@ -125,7 +112,7 @@ pub extern "C" fn notice_draw_block(
         area.area(),
         drawn,
     );
-    flat_answers::framed_number(framed)
+    flat_answers::verdict_number(framed)
 }
 
 // Draws the frame of a notice.
@@ -149,13 +136,7 @@ pub extern "C" fn notice_draw_frame(
         × (cells.new ≡ cond known (frameCells call) lent) }
 {
     if !flat::block_and_reading_known(block, ambiguous) {
-        return FlatAreaAnswer {
-            number: 255,
-            x: 0,
-            y: 0,
-            width: 0,
-            height: 0,
-        };
+        return FlatAreaAnswer::refused(UNKNOWN);
     }
     let reading = flat::ambiguous_named(ambiguous);
     let framing = block.block();
@@ -170,7 +151,7 @@ pub extern "C" fn notice_draw_frame(
         style,
         framing,
     );
-    flat_answers::area_answer(framed)
+    FlatAreaAnswer::from(framed)
 }
 
 // Lays the text of a notice into an area.
@@ -191,16 +172,11 @@ pub extern "C" fn notice_draw_text(
         × (cells.new ≡ cond known (textCells call) lent) }
 {
     if !settings.is_known() {
-        return FlatDrawAnswer {
-            number: 255,
-            rows: 0,
-            placed: 0,
-            clipped: 0,
-        };
+        return FlatDrawAnswer::refused(UNKNOWN);
     }
     let named = settings.text_settings();
     let drawn = notice::draw_text(columns, rows, cells, styles, text, area.area(), named);
-    flat_answers::draw_answer(drawn)
+    FlatDrawAnswer::from(drawn)
 }
 
 // Returns the inner area, lines and pages of a notice on its screen.
@@ -223,15 +199,7 @@ pub extern "C" fn notice_pages(
         result ≡ cond known (pages_flat (pagesAnswer call)) pages_unknown }
 {
     if !flat::all_known(block, settings) {
-        return FlatPagesAnswer {
-            number: 255,
-            x: 0,
-            y: 0,
-            width: 0,
-            height: 0,
-            lines: 0,
-            pages: 0,
-        };
+        return FlatPagesAnswer::refused(UNKNOWN);
     }
     let notice = settings.notice(block);
     let counted = notice::pages(
@@ -244,7 +212,7 @@ pub extern "C" fn notice_pages(
         area.area(),
         notice,
     );
-    flat_answers::pages_answer(counted)
+    FlatPagesAnswer::from(counted)
 }
 
 // Returns the number of lines of a notice at a width, the frame's included. Only `wrap` and `ambiguous` of the text's settings are
@@ -261,15 +229,12 @@ pub extern "C" fn notice_line_count(
         result ≡ cond (block_known block && text_known settings) (measure_flat (countAnswer call)) measure_unknown }
 {
     if !flat::all_known(block, settings) {
-        return FlatMeasureAnswer {
-            number: 255,
-            value: 0,
-        };
+        return FlatMeasureAnswer::refused(UNKNOWN);
     }
     let wrap = settings.named_wrap();
     let reading = flat::ambiguous_named(settings.ambiguous);
     let counted = notice::line_count(text, reading, titles, block.block(), wrap, width);
-    flat_answers::measure_answer(counted)
+    FlatMeasureAnswer::from(counted)
 }
 
 // Returns the number of columns that a notice needs.
@@ -284,11 +249,8 @@ pub extern "C" fn notice_line_width(
         result ≡ cond (block_known block && ambiguous_known ambiguous) (measure_flat (widthAnswer call)) measure_unknown }
 {
     if !flat::block_and_reading_known(block, ambiguous) {
-        return FlatMeasureAnswer {
-            number: 255,
-            value: 0,
-        };
+        return FlatMeasureAnswer::refused(UNKNOWN);
     }
     let reading = flat::ambiguous_named(ambiguous);
-    flat_answers::measure_answer(notice::line_width(text, reading, titles, block.block()))
+    FlatMeasureAnswer::from(notice::line_width(text, reading, titles, block.block()))
 }

@@ -10,12 +10,12 @@ use borrow.Author.Tests.{ltb-true, ltb-false, ne_eqb}
 use lib.Dec.{ltb}
 use lib.ListN.{length, take, drop, take-append-drop, drop_of_length-le}
 use lib.Seq.{drop-drop}
+use Rattle.std.specs.Prelude.{Ok}
 use Rattle.text.specs.declared.Alignment.{Alignment}
 use Rattle.text.specs.declared.Alignment.TheVariants.{Left}
 use Rattle.text.specs.Line.{Glyph, Start, total, starts_from}
 use Rattle.text.specs.Lists.{count_of}
 use Rattle.text.proofs.Lists.{count-append}
-use Rattle.refuse.specs.declared.Verdict.TheVariants.{Accepted}
 use Rattle.wrapping.specs.declared.Rule.{Rule}
 use Rattle.wrapping.specs.Rule.{rule_of}
 use Rattle.text.proofs.Bools.{cases}
@@ -152,7 +152,7 @@ module _ (i : Call) (w : WrappedNotice i) (accepted : (scroll : ℕ) → BothAcc
       ∙ sum-starts test count of-line (composed_lines i)
       ∙ ap (λ (ls : List Line). count_of test (starts ls)) (wrapped-lines i w)
 
-  pub same_counts : Reached i → tally.verdict_of (pages_tally i w.trim) ≡ Accepted → SameCounts i w.trim
+  pub same_counts : Reached i → tally.verdict_of (pages_tally i w.trim) ≡ Ok tt → SameCounts i w.trim
   unfolding pages_of line_counts tally.counts_of
   same_counts reached answered =
       let width : ℕ = (inner_area i).width in

@@ -4,11 +4,11 @@ use Prim.Native.Nat.{ℕ, ◌+◌, ◌<◌}
 use mathlib.Core.Path.{◌≡◌, refl, sym}
 use mathlib.Core.Bool.{true, false, false≢true}
 use native.Mathlib.Omega.{arith}
+use Rattle.std.specs.Prelude.{Ok}
 use Rattle.text.specs.Line.{Start}
 use lib.ListN.{length}
 use Rattle.layout.specs.declared.Rect.{Rect}
 use Rattle.layout.specs.Rect.{meet, is_empty, contains}
-use Rattle.refuse.specs.declared.Verdict.TheVariants.{Accepted}
 use Rattle.buffer.specs.declared.Screen.{Screen}
 use Rattle.buffer.specs.Drawing.{area_of}
 use Rattle.buffer.specs.PartsExtra.{AreaOnScreen}
@@ -54,12 +54,12 @@ pub text-inside : (i : Call) → DrawnNotice i → TextInside (inner_area i)
 text-inside i d = area-inside (screen_in i) (length i.cells) (inner_area i) (drawn-there i d)
 
 -- a text that is laid into any area: the part of it that is met
-pub laid-inside : (call : draw-text.Call) → draw-text.verdict_of call ≡ Accepted → is_empty (meet call.area (area_of (draw-text.screen_in call))) ≡ false
+pub laid-inside : (call : draw-text.Call) → draw-text.verdict_of call ≡ Ok tt → is_empty (meet call.area (area_of (draw-text.screen_in call))) ≡ false
     → TextInside (meet call.area (area_of (draw-text.screen_in call)))
 laid-inside call accepted some =
     let screen = draw-text.screen_in call in
     let count = length call.cells in
     let met = meet call.area (area_of screen) in
-    let s = (composable call Accepted (sym accepted) refl).1 in
+    let s = (composable call (Ok tt) (sym accepted) refl).1 in
     area-inside screen count met
     (record { on_screen = meeting_on_screen screen count met s.columns s.size call.area refl some; few_columns = s.few_columns; few_rows = s.few_rows })

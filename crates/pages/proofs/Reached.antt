@@ -8,12 +8,12 @@ use native.Mathlib.Nat.{div-add-mod', mod-lt, mul-le-mul_right}
 use native.Mathlib.Omega.{arith}
 use borrow.Author.Tests.{le-ltb}
 use lib.ListN.{length}
+use Rattle.std.specs.Prelude.{Ok}
 use Rattle.text.specs.declared.Alignment.TheVariants.{Left}
 use Rattle.layout.specs.declared.Rect.{Rect}
 use Rattle.layout.specs.Rect.{meet}
 use Rattle.buffer.specs.Drawing.{area_of}
 use Rattle.refuse.specs.declared.Refusal.TheVariants.{TextLength, TextHeads}
-use Rattle.refuse.specs.declared.Verdict.TheVariants.{Accepted}
 use Rattle.refuse.specs.Causes.{most_accepted, screen_causes, text_causes, line_causes}
 use Rattle.refuse.proofs.Calls.{no_cause}
 use Rattle.block.specs.declared.Block.{Block}
@@ -57,7 +57,7 @@ module _ (i : Call) (w : WrappedNotice i) where
         (screen_sized i w).most_columns,
       )
 
-  pub text_accepted : tally.verdict_of (pages_tally i w.trim) ≡ Accepted
+  pub text_accepted : tally.verdict_of (pages_tally i w.trim) ≡ Ok tt
   unfolding verdict_of causes_of screen_causes text_causes line_causes tally.verdict_of tally.causes_of
   text_accepted =
       let causes = causes_of most_accepted i in

@@ -5,10 +5,10 @@ use mathlib.Core.Bool.{true, false}
 use native.Mathlib.Omega.{arith}
 use borrow.Author.Tests.{ne_eqb}
 use lib.ListN.{length, length-replicate}
+use Rattle.std.specs.Prelude.{Ok}
 use Rattle.cell.specs.Cell.{blank_cell}
 use Rattle.layout.specs.declared.Rect.{Rect}
 use Rattle.layout.specs.Rect.{right_of, bottom_of, meet, is_empty, contains}
-use Rattle.refuse.specs.declared.Verdict.TheVariants.{Accepted}
 use Rattle.refuse.specs.Causes.{most_accepted}
 use Rattle.refuse.proofs.Accepted.{ScreenAccepted, sized}
 use Rattle.buffer.specs.Drawing.{area_of}
@@ -82,7 +82,7 @@ module _ (i : Call) (w : WrappedNotice i) where
   all-blank = length-replicate (i.columns * i.rows) blank_cell ∙ sym screen_sized.all_cells
 
   -- no cause depends on the scroll row or on the contents of cells
-  whole-at : (scroll : ℕ) → verdict_of (call_at i scroll) ≡ Accepted
+  whole-at : (scroll : ℕ) → verdict_of (call_at i scroll) ≡ Ok tt
   unfolding verdict_of causes_of notice_styles text_styles
   whole-at scroll = rw all-blank (accepted-whole i w.accepted)
 

@@ -6,6 +6,7 @@ use mathlib.Core.List.{List, [], ◌∷◌, map}
 use native.Mathlib.Omega.{arith}
 use lib.Dec.{eqb}
 use lib.ListN.{drop}
+use Rattle.std.specs.Prelude.{Ok, Err}
 use Rattle.text.specs.declared.Alignment.{Alignment}
 use Rattle.text.specs.Record.{alignment_of}
 use Rattle.text.specs.Alignment.{resolved}
@@ -15,9 +16,7 @@ use Rattle.text.proofs.Bools.{cond_cases}
 use Rattle.layout.specs.declared.Rect.{Rect}
 use Rattle.layout.specs.Rect.{meet, is_empty}
 use Rattle.buffer.specs.Drawing.{area_of}
-use Rattle.refuse.specs.declared.Verdict.{Verdict}
-use Rattle.refuse.specs.declared.Verdict.TheVariants.{Accepted, Refused}
-use Rattle.refuse.specs.Refusal.{unless_refused}
+use Rattle.refuse.specs.Refusal.{unless_refused, Verdict}
 use Rattle.wrapping.specs.declared.Rule.{Rule}
 use Rattle.wrapping.specs.Rule.{rule_of}
 use Rattle.line_truncator.specs.Truncation.{offset_of, truncate}
@@ -105,8 +104,8 @@ module _ (n : TextSettings) (column : ℕ) (off : n.wrap ≡ Off column) (text :
 
 -- a refused call has counts 0
 unless_unclipped : (v : Verdict) (c : DrawCounts) → c.clipped ≡ 0 → (unless_refused v c no_draw_counts).clipped ≡ 0
-unless_unclipped Accepted c none = none
-unless_unclipped (Refused why) c none = refl
+unless_unclipped (Ok _) c none = none
+unless_unclipped (Err why) c none = refl
 
 -- Theorem `unwrapped_unclipped`: drawing an unwrapped text clips no glyph.
 pub unwrapped_unclipped : (call : Call) (column : ℕ) → call.settings.wrap ≡ Off column → (counts_of call).clipped ≡ 0

@@ -1,11 +1,10 @@
 -- Demand 3, 'Nothing is lost', quoted from the demands (docs/PROMISES.md): the symbols read over all pages, the notices it covers.
 -- Document 02, C-15: "the page reading is to hold for the pair", frame, then text.
-use Rattle.std.specs.Prelude.{ℕ, zero, suc, ◌+◌, ◌*◌, ◌<◌, ◌≡◌, Bool, true, false, cond, ◌&&◌, List, [], ◌∷◌, ◌++◌, map, eqb, length, get_or}
+use Rattle.std.specs.Prelude.{ℕ, zero, suc, ◌+◌, ◌*◌, ◌<◌, ◌≡◌, Bool, true, false, cond, ◌&&◌, List, [], ◌∷◌, ◌++◌, map, eqb, length, get_or, Ok}
 use Rattle.text.specs.Line.{Glyph, glyphs_from}
 use Rattle.text.specs.Lists.{some}
 use Rattle.cell.specs.Cell.{cell_from, blank_symbol}
 use Rattle.layout.specs.Rect.{is_empty, contains}
-use Rattle.refuse.specs.declared.Verdict.TheVariants.{Accepted}
 use Rattle.nothing_lost.specs.Glyphs.{solids}
 use Rattle.line_composer.specs.declared.Wrap.TheVariants.{On}
 use Rattle.line_composer.specs.Lines.{dropped}
@@ -110,7 +109,7 @@ pages_tally i trim = tally.call_of i.text i.notice.ambiguous (inner_area i).widt
 -- is accepted, and the counts of the pages' answers add up to it.
 pub record SameCounts (i : Call) (trim : Bool) : Type 0 where
   pub reached : Reached i
-  pub answered : tally.verdict_of (pages_tally i trim) ≡ Accepted
+  pub answered : tally.verdict_of (pages_tally i trim) ≡ Ok tt
   pub rows : summed 0 (pages_of i) (λ page. (pair_counts (page_call i page)).rows) ≡ (tally.counts_of (pages_tally i trim)).lines
   pub placed : summed 0 (pages_of i) (λ page. (pair_counts (page_call i page)).placed) ≡ (tally.counts_of (pages_tally i trim)).placed
   pub clipped : summed 0 (pages_of i) (λ page. (pair_counts (page_call i page)).clipped) ≡ (tally.counts_of (pages_tally i trim)).clipped
@@ -119,5 +118,5 @@ pub record SameCounts (i : Call) (trim : Bool) : Type 0 where
 -- limit above 0, for glyphs of any width; and the pages' counts, which are the tally's.
 pub record DemandThree : Type 0 where
   pub nothing_lost : (i : Call) → WrappedNotice i → OneCell (glyphs_from i.notice.ambiguous 0 i.text) → NothingLost i
-  pub all_counted : (call : tally.Call) → tally.verdict_of call ≡ Accepted → 0 < call.limit → AllCounted call
+  pub all_counted : (call : tally.Call) → tally.verdict_of call ≡ Ok tt → 0 < call.limit → AllCounted call
   pub same_counts : (i : Call) (w : WrappedNotice i) → SameCounts i w.trim

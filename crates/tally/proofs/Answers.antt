@@ -1,37 +1,25 @@
 -- The call `tally`: its answer, the answer as document 01's numbers, and the order of its causes.
 use mathlib.Core.Path.{◌≡◌, refl, sym, ◌∙◌}
+use Rattle.std.specs.Prelude.{Ok, Err}
 use Rattle.refuse.specs.declared.Ceilings.{Ceilings}
 use Rattle.refuse.specs.declared.Refusal.{Refusal}
-use Rattle.refuse.specs.declared.Verdict.{Verdict}
-use Rattle.refuse.specs.declared.Verdict.TheVariants.{Accepted, Refused as RefusedFor}
-use Rattle.refuse.specs.Refusal.{first_cause, verdict_number}
+use Rattle.refuse.specs.Refusal.{first_cause, verdict_number, Verdict}
 use Rattle.refuse.specs.Causes.{most_accepted, text_causes, line_causes}
 use Rattle.refuse.proofs.Calls.{answer_refused, answer_accepted, answered-number, answered_value}
 use Rattle.refuse.proofs.Lowest.{InOrder, in_order}
 use Rattle.tally.specs.declared.TallyCounts.{TallyCounts}
-use Rattle.tally.specs.declared.TallyAnswer.TheVariants.{Counted, Refused}
 use Rattle.tally.specs.Tally.{no_counts, tally_of}
-use Rattle.tally.specs.Call.{Call, rule_in, causes_of, verdict_of, answer_of, counts_of, tally_answer_number, tally_answer_counts}
+use Rattle.tally.specs.Call.{Call, rule_in, causes_of, verdict_of, answer_of, counts_of, tally_answer_counts}
 
 -- a call is refused if and only if a cause holds, and for the lowest such cause
 pub lowest-first : (most : Ceilings) (call : Call) → InOrder (causes_of most call)
 unfolding causes_of line_causes text_causes
 lowest-first most call = in_order (causes_of most call) refl
 
-pub answer_number : (call : Call) → tally_answer_number (answer_of call) ≡ verdict_number (verdict_of call)
+pub answer_number : (call : Call) → verdict_number (answer_of call) ≡ verdict_number (verdict_of call)
 unfolding answer_of
-answer_number call = answered-number Counted Refused tally_answer_number (λ counts. refl) (λ why. refl) (verdict_of call) (tally_of (rule_in call) call.text)
+answer_number call = answered-number (verdict_of call) (tally_of (rule_in call) call.text)
 
 pub answer_counts : (call : Call) → tally_answer_counts (answer_of call) ≡ counts_of call
 unfolding answer_of counts_of
-answer_counts call = answered_value Counted Refused tally_answer_counts (λ counts. counts) no_counts (λ counts. refl) (λ why. refl) (verdict_of call) (tally_of (rule_in call) call.text)
-
--- v is the verdict of the checks
-module _ (call : Call) (v : Verdict) (e : v ≡ first_cause (line_causes most_accepted call.text call.limit)) where
-  pub tally_refused : (why : Refusal) → v ≡ RefusedFor why → Refused why ≡ answer_of call
-  unfolding verdict_of causes_of answer_of
-  tally_refused why r = answer_refused Counted Refused (verdict_of call) (tally_of (rule_in call) call.text) why (sym e ∙ r)
-
-  pub tally_counted : v ≡ Accepted → (c : TallyCounts) → c ≡ tally_of (rule_in call) call.text → Counted c ≡ answer_of call
-  unfolding verdict_of causes_of answer_of
-  tally_counted a c p = answer_accepted Counted Refused (verdict_of call) (tally_of (rule_in call) call.text) (sym e ∙ a) c p
+answer_counts call = answered_value tally_answer_counts (λ counts. counts) no_counts (λ counts. refl) (λ why. refl) (verdict_of call) (tally_of (rule_in call) call.text)

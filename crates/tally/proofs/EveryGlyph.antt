@@ -9,13 +9,13 @@ use mathlib.Core.List.{List, [], ◌∷◌, map}
 use native.Mathlib.Omega.{arith}
 use borrow.Author.Tests.{ne_eqb}
 use lib.ListN.{length, length-map}
+use Rattle.std.specs.Prelude.{Ok}
 use Rattle.text.specs.declared.Alignment.{Alignment}
 use Rattle.text.specs.declared.Alignment.TheVariants.{Left}
 use Rattle.text.specs.Line.{Glyph, lines_from, glyphs_from, Opens}
 use Rattle.text.proofs.LineGlyphs.{all_glyphs}
 use Rattle.text.proofs.TextLines.{opens-none}
 use Rattle.refuse.specs.declared.Refusal.TheVariants.{TextHeads}
-use Rattle.refuse.specs.declared.Verdict.TheVariants.{Accepted}
 use Rattle.refuse.specs.Causes.{most_accepted, text_causes, line_causes}
 use Rattle.refuse.proofs.Calls.{no_cause}
 use Rattle.refuse.proofs.Accepted.{text-opens}
@@ -55,11 +55,11 @@ unfolding dropped
 all_whitespace u text = all-blank u (lines_from 0 text)
 
 -- an accepted text opens with a head
-opened : (call : Call) → verdict_of call ≡ Accepted → Opens call.text
+opened : (call : Call) → verdict_of call ≡ Ok tt → Opens call.text
 unfolding verdict_of causes_of line_causes text_causes
 opened call a = text-opens call.text (no_cause (causes_of most_accepted call) TextHeads a)
 
-pub tally_counts : (call : Call) → verdict_of call ≡ Accepted → 0 < call.limit →
+pub tally_counts : (call : Call) → verdict_of call ≡ Ok tt → 0 < call.limit →
     let c = counts_of call in
     (c.placed + c.clipped + c.zero_width + c.over_wide + c.dropped ≡ length (glyphs_from call.ambiguous 0 call.text))
     × (solids (dropped (rule_in call) call.text) ≡ [])

@@ -1,16 +1,14 @@
 -- Document 01, 'Why a call is refused': the causes and the answer of the call `tally`. Document 02, C-11: "each call that
 -- reads widths takes an enum setting".
-use Rattle.std.specs.Prelude.{ℕ, Bool, List}
+use Rattle.std.specs.Prelude.{ℕ, Bool, List, Result, Ok, Err}
 use Rattle.text.specs.declared.AmbiguousWidth.{AmbiguousWidth}
 use Rattle.refuse.specs.declared.Ceilings.{Ceilings}
-use Rattle.refuse.specs.declared.Verdict.{Verdict}
-use Rattle.refuse.specs.Refusal.{Cause, first_cause, refusal_number, answering, unless_refused}
+use Rattle.refuse.specs.declared.Refusal.{Refusal}
+use Rattle.refuse.specs.Refusal.{Cause, first_cause, answering, unless_refused, Verdict}
 use Rattle.refuse.specs.Causes.{most_accepted, line_causes}
 use Rattle.wrapping.specs.declared.Rule.{Rule}
 use Rattle.wrapping.specs.Rule.{rule_of}
 use Rattle.tally.specs.declared.TallyCounts.{TallyCounts}
-use Rattle.tally.specs.declared.TallyAnswer.{TallyAnswer}
-use Rattle.tally.specs.declared.TallyAnswer.TheVariants.{Counted, Refused}
 use Rattle.tally.specs.Tally.{no_counts, tally_of}
 
 -- inputs of the call
@@ -33,18 +31,14 @@ causes_of most call = line_causes most call.text call.limit
 unfoldable pub verdict_of : Call → Verdict
 verdict_of call = first_cause (causes_of most_accepted call)
 
-unfoldable pub answer_of : Call → TallyAnswer
-answer_of call = answering Counted Refused (verdict_of call) (tally_of (rule_in call) call.text)
+unfoldable pub answer_of : Call → Result TallyCounts Refusal
+answer_of call = answering (verdict_of call) (tally_of (rule_in call) call.text)
 
 -- the counts in the answer: "number, counts 0" if refused
 unfoldable pub counts_of : Call → TallyCounts
 counts_of call = unless_refused (verdict_of call) (tally_of (rule_in call) call.text) no_counts
 
--- an answer as document 01's number, 0 if accepted, and counts
-abbrev pub tally_answer_number : TallyAnswer → ℕ
-tally_answer_number (Counted counts) = 0
-tally_answer_number (Refused why) = refusal_number why
-
-abbrev pub tally_answer_counts : TallyAnswer → TallyCounts
-tally_answer_counts (Counted counts) = counts
-tally_answer_counts (Refused why) = no_counts
+-- the counts of an answer
+abbrev pub tally_answer_counts : Result TallyCounts Refusal → TallyCounts
+tally_answer_counts (Ok counts) = counts
+tally_answer_counts (Err why) = no_counts

@@ -6,7 +6,7 @@ mod tallying;
 ghost use Rattle.std.specs.Prelude.{◌≡◌};
 ghost use Rattle.tally.specs.Call.{call_of, answer_of};
 
-use refuse::{ACCEPTED, Refusal, Verdict};
+use refuse::{ACCEPTED, Refusal};
 use text::AmbiguousWidth;
 use wrapping::Rule;
 
@@ -21,13 +21,6 @@ pub struct TallyCounts {
     pub dropped: u32,
 }
 
-// Answer of the call: the counts, or the reason for the refusal.
-#[derive(Clone, Copy)]
-pub enum TallyAnswer {
-    Counted(TallyCounts),
-    Refused(Refusal),
-}
-
 // Counts of a text's glyphs and of the over-wide ones among them.
 #[derive(Clone, Copy)]
 pub struct TextGlyphCounts {
@@ -36,16 +29,20 @@ pub struct TextGlyphCounts {
 }
 
 // Tallies a text at a limit. Refused for causes 3, 4 and 8.
-pub fn tally(text: &[u32], ambiguous: AmbiguousWidth, limit: u16, trim: bool) -> TallyAnswer
+#[tactic(auto, unfolding(crate::specs::Call::answer_of, crate::specs::Call::verdict_of, crate::specs::Call::causes_of))]
+pub fn tally(
+    text: &[u32],
+    ambiguous: AmbiguousWidth,
+    limit: u16,
+    trim: bool,
+) -> Result<TallyCounts, Refusal>
     ensures { result ≡ answer_of (call_of text.now ambiguous limit trim) }
 {
-    if let Verdict::Refused(why) = check_records::line_verdict(ACCEPTED, text, limit) {
-        return TallyAnswer::Refused(why);
-    }
+    check_records::line_verdict(ACCEPTED, text, limit)?;
     let rule = Rule {
         limit: limit as usize,
         trim,
         ambiguous,
     };
-    TallyAnswer::Counted(tallying::text_counts(rule, text))
+    Ok(tallying::text_counts(rule, text))
 }

@@ -1,15 +1,8 @@
 -- `measure::line_count` meets its contract.
-use Rattle.measure_text.proofs.Lines.{count_none, count-sum}
-use Rattle.measure.proofs.Answers.{count_refused, count-answered, count-sound}
+use Rattle.measure.proofs.Answers.{count-sound}
 use Rattle.measure.proofs.Lines.{count_fits, count-sum-fits}
 use borrow.Author.Rules.{rules}
 use Rattle.measure.proofs.line_count.Goals as goal
-
-pub returns-in-Refused : goal.returns-in-Refused
-returns-in-Refused c = count_refused _ _ c.line_count_verdict.ensures _ (search rules)
-
-pub returns-then-width-eq0 : goal.returns-then-width-eq0
-returns-then-width-eq0 c = count-answered _ _ c.line_count_verdict.ensures (search rules) _ (search count_none)
 
 pub lines_at-count-requires : goal.lines_at-count-requires
 lines_at-count-requires c = let sound = count-sound _ _ c.line_count_verdict.ensures (search rules) in
@@ -22,6 +15,3 @@ overflow_cast-result c = let sound = count-sound _ _ c.line_count_verdict.ensure
 pub overflow_add-result : goal.overflow_add-result
 overflow_add-result c = let sound = count-sound _ _ c.line_count_verdict.ensures (search rules) in
     search count-sum-fits
-
-pub returns : goal.returns
-returns c = count-answered _ _ c.line_count_verdict.ensures (search rules) _ (search count-sum)

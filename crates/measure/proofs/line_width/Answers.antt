@@ -1,12 +1,8 @@
 -- `measure::line_width` meets its contract.
-use Rattle.measure_text.proofs.Lines.{width-sum}
-use Rattle.measure.proofs.Answers.{width_refused, width-answered, width-sound}
+use Rattle.measure.proofs.Answers.{width-sound}
 use Rattle.measure.proofs.Lines.{width_sum_fits}
 use borrow.Author.Rules.{rules}
 use Rattle.measure.proofs.line_width.Goals as goal
-
-pub returns-in-Refused : goal.returns-in-Refused
-returns-in-Refused c = width_refused _ _ c.line_width_verdict.ensures _ (search rules)
 
 pub widest_line-columns-requires : goal.widest_line-columns-requires
 widest_line-columns-requires c = let sound = width-sound _ _ c.line_width_verdict.ensures (search rules) in
@@ -15,6 +11,3 @@ widest_line-columns-requires c = let sound = width-sound _ _ c.line_width_verdic
 pub overflow_add-sum : goal.overflow_add-sum
 overflow_add-sum c = let sound = width-sound _ _ c.line_width_verdict.ensures (search rules) in
     search width_sum_fits
-
-pub returns : goal.returns
-returns c = width-answered _ _ c.line_width_verdict.ensures (search rules) _ (search width-sum)
