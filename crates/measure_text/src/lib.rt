@@ -15,7 +15,7 @@ use wrapping::Rule;
 pub fn both(space: Space) -> u32
     ensures { result ≡ both space }
 {
-    space.before as u32 + space.after as u32
+    u32::from(space.before) + u32::from(space.after)
 }
 
 // Counts the lines of a text at a width: composed lines, or text lines if unwrapped.
@@ -41,17 +41,13 @@ pub fn widest_line(text: &[u32], ambiguous: AmbiguousWidth) -> u32
 {
     let mut widest = 0;
     let mut width = 0;
-    let mut i = 0;
-    while i < text.len() {
-        if head::is_head(text[i]) {
+    for &record in text {
+        if head::is_head(record) {
             width = 0;
         } else {
-            width += glyph::width(text[i], ambiguous);
+            width += glyph::width(record, ambiguous);
         }
-        if widest < width {
-            widest = width;
-        }
-        i += 1;
+        widest = widest.max(width);
     }
     widest
 }
