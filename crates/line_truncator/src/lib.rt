@@ -10,13 +10,13 @@ use text::Alignment;
 use wrapping::{Rule, Run};
 
 // Returns the horizontal offset of a line: only left lines are scrolled right (reflow.rs: `LineTruncator::set_horizontal_offset`).
+#[tactic(auto, unfolding(crate::specs::Truncation::offset_of))]
 fn horizontal_offset(column: u32, alignment: Alignment) -> u32
     ensures { result ≡ offset_of column alignment }
 {
     match alignment {
         Alignment::Left => column,
-        Alignment::Center => 0,
-        Alignment::Right => 0,
+        Alignment::Center | Alignment::Right => 0,
     }
 }
 
@@ -28,11 +28,8 @@ fn shown_run(rule: Rule, offset: usize, records: &[u32]) -> Run
 {
     let mut offset = offset;
     let mut run = Run::empty();
-    let mut i = 0;
-    while i < records.len() {
-        let at = i;
-        let w = rule.width(records[at]) as usize;
-        i += 1;
+    for (at, &record) in records.iter().enumerate() {
+        let w = rule.width(record) as usize;
         if rule.limit < run.width + w {
             if rule.limit < w {
                 continue;
