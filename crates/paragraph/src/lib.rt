@@ -22,6 +22,7 @@ use line_composer::Wrap;
 use render_lines::DrawCounts;
 use render_text::TextSettings;
 use text::{Alignment, AmbiguousWidth};
+use titles::TitledBlock;
 
 // Settings of a notice (paragraph.rs: `Paragraph`). `style` and `text_style` are style numbers, `alignment` is the default of its lines,
 // `scroll` the first line drawn, `ambiguous` how ambiguous glyphs of text and titles are read.
@@ -59,45 +60,36 @@ impl Notice {
 fn render_style_and_frame(
     screen: Screen,
     cells: &mut [u64],
-    styles: &[u64],
-    titles: &[u32],
-    ambiguous: AmbiguousWidth,
+    titled: &TitledBlock,
     met: Rect,
     style: u8,
-    block: Block,
 )
-    requires symbols_fit { SymbolsFit block × (is_empty met ≡ false) × (screen.columns < 2 ^ 15) × (screen.rows < 2 ^ 15) × Opens titles.now }
+    requires symbols_fit { SymbolsFit titled.now.block × (is_empty met ≡ false)
+        × (screen.columns < 2 ^ 15) × (screen.rows < 2 ^ 15) × Opens titled.now.titles.now }
     requires on_screen { OnScreen screen (length cells.old) met }
-    ensures { let under = over met (styled (style_at styles.now style)) in
-        let around = frame styles.now screen (titles_from ambiguous titles.now) block met in
+    ensures { let under = over met (styled (style_at titled.now.styles.now style)) in
+        let read = titles_from titled.now.ambiguous titled.now.titles.now in
+        let around = frame titled.now.styles.now screen read titled.now.block met in
         cells.new ≡ drawn screen.columns (in_order (under ∷ around ∷ [])) cells.old }
 {
-    let ink = Ink::Style(buffer::style_at(styles, style));
+    let ink = Ink::Style(buffer::style_at(titled.styles, style));
     buffer::paint_area(screen, cells, met, ink);
-    render_block::render_frame(screen, cells, styles, titles, ambiguous, block, met);
+    render_block::render_frame(screen, cells, titled, met);
 }
 
 // Draws the frame of a notice in the intersection of its area and the screen, the notice's style first, and its shadow; nothing if the
 // intersection is empty. (paragraph.rs: the first half of `Paragraph::render`)
-pub fn render_frame(
-    screen: Screen,
-    cells: &mut [u64],
-    styles: &[u64],
-    titles: &[u32],
-    ambiguous: AmbiguousWidth,
-    area: Rect,
-    style: u8,
-    block: Block,
-)
-    requires { SymbolsFit block × HasCells screen (length cells.old) × Opens titles.now }
-    ensures { let drawing = frame_of styles.now screen (titles_from ambiguous titles.now) style block area in
+pub fn render_frame(screen: Screen, cells: &mut [u64], titled: &TitledBlock, area: Rect, style: u8)
+    requires { SymbolsFit titled.now.block × HasCells screen (length cells.old) × Opens titled.now.titles.now }
+    ensures { let read = titles_from titled.now.ambiguous titled.now.titles.now in
+        let drawing = frame_of titled.now.styles.now screen read style titled.now.block area in
         cells.new ≡ drawn screen.columns drawing cells.old }
 {
     let met = area.intersection(screen.area());
     if met.is_empty() {
         return;
     }
-    render_style_and_frame(screen, cells, styles, titles, ambiguous, met, style, block);
+    render_style_and_frame(screen, cells, titled, met, style);
 }
 
 // Returns the inner area of the intersection of a notice's area and the screen.

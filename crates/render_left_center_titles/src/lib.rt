@@ -11,31 +11,29 @@ ghost use Rattle.title.specs.FittingExtra.{TitleArea};
 ghost use Rattle.titles.specs.Titles.{titles_from, filtered_titles, title_drawn, titles_drawn, spaced_from, left_titles, center_titles};
 ghost use Rattle.titles.specs.PlacingExtra.{placed_width, next_place, placed_at, placed_titles, center_place, AreaFits, titles_of, title_of, Added, Moved};
 
-use block::Block;
 use buffer::Screen;
 use layout::Rect;
 use text::line::Lines;
-use text::{Alignment, AmbiguousWidth, TitlePosition};
-use titles::{Group, Place, places};
+use text::{Alignment, TitlePosition};
+use titles::{Group, Place, TitledBlock, places};
 
 // Draws a title at a place with a non-empty area, and returns the place after it.
 fn render_title_at(
     screen: Screen,
     cells: &mut [u64],
-    styles: &[u64],
-    block: Block,
+    titled: &TitledBlock,
     place: Place,
     word: u32,
     glyphs: &[u32],
-    ambiguous: AmbiguousWidth,
 ) -> Place
     requires { TitleArea screen (length cells.old) place.area }
-    ensures place { result ≡ next_place place (placed_width place (title_line_width (glyphs_of_title ambiguous glyphs.now))) }
-    ensures drawn { let drawing = title_drawn styles.now block (placed_at place (title_of ambiguous word glyphs.now)) in
+    ensures place { result ≡ next_place place (placed_width place (title_line_width (glyphs_of_title titled.now.ambiguous glyphs.now))) }
+    ensures drawn { let placed = placed_at place (title_of titled.now.ambiguous word glyphs.now) in
+        let drawing = title_drawn titled.now.styles.now titled.now.block placed in
         cells.new ≡ drawn screen.columns drawing cells.old }
 {
     let area = place.area;
-    let width = place.width(title::line_width_u16(glyphs, ambiguous));
+    let width = place.width(title::line_width_u16(glyphs, titled.ambiguous));
     let part = Rect {
         x: area.x,
         y: area.y,
@@ -45,12 +43,12 @@ fn render_title_at(
     title::render_title(
         screen,
         cells,
-        styles,
-        block.titles_style,
+        titled.styles,
+        titled.block.titles_style,
         part,
         place.alignment(word),
         glyphs,
-        ambiguous,
+        titled.ambiguous,
     );
     place.next(width)
 }
@@ -59,24 +57,22 @@ fn render_title_at(
 fn render_next_title(
     screen: Screen,
     cells: &mut [u64],
-    styles: &[u64],
-    block: Block,
+    titled: &TitledBlock,
     group: Group,
     place: Place,
     word: u32,
     glyphs: &[u32],
-    ambiguous: AmbiguousWidth,
 ) -> Place
     requires { AreaFits screen (length cells.old) place.area × (0 < screen.columns) }
-    ensures { let title = title_of ambiguous word glyphs.now in
-        Moved screen styles.now block group title place cells.old result cells.new }
+    ensures { let title = title_of titled.now.ambiguous word glyphs.now in
+        Moved screen titled.now.styles.now titled.now.block group title place cells.old result cells.new }
 {
     let area = place.area;
     if area.is_empty() {
         return place;
     }
-    if group.has_title(block, word) {
-        return render_title_at(screen, cells, styles, block, place, word, glyphs, ambiguous);
+    if group.has_title(titled.block, word) {
+        return render_title_at(screen, cells, titled, place, word, glyphs);
     }
     place
 }
@@ -87,52 +83,43 @@ fn render_next_title(
 fn render_titles_forward(
     screen: Screen,
     cells: &mut [u64],
-    styles: &[u64],
-    titles: &[u32],
-    ambiguous: AmbiguousWidth,
-    block: Block,
+    titled: &TitledBlock,
     group: Group,
     place: Place,
 )
-    requires columns_nonzero { (0 < screen.columns) × Opens titles.now }
+    requires columns_nonzero { (0 < screen.columns) × Opens titled.now.titles.now }
     requires area_fits { AreaFits screen (length cells.old) place.area }
-    ensures { let drawing = titles_drawn styles.now block (placed_titles place (titles_of block group (titles_from ambiguous titles.now))) in
+    ensures { let read = titles_from titled.now.ambiguous titled.now.titles.now in
+        let placed = placed_titles place (titles_of titled.now.block group read) in
+        let drawing = titles_drawn titled.now.styles.now titled.now.block placed in
         cells.new ≡ drawn screen.columns drawing cells.old }
 {
     let mut place = place;
-    for line in Lines::new(titles) {
-        place = render_next_title(
-            screen, cells, styles, block, group, place, line.0, line.1, ambiguous,
-        );
+    for line in Lines::new(titled.titles) {
+        place = render_next_title(screen, cells, titled, group, place, line.0, line.1);
     }
 }
 
 // Returns the sum plus the title's width and one column, if the title belongs to the group.
-fn add_spaced(
-    sum: u16,
-    block: Block,
-    group: Group,
-    word: u32,
-    glyphs: &[u32],
-    ambiguous: AmbiguousWidth,
-) -> u16
-    ensures { Added block group (title_of ambiguous word glyphs.now) sum result }
+fn add_spaced(sum: u16, titled: &TitledBlock, group: Group, word: u32, glyphs: &[u32]) -> u16
+    ensures { Added titled.now.block group (title_of titled.now.ambiguous word glyphs.now) sum result }
 {
-    if group.has_title(block, word) {
-        return sum.saturating_add(places::spaced(title::line_width_u16(glyphs, ambiguous)));
+    if group.has_title(titled.block, word) {
+        return sum.saturating_add(places::spaced(title::line_width_u16(glyphs, titled.ambiguous)));
     }
     sum
 }
 
 // Returns the sum of the widths of a group's titles, with one column after each.
 #[tactic(auto, using(titles::proofs::Spaced::sum_starts))]
-fn spaced_width(titles: &[u32], ambiguous: AmbiguousWidth, block: Block, group: Group) -> u16
-    requires { Opens titles.now }
-    ensures { result ≡ spaced_from 0 (titles_of block group (titles_from ambiguous titles.now)) }
+fn spaced_width(titled: &TitledBlock, group: Group) -> u16
+    requires { Opens titled.now.titles.now }
+    ensures { let read = titles_from titled.now.ambiguous titled.now.titles.now in
+        result ≡ spaced_from 0 (titles_of titled.now.block group read) }
 {
     let mut sum: u16 = 0;
-    for line in Lines::new(titles) {
-        sum = add_spaced(sum, block, group, line.0, line.1, ambiguous);
+    for line in Lines::new(titled.titles) {
+        sum = add_spaced(sum, titled, group, line.0, line.1);
     }
     sum
 }
@@ -141,17 +128,15 @@ fn spaced_width(titles: &[u32], ambiguous: AmbiguousWidth, block: Block, group: 
 pub fn render_left_titles(
     screen: Screen,
     cells: &mut [u64],
-    styles: &[u64],
-    titles: &[u32],
-    ambiguous: AmbiguousWidth,
-    block: Block,
+    titled: &TitledBlock,
     position: TitlePosition,
     area: Rect,
 )
-    requires columns_nonzero { (0 < screen.columns) × Opens titles.now }
+    requires columns_nonzero { (0 < screen.columns) × Opens titled.now.titles.now }
     requires area_fits { AreaFits screen (length cells.old) area }
-    ensures { let read = titles_from ambiguous titles.now in
-        let drawing = titles_drawn styles.now block (left_titles area (filtered_titles block position Left read)) in
+    ensures { let read = titles_from titled.now.ambiguous titled.now.titles.now in
+        let placed = left_titles area (filtered_titles titled.now.block position Left read) in
+        let drawing = titles_drawn titled.now.styles.now titled.now.block placed in
         cells.new ≡ drawn screen.columns drawing cells.old }
 {
     let group = Group {
@@ -163,9 +148,7 @@ pub fn render_left_titles(
         offset: 0,
         truncates: false,
     };
-    render_titles_forward(
-        screen, cells, styles, titles, ambiguous, block, group, place,
-    );
+    render_titles_forward(screen, cells, titled, group, place);
 }
 
 // Returns the place of the first centred title, given the total width of all centred titles
@@ -198,26 +181,22 @@ fn center_place(area: Rect, total: u16) -> Place
 pub fn render_center_titles(
     screen: Screen,
     cells: &mut [u64],
-    styles: &[u64],
-    titles: &[u32],
-    ambiguous: AmbiguousWidth,
-    block: Block,
+    titled: &TitledBlock,
     position: TitlePosition,
     area: Rect,
 )
-    requires columns_nonzero { (0 < screen.columns) × Opens titles.now }
+    requires columns_nonzero { (0 < screen.columns) × Opens titled.now.titles.now }
     requires area_fits { AreaFits screen (length cells.old) area × (area.height ≡ 1) }
-    ensures { let read = titles_from ambiguous titles.now in
-        let drawing = titles_drawn styles.now block (center_titles area (filtered_titles block position Center read)) in
+    ensures { let read = titles_from titled.now.ambiguous titled.now.titles.now in
+        let placed = center_titles area (filtered_titles titled.now.block position Center read) in
+        let drawing = titles_drawn titled.now.styles.now titled.now.block placed in
         cells.new ≡ drawn screen.columns drawing cells.old }
 {
     let group = Group {
         position,
         alignment: Alignment::Center,
     };
-    let spaced = spaced_width(titles, ambiguous, block, group);
+    let spaced = spaced_width(titled, group);
     let place = center_place(area, spaced.saturating_sub(1));
-    render_titles_forward(
-        screen, cells, styles, titles, ambiguous, block, group, place,
-    );
+    render_titles_forward(screen, cells, titled, group, place);
 }

@@ -10,11 +10,10 @@ ghost use Rattle.title.specs.FittingExtra.{TitleArea};
 ghost use Rattle.titles.specs.Titles.{titles_from, filtered_titles, placed_as_given, title_drawn, titles_drawn, right_part, before_title, right_titles};
 ghost use Rattle.titles.specs.PlacingExtra.{AreaFits, titles_of, title_of, MovedBack};
 
-use block::Block;
 use buffer::Screen;
 use layout::Rect;
-use text::{Alignment, AmbiguousWidth, TitlePosition, head, line};
-use titles::{Group, heads};
+use text::{Alignment, TitlePosition, head, line};
+use titles::{Group, TitledBlock, heads};
 
 // Returns the area remaining before a title of this width at the right end and the column between titles.
 fn before_title(area: Rect, width: u16) -> Rect
@@ -44,31 +43,30 @@ fn right_part(area: Rect, width: u16) -> Rect
 fn render_title_before(
     screen: Screen,
     cells: &mut [u64],
-    styles: &[u64],
-    block: Block,
+    titled: &TitledBlock,
     area: Rect,
     word: u32,
     glyphs: &[u32],
-    ambiguous: AmbiguousWidth,
 ) -> Rect
     requires { TitleArea screen (length cells.old) area }
-    ensures left { result ≡ before_title (title_line_width (glyphs_of_title ambiguous glyphs.now)) area }
-    ensures drawn { let part = right_part (title_line_width (glyphs_of_title ambiguous glyphs.now)) area in
-        let drawing = title_drawn styles.now block (placed_as_given part (title_of ambiguous word glyphs.now)) in
+    ensures left { result ≡ before_title (title_line_width (glyphs_of_title titled.now.ambiguous glyphs.now)) area }
+    ensures drawn { let part = right_part (title_line_width (glyphs_of_title titled.now.ambiguous glyphs.now)) area in
+        let placed = placed_as_given part (title_of titled.now.ambiguous word glyphs.now) in
+        let drawing = title_drawn titled.now.styles.now titled.now.block placed in
         cells.new ≡ drawn screen.columns drawing cells.old }
 {
-    let width = title::line_width_u16(glyphs, ambiguous);
+    let width = title::line_width_u16(glyphs, titled.ambiguous);
     let part = right_part(area, width);
     let alignment = head::resolve(word, Alignment::Left);
     title::render_title(
         screen,
         cells,
-        styles,
-        block.titles_style,
+        titled.styles,
+        titled.block.titles_style,
         part,
         alignment,
         glyphs,
-        ambiguous,
+        titled.ambiguous,
     );
     before_title(area, width)
 }
@@ -77,23 +75,21 @@ fn render_title_before(
 fn render_previous_title(
     screen: Screen,
     cells: &mut [u64],
-    styles: &[u64],
-    block: Block,
+    titled: &TitledBlock,
     group: Group,
     area: Rect,
     word: u32,
     glyphs: &[u32],
-    ambiguous: AmbiguousWidth,
 ) -> Rect
     requires { AreaFits screen (length cells.old) area × (0 < screen.columns) }
-    ensures { let title = title_of ambiguous word glyphs.now in
-        MovedBack screen styles.now block group title area cells.old result cells.new }
+    ensures { let title = title_of titled.now.ambiguous word glyphs.now in
+        MovedBack screen titled.now.styles.now titled.now.block group title area cells.old result cells.new }
 {
     if area.is_empty() {
         return area;
     }
-    if group.has_title(block, word) {
-        return render_title_before(screen, cells, styles, block, area, word, glyphs, ambiguous);
+    if group.has_title(titled.block, word) {
+        return render_title_before(screen, cells, titled, area, word, glyphs);
     }
     area
 }
@@ -102,19 +98,18 @@ fn render_previous_title(
 fn render_titles_backward(
     screen: Screen,
     cells: &mut [u64],
-    styles: &[u64],
-    titles: &[u32],
-    ambiguous: AmbiguousWidth,
-    block: Block,
+    titled: &TitledBlock,
     group: Group,
     area: Rect,
 )
     requires columns_nonzero { 0 < screen.columns }
     requires area_fits { AreaFits screen (length cells.old) area }
-    ensures { let all = titles_from ambiguous titles.now in
-        let drawing = titles_drawn styles.now block (right_titles area (reverse (titles_of block group all))) in
+    ensures { let all = titles_from titled.now.ambiguous titled.now.titles.now in
+        let placed = right_titles area (reverse (titles_of titled.now.block group all)) in
+        let drawing = titles_drawn titled.now.styles.now titled.now.block placed in
         cells.new ≡ drawn screen.columns drawing cells.old }
 {
+    let titles = titled.titles;
     let first = line::line_length(titles);
     let mut left = area;
     let mut end = titles.len();
@@ -124,13 +119,11 @@ fn render_titles_backward(
         left = render_previous_title(
             screen,
             cells,
-            styles,
-            block,
+            titled,
             group,
             left,
             titles[at],
             &titles[from..end],
-            ambiguous,
         );
         end = at;
     }
@@ -140,22 +133,20 @@ fn render_titles_backward(
 pub fn render_right_titles(
     screen: Screen,
     cells: &mut [u64],
-    styles: &[u64],
-    titles: &[u32],
-    ambiguous: AmbiguousWidth,
-    block: Block,
+    titled: &TitledBlock,
     position: TitlePosition,
     area: Rect,
 )
     requires columns_nonzero { 0 < screen.columns }
     requires area_fits { AreaFits screen (length cells.old) area }
-    ensures { let all = titles_from ambiguous titles.now in
-        let drawing = titles_drawn styles.now block (right_titles area (reverse (filtered_titles block position Right all))) in
+    ensures { let all = titles_from titled.now.ambiguous titled.now.titles.now in
+        let placed = right_titles area (reverse (filtered_titles titled.now.block position Right all)) in
+        let drawing = titles_drawn titled.now.styles.now titled.now.block placed in
         cells.new ≡ drawn screen.columns drawing cells.old }
 {
     let group = Group {
         position,
         alignment: Alignment::Right,
     };
-    render_titles_backward(screen, cells, styles, titles, ambiguous, block, group, area);
+    render_titles_backward(screen, cells, titled, group, area);
 }

@@ -12,7 +12,8 @@ ghost use Rattle.titles.specs.PlacingExtra.{AreaFits};
 use block::Block;
 use buffer::Screen;
 use layout::Rect;
-use text::{AmbiguousWidth, TitlePosition};
+use text::TitlePosition;
+use titles::TitledBlock;
 
 // Returns the row of the titles at a position.
 fn titles_row(position: TitlePosition, area: Rect) -> u16
@@ -43,84 +44,46 @@ fn titles_area(block: Block, position: TitlePosition, area: Rect) -> Rect
 fn render_in_titles_area(
     screen: Screen,
     cells: &mut [u64],
-    styles: &[u64],
-    titles: &[u32],
-    ambiguous: AmbiguousWidth,
-    block: Block,
+    titled: &TitledBlock,
     position: TitlePosition,
     area: Rect,
 )
-    requires columns_nonzero { (0 < screen.columns) × Opens titles.now × (area.height ≡ 1) }
+    requires columns_nonzero { (0 < screen.columns) × Opens titled.now.titles.now × (area.height ≡ 1) }
     requires area_fits { AreaFits screen (length cells.old) area }
-    ensures { let drawing = titles_drawn styles.now block (groups_in block position area (titles_from ambiguous titles.now)) in
+    ensures { let placed = groups_in titled.now.block position area (titles_from titled.now.ambiguous titled.now.titles.now) in
+        let drawing = titles_drawn titled.now.styles.now titled.now.block placed in
         cells.new ≡ drawn screen.columns drawing cells.old }
 {
-    render_left_center_titles::render_left_titles(
-        screen, cells, styles, titles, ambiguous, block, position, area,
-    );
-    render_left_center_titles::render_center_titles(
-        screen, cells, styles, titles, ambiguous, block, position, area,
-    );
-    render_right_titles::render_right_titles(
-        screen, cells, styles, titles, ambiguous, block, position, area,
-    );
+    render_left_center_titles::render_left_titles(screen, cells, titled, position, area);
+    render_left_center_titles::render_center_titles(screen, cells, titled, position, area);
+    render_right_titles::render_right_titles(screen, cells, titled, position, area);
 }
 
 // Draws the titles at a position of a non-empty rectangle (block.rs: `Block::render_title_position`).
 fn render_title_position(
     screen: Screen,
     cells: &mut [u64],
-    styles: &[u64],
-    titles: &[u32],
-    ambiguous: AmbiguousWidth,
-    block: Block,
+    titled: &TitledBlock,
     position: TitlePosition,
     met: Rect,
 )
-    requires met_value { (is_empty met ≡ false) × (screen.columns < 2 ^ 15) × (screen.rows < 2 ^ 15) × Opens titles.now }
+    requires met_value { (is_empty met ≡ false) × (screen.columns < 2 ^ 15) × (screen.rows < 2 ^ 15) × Opens titled.now.titles.now }
     requires on_screen { OnScreen screen (length cells.old) met }
-    ensures { let drawing = titles_drawn styles.now block (titles_at block position met (titles_from ambiguous titles.now)) in
+    ensures { let placed = titles_at titled.now.block position met (titles_from titled.now.ambiguous titled.now.titles.now) in
+        let drawing = titles_drawn titled.now.styles.now titled.now.block placed in
         cells.new ≡ drawn screen.columns drawing cells.old }
 {
-    let area = titles_area(block, position, met);
-    render_in_titles_area(
-        screen, cells, styles, titles, ambiguous, block, position, area,
-    );
+    let area = titles_area(titled.block, position, met);
+    render_in_titles_area(screen, cells, titled, position, area);
 }
 
 // Draws a block's titles over a non-empty rectangle: top, then bottom (block.rs: `Block::render_titles`).
-pub fn render_titles(
-    screen: Screen,
-    cells: &mut [u64],
-    styles: &[u64],
-    titles: &[u32],
-    ambiguous: AmbiguousWidth,
-    block: Block,
-    met: Rect,
-)
-    requires met_value { (is_empty met ≡ false) × (screen.columns < 2 ^ 15) × (screen.rows < 2 ^ 15) × Opens titles.now }
+pub fn render_titles(screen: Screen, cells: &mut [u64], titled: &TitledBlock, met: Rect)
+    requires met_value { (is_empty met ≡ false) × (screen.columns < 2 ^ 15) × (screen.rows < 2 ^ 15) × Opens titled.now.titles.now }
     requires on_screen { OnScreen screen (length cells.old) met }
-    ensures { let drawing = titles_on styles.now block met (titles_from ambiguous titles.now) in
+    ensures { let drawing = titles_on titled.now.styles.now titled.now.block met (titles_from titled.now.ambiguous titled.now.titles.now) in
         cells.new ≡ drawn screen.columns drawing cells.old }
 {
-    render_title_position(
-        screen,
-        cells,
-        styles,
-        titles,
-        ambiguous,
-        block,
-        TitlePosition::Top,
-        met,
-    );
-    render_title_position(
-        screen,
-        cells,
-        styles,
-        titles,
-        ambiguous,
-        block,
-        TitlePosition::Bottom,
-        met,
-    );
+    render_title_position(screen, cells, titled, TitlePosition::Top, met);
+    render_title_position(screen, cells, titled, TitlePosition::Bottom, met);
 }

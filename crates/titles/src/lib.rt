@@ -1,12 +1,22 @@
 // Selection and placement of a block's titles. The crate `render_titles` draws them.
 #![tactic(auto)]
 
+use block::Block;
 use layout::Rect;
-use text::{Alignment, TitlePosition};
+use text::{Alignment, AmbiguousWidth, TitlePosition};
 
 mod filtered_titles;
 pub mod heads;
 pub mod places;
+
+// A block with its titles, as records, how their ambiguous glyphs are read, and the styles that its numbers name.
+#[derive(Clone, Copy)]
+pub struct TitledBlock<'a> {
+    pub styles: &'a [u64],
+    pub titles: &'a [u32],
+    pub ambiguous: AmbiguousWidth,
+    pub block: Block,
+}
 
 // The titles with this position and alignment, each given or default.
 #[derive(Clone, Copy)]

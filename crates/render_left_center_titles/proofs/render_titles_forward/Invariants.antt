@@ -4,4 +4,4 @@ use Rattle.titles.proofs.Walking.{Walking}
 use Rattle.render_left_center_titles.proofs.render_titles_forward.Given as goal
 
 abbrev pub invariant-loop-line : goal.invariant-loop-line
-invariant-loop-line l = Walking l.ambiguous l.screen l.styles l.block l.group l.titles l.initial.place l.initial.cells l.cells l.place (lines_left l.line-iterator)
+invariant-loop-line l = Walking l.titled.ambiguous l.screen l.titled.styles.now l.titled.block l.group l.titled.titles.now l.initial.place l.initial.cells l.cells l.place (lines_left l.line-iterator)

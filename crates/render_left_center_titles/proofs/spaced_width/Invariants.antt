@@ -4,4 +4,4 @@ use Rattle.titles.proofs.Spaced.{Summing}
 use Rattle.render_left_center_titles.proofs.spaced_width.Given as goal
 
 abbrev pub invariant-loop-line : goal.invariant-loop-line
-invariant-loop-line l = Summing l.ambiguous l.block l.group l.titles l.sum (lines_left l.line-iterator)
+invariant-loop-line l = Summing l.titled.ambiguous l.titled.block l.group l.titled.titles.now l.sum (lines_left l.line-iterator)

@@ -3,7 +3,7 @@ use Rattle.titles.proofs.RightTitles.{WalkingBack}
 use Rattle.render_right_titles.proofs.render_titles_backward.Given as goal
 
 abbrev pub invariant-loop-end : goal.invariant-loop-end
-invariant-loop-end l = WalkingBack l.ambiguous l.screen l.styles l.block l.group l.titles l.initial.left l.initial.cells l.cells l.left l.end
+invariant-loop-end l = WalkingBack l.titled.ambiguous l.screen l.titled.styles.now l.titled.block l.group l.titles l.initial.left l.initial.cells l.cells l.left l.end
 
 abbrev pub decreases-loop-end : goal.decreases-loop-end
 decreases-loop-end l = l.end
