@@ -9,6 +9,7 @@ use check_settings::screen;
 use layout::Rect;
 use refuse::{ACCEPTED, Refusal, refuse_if};
 use text::AmbiguousWidth;
+use titles::TitledBlock;
 
 // Returns the verdict of the call's checks, lowest cause first.
 #[tactic(auto, unfolding(crate::specs::Call::verdict_of, crate::specs::Call::causes_of, refuse::specs::Causes::screen_causes))]
@@ -53,6 +54,12 @@ pub fn draw_block(
 {
     draw_block_verdict(columns, rows, cells, styles, titles, ambiguous, area, block)?;
     let screen = screen::screen_size(columns, rows);
-    render_block::render(screen, cells, styles, titles, ambiguous, block, area);
+    let titled = TitledBlock {
+        styles,
+        titles,
+        ambiguous,
+        block,
+    };
+    render_block::render(screen, cells, &titled, area);
     Ok(())
 }

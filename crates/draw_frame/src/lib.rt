@@ -10,6 +10,7 @@ use check_settings::screen;
 use layout::Rect;
 use refuse::{ACCEPTED, Refusal, refuse_if};
 use text::AmbiguousWidth;
+use titles::TitledBlock;
 
 // Whether the notice's style number, or one of the block or a title glyph, isn't below the count of styles (cause 6).
 #[tactic(auto, unfolding(crate::specs::Call::notice_frame_styles))]
@@ -66,6 +67,12 @@ pub fn draw_frame(
         columns, rows, cells, styles, titles, ambiguous, area, style, block,
     )?;
     let screen = screen::screen_size(columns, rows);
-    paragraph::render_frame(screen, cells, styles, titles, ambiguous, area, style, block);
+    let titled = TitledBlock {
+        styles,
+        titles,
+        ambiguous,
+        block,
+    };
+    paragraph::render_frame(screen, cells, &titled, area, style);
     Ok(paragraph::inner_area(screen, titles, block, area))
 }
