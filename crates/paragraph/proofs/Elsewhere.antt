@@ -2,7 +2,7 @@
 -- on a screen of fewer than 2^15 columns (at most 512 are accepted), and drawing its text none outside the area that it is given.
 use Prim.Native.Nat.{ℕ, ◌^◌, ◌<◌}
 use mathlib.Core.Path.{◌≡◌, sym, ◌∙◌}
-use mathlib.Core.Bool.{true, false, true≢false}
+use mathlib.Core.Bool.{false, true≢false}
 use mathlib.Core.List.{List}
 use native.Mathlib.Omega.{arith}
 use Rattle.text.specs.declared.AmbiguousWidth.{AmbiguousWidth}

@@ -1,24 +1,18 @@
 -- Cells that a shadow doesn't change: the block's own cells, and every cell if the shadow's area is empty.
-use Prim.Native.Nat.{ℕ, ◌+◌}
+use Prim.Native.Nat.{ℕ}
 use mathlib.Core.Path.{◌≡◌, refl, ◌∙◌}
-use mathlib.Core.Bool.{Bool, true, false, and-false}
-use mathlib.Core.Logic.{dite}
+use mathlib.Core.Bool.{Bool, true, false}
 use mathlib.Core.List.{List}
-use native.Mathlib.Decide.{dec_lt}
-use native.Mathlib.Omega.{arith}
-use borrow.Author.Tests.{eqb-true}
-use lib.Dec.{eqb}
 use lib.IntN.{ℤ}
-use Rattle.num.specs.Held.{held}
 use Rattle.cell.specs.Cell.{with_symbol}
 use Rattle.layout.specs.declared.Rect.{Rect}
-use Rattle.layout.specs.Rect.{is_empty, within, contains}
+use Rattle.layout.specs.Rect.{is_empty, contains}
 use Rattle.block.specs.declared.Effect.{Effect}
 use Rattle.block.specs.declared.Effect.TheVariants.{Overlay, Symbol}
 use Rattle.block.specs.declared.Shadow.{Shadow}
 use Rattle.block.specs.declared.Shadow.TheVariants.{Absent, Present}
 use Rattle.buffer.specs.declared.Screen.{Screen}
-use Rattle.buffer.specs.Drawing.{Drawing, over, sparing}
+use Rattle.buffer.specs.Drawing.{Drawing, sparing}
 use Rattle.buffer.proofs.Over.{over-empty, sparing-inside, sparing-outside}
 use Rattle.shadow.specs.Shadow.{shadow_area, only_outside, effect_of, shadow_of}
 
