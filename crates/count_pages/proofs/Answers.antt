@@ -10,16 +10,15 @@ use native.Mathlib.Omega.{arith}
 use mir.Val.{Fits}
 use mir.Syntax.{w32}
 use lib.ListN.{length}
-use Rattle.std.specs.Prelude.{Ok, Err}
+use Rattle.std.specs.Prelude.{Ok}
 use Rattle.text.specs.Line.{glyphs_from}
 use Rattle.text.proofs.Bools.{cond_cases}
 use Rattle.layout.specs.declared.Rect.{Rect}
 use Rattle.layout.specs.Rect.{is_empty}
 use Rattle.layout.proofs.NotEmpty.{not-empty}
 use Rattle.refuse.specs.declared.Ceilings.{Ceilings}
-use Rattle.refuse.specs.declared.Refusal.{Refusal}
 use Rattle.refuse.specs.Refusal.{verdict_number, Verdict}
-use Rattle.refuse.proofs.Calls.{answer_refused, answered-number, answered_value}
+use Rattle.refuse.proofs.Calls.{answered-number, answered_value}
 use Rattle.refuse.proofs.Lowest.{InOrder}
 use Rattle.paragraph.specs.Notice.{settings_of, notice_lines, inner_area_of}
 use Rattle.inner.specs.Call.{inner_answer_rect}
@@ -76,10 +75,6 @@ module _ (call : Call) where
 
   -- v is the verdict of the checks
   module _ (v : Verdict) (e : v ≡ verdict_of call) where
-    pub pages_refused : (why : Refusal) → v ≡ Err why → Err why ≡ answer_of call
-    unfolding answer_of
-    pages_refused why r = answer_refused (verdict_of call) (pages_in call) why (sym e ∙ r)
-
     module _ (a : v ≡ Ok tt) (inner : Rect) (i : inner ≡ inner_area_of (screen_in call) call.titles call.notice.block call.area) where
       pub pages-none : is_empty inner ≡ true → Ok (record { inner = inner; lines = 0; pages = 0 }) ≡ answer_of call
       unfolding answer_of pages_in inner_area

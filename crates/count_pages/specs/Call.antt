@@ -1,5 +1,5 @@
 -- Document 01, 'Rows, pages, tally': the answer of the call `pages`.
-use Rattle.std.specs.Prelude.{ℕ, cond, length, Result, Ok, Err}
+use Rattle.std.specs.Prelude.{cond, length, Result, Ok, Err}
 use Rattle.layout.specs.Rect.{is_empty}
 use Rattle.refuse.specs.declared.Refusal.{Refusal}
 use Rattle.refuse.specs.Refusal.{answering, unless_refused}

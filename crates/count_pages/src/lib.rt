@@ -55,6 +55,7 @@ fn page_count(lines: u32, height: u16) -> u32
 
 // Counts the lines and pages of a notice. Takes the inputs of `draw_frame` and `draw_text` together, of whose cells only the count
 // matters, and is refused for causes 1 to 7: exactly if one of the two is.
+#[tactic(auto, unfolding(crate::specs::Call::answer_of))]
 pub fn pages(
     columns: u32,
     rows: u32,
