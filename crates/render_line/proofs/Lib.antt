@@ -1,4 +1,3 @@
-pub mod Offsets
 pub mod Moving
 pub mod LineDrawn
 pub mod RowDrawn

@@ -14,19 +14,19 @@ ghost use Rattle.render_line.specs.RenderLine.{line_offset, line_on, placed_in, 
 use buffer::Screen;
 use layout::Rect;
 use line_composer::WrappedLine;
-use num::saturating_sub_usize;
 use render_glyphs::GlyphCounts;
 use text::Alignment;
 use wrapping::Rule;
 
 // Returns the start column of a line, given the widths of the area and of the line (paragraph.rs: `get_line_offset`).
+#[tactic(auto, unfolding(crate::specs::RenderLine::line_offset))]
 fn get_line_offset(alignment: Alignment, area: usize, line: usize) -> usize
     ensures { (result ≡ line_offset alignment area line) × (result ≤ area) }
 {
     match alignment {
         Alignment::Left => 0,
-        Alignment::Center => saturating_sub_usize(area / 2, line / 2),
-        Alignment::Right => saturating_sub_usize(area, line),
+        Alignment::Center => (area / 2).saturating_sub(line / 2),
+        Alignment::Right => area.saturating_sub(line),
     }
 }
 
