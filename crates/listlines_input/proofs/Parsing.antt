@@ -11,20 +11,10 @@ use lib.Dec.{eqb, ltb}
 use lib.ListN.{length, get_or, set, take, drop, length-append, length-take, length-drop}
 use lib.Seq.{paste-suc, take-length, get_or-drop}
 use Rattle.text.proofs.Bools.{neither}
-use Rattle.listlines_input.specs.declared.Parsed.TheVariants.{Refused, Text}
+use Rattle.std.specs.Prelude.{Ok, Err}
+use Rattle.refuse.specs.declared.Refusal.TheVariants.{TextLength}
+use Rattle.listlines_input.specs.declared.Flaw.TheVariants.{Form, Listed}
 use Rattle.listlines_input.specs.Input.{limit_of, trim_of, number_at, records_from, records_of, most_records, incomplete, trim_wrong, parsed_of}
-
--- whether the input is complete
-module _ (input : List ℕ) where
-  pub short-incomplete : length input < 3 → true ≡ incomplete input
-  unfolding incomplete
-  short-incomplete h = simp (lt-ltb (length input) 3 h)
-
-  pub rest-incomplete : 3 ≤ length input → not (eqb ((length input - 3) % 4) 0) ≡ incomplete input
-  unfolding incomplete
-  rest-incomplete h = simp (le-ltb (length input) 3 h)
-
-pub ruleset tests = (short-incomplete, rest-incomplete)
 
 -- one record for every four bytes
 from-count : (bytes : List ℕ) → length (records_from bytes) ≡ length bytes / 4
@@ -89,7 +79,7 @@ pub ruleset storing = (storing_starts, storing_length, storing_reads, storing_wr
 
 -- the result of the tests, in their order
 module _ (input : List ℕ) (b : Bool) (e : b ≡ incomplete input) where
-  pub parse_incomplete : b ≡ true → Refused 0 ≡ parsed_of input
+  pub parse_incomplete : b ≡ true → Err Form ≡ parsed_of input
   unfolding parsed_of
   parse_incomplete t = rw (← e, t)
 
@@ -99,16 +89,16 @@ module _ (input : List ℕ) (b : Bool) (e : b ≡ incomplete input) where
     three_bytes = ltb-false (length input) 3 (neither (ltb (length input) 3) (not (eqb ((length input - 3) % 4) 0)) (sym e ∙ f)).0
 
     module _ (t : Bool) (p : t ≡ trim_wrong input) where
-      pub parse_trim : t ≡ true → Refused 0 ≡ parsed_of input
+      pub parse_trim : t ≡ true → Err Form ≡ parsed_of input
       unfolding parsed_of
       parse_trim q = rw (← e, f, ← p, q)
 
       module _ (q : t ≡ false) where
-        pub parse_many : most_records < (length input - 3) / 4 → Refused 3 ≡ parsed_of input
+        pub parse_many : most_records < (length input - 3) / 4 → Err (Listed TextLength) ≡ parsed_of input
         unfolding parsed_of
         parse_many h = rw (← e, f, ← p, q, records-count, lt-ltb most_records ((length input - 3) / 4) h)
 
-        pub parse_text : (limit : ℕ) → limit ≡ limit_of input → (length input - 3) / 4 ≤ most_records → Text limit (trim_of input) ((length input - 3) / 4) ≡ parsed_of input
+        pub parse_text : (limit : ℕ) → limit ≡ limit_of input → (length input - 3) / 4 ≤ most_records → Ok (record { limit = limit; trim = trim_of input; records = (length input - 3) / 4 }) ≡ parsed_of input
         unfolding parsed_of
         parse_text limit l h = rw (← e, f, ← p, q, records-count, le-ltb most_records ((length input - 3) / 4) h, l)
 

@@ -1,7 +1,9 @@
 -- Document 01, 'Small notices by hand': the input of the program `listlines`, as a list of bytes.
-use Rattle.std.specs.Prelude.{ℕ, ◌+◌, ◌-◌, ◌*◌, ◌%◌, ◌^◌, Bool, cond, not, ◌||◌, List, [], ◌∷◌, ◌++◌, eqb, ltb, length, get_or, drop}
-use Rattle.listlines_input.specs.declared.Parsed.{Parsed}
-use Rattle.listlines_input.specs.declared.Parsed.TheVariants.{Refused, Text}
+use Rattle.std.specs.Prelude.{ℕ, ◌+◌, ◌-◌, ◌*◌, ◌%◌, ◌^◌, Bool, Result, Ok, Err, cond, not, ◌||◌, List, [], ◌∷◌, ◌++◌, eqb, ltb, length, get_or, drop}
+use Rattle.refuse.specs.declared.Refusal.TheVariants.{TextLength}
+use Rattle.listlines_input.specs.declared.Flaw.{Flaw}
+use Rattle.listlines_input.specs.declared.Flaw.TheVariants.{Form, Listed}
+use Rattle.listlines_input.specs.declared.Input.{Input}
 
 -- "reads, high byte first, limit (2 bytes)"
 abbrev pub limit_of : List ℕ → ℕ
@@ -44,19 +46,19 @@ incomplete input = ltb (length input) 3 || not (eqb ((length input - 3) % 4) 0)
 abbrev pub trim_wrong : List ℕ → Bool
 trim_wrong input = ltb 1 (trim_byte input)
 
--- "then 3 above 4,096 records"
+-- "then 3 above 4,096 records": cause 3, a text that is too long
 abbrev pub too_many : List ℕ → Bool
 too_many input = ltb most_records (length (records_of input))
 
 -- "then the table's": the list call's, on an input that these tests accept
-unfoldable pub parsed_of : List ℕ → Parsed
+unfoldable pub parsed_of : List ℕ → Result Input Flaw
 parsed_of input =
-    cond (incomplete input) (Refused 0)
-    (cond (trim_wrong input) (Refused 0)
-    (cond (too_many input) (Refused 3)
-    (Text (limit_of input) (trim_of input) (length (records_of input)))))
+    cond (incomplete input) (Err Form)
+    (cond (trim_wrong input) (Err Form)
+    (cond (too_many input) (Err (Listed TextLength))
+    (Ok (record { limit = limit_of input; trim = trim_of input; records = length (records_of input) }))))
 
 -- what the text slice holds after parsing: the records from its start, or what it held before if the input is refused
-abbrev pub holding : Parsed → List ℕ → List ℕ → List ℕ
-holding (Refused number) records text = text
-holding (Text limit trim count) records text = records ++ drop count text
+abbrev pub holding : Result Input Flaw → List ℕ → List ℕ → List ℕ
+holding (Err flaw) records text = text
+holding (Ok settings) records text = records ++ drop settings.records text

@@ -1,95 +1,95 @@
-// Writes the output of the program `listlines` to a buffer.
+// Writes the output of the program `listlines` to a text in fixed memory.
 #![tactic(auto)]
 
-ghost use Rattle.std.specs.Prelude.{◌+◌, ◌*◌, ◌<◌, ◌≤◌, ◌++◌, length};
-ghost use Rattle.append_bytes.specs.WrittenExtra.{Written};
+ghost use Rattle.std.specs.Prelude.{◌≡◌, ◌+◌, ◌*◌, ◌<◌, ◌≤◌, ◌++◌, length};
+ghost use Rattle.arrayvec.specs.ArrayVec.{array_vec_len};
 ghost use Rattle.listlines_output.specs.Output.{decimal, number_text, count_text, refused_text};
 ghost use Rattle.listlines_output.specs.EntriesExtra.{entry_text, entries_text};
 
-use append_bytes::{put, put_all};
+use append_bytes::put_all;
+use arrayvec::ArrayVec;
 
 const BLANK: u8 = 32;
 
 const LINE_END: u8 = 10;
 
-// Writes a number below 100,000 in decimal.
-fn put_decimal(buffer: &mut [u8], at: usize, number: u64) -> usize
+// Appends a number below 100,000 in decimal.
+#[tactic(auto, using(crate::proofs::Decimals::decimals))]
+fn put_decimal<const N: usize>(text: &mut ArrayVec<u8, N>, number: u64)
     requires number_bound { number < 100000 }
-    requires at_in_bounds { at + 5 ≤ length buffer.old }
-    ensures written { Written buffer.old at buffer.new result (decimal number) }
-    ensures upper_bound { result ≤ at + 5 }
+    requires room { array_vec_len text.old + 5 ≤ N }
+    ensures written { text.new.items ≡ text.old.items ++ decimal number }
+    ensures upper_bound { array_vec_len text.new ≤ array_vec_len text.old + 5 }
 {
-    let mut digits = [0u8; 20];
-    let count = io::decimal(number, &mut digits);
-    put_all(buffer, at, &digits[..count])
+    let mut digits = itoa::Buffer::new();
+    put_all(text, digits.format(number).as_bytes());
 }
 
-// Writes a number below 100,000 and the byte after it.
-fn put_number(buffer: &mut [u8], at: usize, number: u64, after: u8) -> usize
+// Appends a number below 100,000 and the byte after it.
+#[tactic(auto, unfolding(crate::specs::Output::number_text))]
+fn put_number<const N: usize>(text: &mut ArrayVec<u8, N>, number: u64, after: u8)
     requires number_bound { number < 100000 }
-    requires at_in_bounds { at + 6 ≤ length buffer.old }
-    ensures written { Written buffer.old at buffer.new result (number_text number after) }
-    ensures upper_bound { result ≤ at + 6 }
+    requires room { array_vec_len text.old + 6 ≤ N }
+    ensures written { text.new.items ≡ text.old.items ++ number_text number after }
+    ensures upper_bound { array_vec_len text.new ≤ array_vec_len text.old + 6 }
 {
-    let next = put_decimal(buffer, at, number);
-    put(buffer, next, after)
+    put_decimal(text, number);
+    text.push(after);
 }
 
-// Writes the line of an entry, at most 30 bytes.
-fn put_entry(buffer: &mut [u8], at: usize, entry: u64) -> usize
-    requires { at + 30 ≤ length buffer.old }
-    ensures written { Written buffer.old at buffer.new result (entry_text entry) }
-    ensures upper_bound { result ≤ at + 30 }
+// Appends the line of an entry, at most 30 bytes.
+#[tactic(auto, unfolding(crate::specs::EntriesExtra::entry_text, crate::specs::Output::fields_text))]
+fn put_entry<const N: usize>(text: &mut ArrayVec<u8, N>, entry: u64)
+    requires { array_vec_len text.old + 30 ≤ N }
+    ensures written { text.new.items ≡ text.old.items ++ entry_text entry }
+    ensures upper_bound { array_vec_len text.new ≤ array_vec_len text.old + 30 }
 {
-    let end = put_number(buffer, at, entry::first(entry), BLANK);
-    let width = put_number(buffer, end, entry::end(entry), BLANK);
-    let alignment = put_number(buffer, width, entry::width(entry), BLANK);
-    let mark = put_number(buffer, alignment, entry::alignment(entry), BLANK);
-    put_number(buffer, mark, entry::mark(entry), LINE_END)
+    put_number(text, entry::first(entry), BLANK);
+    put_number(text, entry::end(entry), BLANK);
+    put_number(text, entry::width(entry), BLANK);
+    put_number(text, entry::alignment(entry), BLANK);
+    put_number(text, entry::mark(entry), LINE_END);
 }
 
-// Writes the lines of entries at the start of a buffer.
-fn put_entries(buffer: &mut [u8], entries: &[u64]) -> usize
-    requires { 30 * length entries.now ≤ length buffer.old }
-    ensures written { Written buffer.old 0 buffer.new result (entries_text entries.now) }
-    ensures upper_bound { result ≤ 30 * length entries.now }
+// Appends the lines of entries.
+fn put_entries<const N: usize>(text: &mut ArrayVec<u8, N>, entries: &[u64])
+    requires { array_vec_len text.old + 30 * length entries.now ≤ N }
+    ensures written { text.new.items ≡ text.old.items ++ entries_text entries.now }
+    ensures upper_bound { array_vec_len text.new ≤ array_vec_len text.old + 30 * length entries.now }
 {
-    let mut next = 0;
-    let mut i = 0;
-    while i < entries.len() {
-        next = put_entry(buffer, next, entries[i]);
-        i += 1;
+    for entry in entries {
+        put_entry(text, *entry);
     }
-    next
 }
 
-// Writes the count of lines.
-fn put_count(buffer: &mut [u8], at: usize, count: u64) -> usize
+// Appends the count of lines.
+#[tactic(auto, unfolding(crate::specs::Output::count_text))]
+fn put_count<const N: usize>(text: &mut ArrayVec<u8, N>, count: u64)
     requires count_bound { count < 100000 }
-    requires at_in_bounds { at + 12 ≤ length buffer.old }
-    ensures { Written buffer.old at buffer.new result (count_text count) }
+    requires room { array_vec_len text.old + 12 ≤ N }
+    ensures { text.new.items ≡ text.old.items ++ count_text count }
 {
-    let next = put_all(buffer, at, b"lines ");
-    put_number(buffer, next, count, LINE_END)
+    put_all(text, b"lines ");
+    put_number(text, count, LINE_END);
 }
 
-// Writes the output for entries at the start of a buffer: their lines, then their count. Returns its length.
-pub fn put_lines(buffer: &mut [u8], entries: &[u64]) -> usize
+// Appends the output for entries: their lines, then their count.
+pub fn put_lines<const N: usize>(text: &mut ArrayVec<u8, N>, entries: &[u64])
     requires entries_len_bound { length entries.now < 100000 }
-    requires entries_in_bounds { 30 * length entries.now + 12 ≤ length buffer.old }
-    ensures { let lines = entries_text entries.now ++ count_text (length entries.now) in
-        Written buffer.old 0 buffer.new result lines }
+    requires room { array_vec_len text.old + (30 * length entries.now + 12) ≤ N }
+    ensures { text.new.items ≡ text.old.items ++ (entries_text entries.now ++ count_text (length entries.now)) }
 {
-    let next = put_entries(buffer, entries);
-    put_count(buffer, next, entries.len() as u64)
+    put_entries(text, entries);
+    put_count(text, entries.len() as u64);
 }
 
-// Writes the output for a refusal at the start of a buffer, and returns its length.
-pub fn put_refused(buffer: &mut [u8], number: u32) -> usize
+// Appends the output for a refusal.
+#[tactic(auto, unfolding(crate::specs::Output::refused_text))]
+pub fn put_refused<const N: usize>(text: &mut ArrayVec<u8, N>, number: u32)
     requires number_bound { number < 100000 }
-    requires in_bounds { 14 ≤ length buffer.old }
-    ensures { Written buffer.old 0 buffer.new result (refused_text number) }
+    requires room { array_vec_len text.old + 14 ≤ N }
+    ensures { text.new.items ≡ text.old.items ++ refused_text number }
 {
-    let next = put_all(buffer, 0, b"refused ");
-    put_number(buffer, next, number as u64, LINE_END)
+    put_all(text, b"refused ");
+    put_number(text, u64::from(number), LINE_END);
 }

@@ -4,18 +4,24 @@ use mathlib.Core.Path.{◌≡◌, refl, ap, ◌∙◌}
 use mathlib.Core.Bool.{Bool, true, false, not, cond}
 use mathlib.Core.List.{List}
 use native.Mathlib.Omega.{arith}
-use borrow.Author.Tests.{lt-ltb, ltb-true, ltb-false}
+use borrow.Author.Tests.{lt-ltb, le-ltb, ltb-true, ltb-false}
 use lib.Dec.{eqb, ltb}
 use lib.ListN.{length, take}
 use lib.Seq.{length-take-le, get_or-take, take-length}
-use Rattle.listlines_input.specs.declared.Parsed.TheVariants.{Refused}
-use Rattle.listlines_input.specs.Input.{records_of, most_records, trim_wrong, too_many, parsed_of}
+use Rattle.std.specs.Prelude.{Err}
+use Rattle.refuse.specs.declared.Refusal.TheVariants.{TextLength}
+use Rattle.listlines_input.specs.declared.Flaw.TheVariants.{Form, Listed}
+use Rattle.listlines_input.specs.Input.{records_of, most_records, incomplete, trim_wrong, too_many, parsed_of}
 use Rattle.listlines_run.specs.Printed.{printed, printed_of}
 use Rattle.listlines_run.specs.CutExtra.{buffered, Cut, Kept}
-use Rattle.listlines_input.proofs.Parsing.{records-count, rest-incomplete}
+use Rattle.listlines_input.proofs.Parsing.{records-count}
+
+rest-incomplete : (input : List ℕ) → 3 ≤ length input → not (eqb ((length input - 3) % 4) 0) ≡ incomplete input
+unfolding incomplete
+rest-incomplete input h = simp (le-ltb (length input) 3 h)
 
 -- with over 4,096 records, the bytes after the last whole record and the trim byte decide the refusal
-long_refused : (input : List ℕ) → 3 + 4 * 4097 ≤ length input → parsed_of input ≡ cond (not (eqb ((length input - 3) % 4) 0)) (Refused 0) (cond (trim_wrong input) (Refused 0) (Refused 3))
+long_refused : (input : List ℕ) → 3 + 4 * 4097 ≤ length input → parsed_of input ≡ cond (not (eqb ((length input - 3) % 4) 0)) (Err Form) (cond (trim_wrong input) (Err Form) (Err (Listed TextLength)))
 unfolding parsed_of
 long_refused input h =
     let m : too_many input ≡ true = lt-ltb most_records (length (records_of input)) (omega (arith, records-count input)) in
@@ -29,7 +35,7 @@ cut-same input over at h o c =
     let m : (at - 3) % 4 ≡ (length input - 3) % 4 = omega arith in
     rw (long_refused (take at input) (omega arith), long_refused input (omega arith), l, m, get_or-take at input 2 0 (omega arith))
 
-refused_same : (a b : Bool) (s t : List ℕ) → printed (cond a (Refused 0) (cond b (Refused 0) (Refused 3))) s ≡ printed (cond a (Refused 0) (cond b (Refused 0) (Refused 3))) t
+refused_same : (a b : Bool) (s t : List ℕ) → printed (cond a (Err Form) (cond b (Err Form) (Err (Listed TextLength)))) s ≡ printed (cond a (Err Form) (cond b (Err Form) (Err (Listed TextLength)))) t
 refused_same true b s t = refl
 refused_same false true s t = refl
 refused_same false false s t = refl

@@ -1,18 +1,17 @@
 -- The output: the lines of the list's entries are those of the composed lines.
 use Prim.Native.Nat.{ℕ, suc, ◌<◌, ◌≤◌}
 use mathlib.Core.Path.{◌≡◌, refl, sym, ap, ◌∙◌}
-use mathlib.Core.Bool.{Bool, true, false, cond}
+use mathlib.Core.Bool.{Bool, false, cond}
 use mathlib.Core.List.{List, [], ◌∷◌, ◌++◌, map}
 use native.Mathlib.Omega.{arith}
-use lib.ListN.{length, get_or, take, drop, length-append, length-map, length-take}
+use lib.ListN.{length, get_or, take, drop, length-append, length-map}
 use lib.Seq.{length-take-le}
 use Rattle.text.specs.declared.Alignment.TheVariants.{Left}
 use Rattle.text.specs.declared.AmbiguousWidth.TheVariants.{Narrow}
 use Rattle.refuse.specs.declared.Refusal.{Refusal}
 use Rattle.refuse.specs.declared.Refusal.TheVariants.{Screen, Styles, TextLength, TextHeads, Titles, StyleNumber, Symbol, Limit, ListLength}
-use Rattle.refuse.specs.declared.Verdict.{Verdict}
-use Rattle.refuse.specs.declared.Verdict.TheVariants.{Accepted, Refused as RefusedFor}
-use Rattle.refuse.specs.Refusal.{Cause, ◌if◌, first_cause, refusal_number, answering}
+use Rattle.std.specs.Prelude.{Result, Ok, Err}
+use Rattle.refuse.specs.Refusal.{Cause, ◌if◌, first_cause, Verdict, refusal_number, answering}
 use Rattle.refuse.specs.Causes.{most_accepted, line_causes, list_too_short}
 use Rattle.wrapping.specs.Rule.{rule_of}
 use Rattle.line_composer.specs.Lines.{aligned}
@@ -20,18 +19,15 @@ use Rattle.line_composer.specs.Marks.{MarkedLine, with_mark}
 use Rattle.line_composer.proofs.Bounds.{lines-short}
 use Rattle.entry.specs.Entry.{listed}
 use Rattle.list_lines.specs.Call.{Call, lines_of, marked_lines_of, causes_of, verdict_of, answer_of as listAnswer, list_after}
-use Rattle.list_lines.specs.declared.ListAnswer.TheVariants as listed-variant
 use Rattle.list_lines.proofs.Answers.{list-accepted}
 use Rattle.list_lines.proofs.ReadsBack.{marked-length, entries-read-back, marks-read-back}
-use Rattle.io.specs.Counts.{IsPrefixLen}
-use Rattle.append_bytes.specs.WrittenExtra.{Written}
-use Rattle.listlines_input.specs.declared.Parsed.{Parsed}
-use Rattle.listlines_input.specs.declared.Parsed.TheVariants.{Refused, Text}
-use Rattle.listlines_input.specs.Input.{limit_of, trim_of, records_of, most_records, incomplete, trim_wrong, too_many, parsed_of}
+use Rattle.listlines_input.specs.declared.Flaw.{Flaw}
+use Rattle.listlines_input.specs.declared.Flaw.TheVariants.{Form, Listed}
+use Rattle.listlines_input.specs.declared.Input.{Input}
+use Rattle.listlines_input.specs.Flaw.{flaw_number}
+use Rattle.listlines_input.specs.Input.{records_of, most_records, parsed_of}
 use Rattle.listlines_output.specs.Output.{fields_text, count_text, refused_text}
 use Rattle.listlines_output.specs.EntriesExtra.{entry_text, entries_text}
-use Rattle.listlines_run.specs.declared.Answer.{Answer}
-use Rattle.listlines_run.specs.declared.Answer.TheVariants as answer
 use Rattle.listlines_run.specs.Program.{answer_for, call_for, answered, entered, answer_of, list_of}
 use Rattle.listlines_run.specs.Printed.{line_text, lines_text, list_printed, printed, printed_of}
 use Rattle.listlines_run.proofs.Answering.{Counted, counted}
@@ -40,7 +36,7 @@ use Rattle.listlines_run.proofs.Promised.{long_enough}
 -- a cause that doesn't hold decides nothing
 cause_clear : (causes : List Cause) (why : Refusal) (b : Bool) → b ≡ false → first_cause (causes ++ (why if b ∷ [])) ≡ first_cause causes
 cause_clear [] why b e = rw e
-cause_clear (c ∷ causes) why b e = ap (cond c.holds (RefusedFor c.why)) (cause_clear causes why b e)
+cause_clear (c ∷ causes) why b e = ap (cond c.holds (Err c.why)) (cause_clear causes why b e)
 
 -- lines that are equal one by one
 texts_same : (none : MarkedLine) (ls : List MarkedLine) (es : List ℕ) → length ls ≤ length es
@@ -55,7 +51,7 @@ texts_same none (l ∷ ls) (e ∷ es) h f =
 fields_same : (a b c d e a' b' c' d' e' : ℕ) → a ≡ a' → b ≡ b' → c ≡ c' → d ≡ d' → e ≡ e' → fields_text a b c d e ≡ fields_text a' b' c' d' e'
 fields_same a b c d e a' b' c' d' e' p q r s t = rw (p, q, r, s, t)
 
-module _ (call : Call) (a : verdict_of call ≡ Accepted) where
+module _ (call : Call) (a : verdict_of call ≡ Ok tt) where
   enough : length (marked_lines_of call) ≤ length (list_after call)
   enough =
       rw (list-accepted call a)
@@ -75,25 +71,16 @@ module _ (call : Call) (a : verdict_of call ≡ Accepted) where
       let none : MarkedLine = with_mark (aligned Left []) false in
       texts_same none (marked_lines_of call) (list_after call) enough (λ i h. entry-is-line i none h)
 
--- an answer's number, and its count
-number_in : Answer → ℕ
-number_in (answer.Refused number) = number
-number_in (answer.Lines count) = 0
-
-count_in : Answer → ℕ
-count_in (answer.Refused number) = 0
-count_in (answer.Lines count) = count
+-- the count of an answer
+count_in : Result ℕ Flaw → ℕ
+count_in (Ok count) = count
+count_in (Err flaw) = 0
 
 -- the output of `count` entries of a list is `bytes`
 pub record LinesPrinted (count : ℕ) (list bytes : List ℕ) : Type 0 where
   pub fits : count ≤ length list
   pub few : count ≤ most_records
   pub same : entries_text (take count list) ++ count_text count ≡ bytes
-
--- the output of a refusal is `bytes`
-pub record RefusalPrinted (number : ℕ) (bytes : List ℕ) : Type 0 where
-  pub low : number < 100000
-  pub same : refused_text number ≡ bytes
 
 number-low : (why : Refusal) → refusal_number why < 100000
 number-low Screen = omega arith
@@ -105,6 +92,10 @@ number-low StyleNumber = omega arith
 number-low Symbol = omega arith
 number-low Limit = omega arith
 number-low ListLength = omega arith
+
+pub flaw-low : (flaw : Flaw) → flaw_number flaw < 100000
+flaw-low Form = omega arith
+flaw-low (Listed why) = number-low why
 
 -- the call of an accepted input
 module _ (limit : ℕ) (trim : Bool) (text list : List ℕ) where
@@ -122,10 +113,10 @@ module _ (limit : ℕ) (trim : Bool) (text list : List ℕ) where
   lines-few k = omega (arith, marked-length call, lines-short (rule_of Narrow limit trim) Left text)
 
   lines_by : (v : Verdict) → verdict_of call ≡ v → length text ≤ most_records → (count : ℕ)
-      → answer_for (answering listed-variant.Written listed-variant.Refused v (length (lines_of call))) ≡ answer.Lines count
+      → answer_for (answering v (length (lines_of call))) ≡ Ok count
       → LinesPrinted count (list_after call) (list_printed v (marked_lines_of call))
   unfolding count_in
-  lines_by Accepted a k count e =
+  lines_by (Ok _) a k count e =
       let n : length (marked_lines_of call) ≡ count = marked-length call ∙ ap count_in e in
       rw (← n)
       (record {
@@ -133,74 +124,51 @@ module _ (limit : ℕ) (trim : Bool) (text list : List ℕ) where
         few = lines-few k;
         same = ap (λ (l : List ℕ). l ++ count_text (length (marked_lines_of call))) (entries_are_lines call a);
       })
-  lines_by (RefusedFor why) a k count e = absurd (let z : ◌≡◌ {A = ℕ} 0 1 = cc in omega arith)
+  lines_by (Err why) a k count e = absurd (let z : ◌≡◌ {A = ℕ} 0 1 = cc in omega arith)
 
-  refused_by : (v : Verdict) (number : ℕ) → answer_for (answering listed-variant.Written listed-variant.Refused v (length (lines_of call))) ≡ answer.Refused number
-      → RefusalPrinted number (list_printed v (marked_lines_of call))
-  unfolding number_in
-  refused_by Accepted number e = absurd (let z : ◌≡◌ {A = ℕ} 0 1 = cc in omega arith)
-  refused_by (RefusedFor why) number e =
-      let n : refusal_number why ≡ number = ap number_in e in
-      rw (← n) (record { low = number-low why; same = refl })
+  refused_by : (v : Verdict) (flaw : Flaw) → answer_for (answering v (length (lines_of call))) ≡ Err flaw
+      → refused_text (flaw_number flaw) ≡ list_printed v (marked_lines_of call)
+  refused_by (Ok _) flaw e = absurd (let z : ◌≡◌ {A = ℕ} 0 1 = cc in omega arith)
+  refused_by (Err why) flaw e =
+      let f : flaw ≡ Listed why = cc in
+      rw f refl
 
--- the number of a refused input
-LowNumber : Parsed → Type 0
-LowNumber (Refused number) = number < 100000
-LowNumber (Text limit trim count) = Unit {0}
-
-low_of : (a b c trim : Bool) (limit n : ℕ) → LowNumber (cond a (Refused 0) (cond b (Refused 0) (cond c (Refused 3) (Text limit trim n))))
-unfolding LowNumber
-low_of true b c trim limit n = omega arith
-low_of false true c trim limit n = omega arith
-low_of false false true trim limit n = omega arith
-low_of false false false trim limit n = tt
-
-low-number : (input : List ℕ) → LowNumber (parsed_of input)
-unfolding parsed_of
-low-number input = low_of (incomplete input) (trim_wrong input) (too_many input) (trim_of input) (limit_of input) (length (records_of input))
-
-lines_parsed : (p : Parsed) (text list : List ℕ) → Counted p (length text) → length list ≡ most_records → (count : ℕ) → answered p text list ≡ answer.Lines count
+lines_parsed : (p : Result Input Flaw) (text list : List ℕ) → Counted p (length text) → length list ≡ most_records → (count : ℕ) → answered p text list ≡ Ok count
     → LinesPrinted count (entered p text list) (printed p text)
 unfolding Counted listAnswer lines_of marked_lines_of
-lines_parsed (Refused number) text list c h count e = absurd (let z : ◌≡◌ {A = ℕ} 0 1 = cc in omega arith)
-lines_parsed (Text limit trim n) text list c h count e =
+lines_parsed (Err flaw) text list c h count e = absurd (let z : ◌≡◌ {A = ℕ} 0 1 = cc in omega arith)
+lines_parsed (Ok settings) text list c h count e =
     let k : length text ≤ most_records = omega (arith, c.0, c.1) in
-    let v = verdict_same limit trim text list h k in
-    lines_by limit trim text list (first_cause (line_causes most_accepted text limit)) v k count (rw v at e)
+    let v = verdict_same settings.limit settings.trim text list h k in
+    lines_by settings.limit settings.trim text list (first_cause (line_causes most_accepted text settings.limit)) v k count (rw v at e)
 
-refused_parsed : (p : Parsed) (text list : List ℕ) → Counted p (length text) → LowNumber p → length list ≡ most_records → (number : ℕ) → answered p text list ≡ answer.Refused number
-    → RefusalPrinted number (printed p text)
-unfolding Counted LowNumber listAnswer lines_of marked_lines_of number_in
-refused_parsed (Refused number) text list c l h m e = let n : number ≡ m = ap number_in e in rw (← n) (record { low = l; same = refl })
-refused_parsed (Text limit trim n) text list c l h m e =
+refused_parsed : (p : Result Input Flaw) (text list : List ℕ) → Counted p (length text) → length list ≡ most_records → (flaw : Flaw) → answered p text list ≡ Err flaw
+    → refused_text (flaw_number flaw) ≡ printed p text
+unfolding Counted listAnswer lines_of marked_lines_of
+refused_parsed (Err own) text list c h flaw e = let f : flaw ≡ own = cc in rw f refl
+refused_parsed (Ok settings) text list c h flaw e =
     let k : length text ≤ most_records = omega (arith, c.0, c.1) in
-    refused_by limit trim text list (first_cause (line_causes most_accepted text limit)) m (rw (verdict_same limit trim text list h k) at e)
-
--- bytes written from the start of a buffer
-written_start : (old new bytes : List ℕ) (to : ℕ) → Written old 0 new to bytes → IsPrefixLen to new × (take to new ≡ bytes)
-written_start old new bytes to w =
-    let s : take to new ≡ bytes = w.same in
-    let l : to ≡ length (take to new) = omega (arith, w.moved, ap length s) in
-    ((omega (arith, l, length-take to new), l), s)
+    refused_by settings.limit settings.trim text list (first_cause (line_causes most_accepted text settings.limit)) flaw (rw (verdict_same settings.limit settings.trim text list h k) at e)
 
 -- r is the answer to an input
-module _ (input list₀ : List ℕ) (h : length list₀ ≡ most_records) (r : Answer) (e : r ≡ answer_of input list₀) where
-  pub output_refusal : (number : ℕ) → r ≡ answer.Refused number → RefusalPrinted number (printed_of input)
+module _ (input list₀ : List ℕ) (h : length list₀ ≡ most_records) (r : Result ℕ Flaw) (e : r ≡ answer_of input list₀) where
+  pub output_refusal : (flaw : Flaw) → r ≡ Err flaw → refused_text (flaw_number flaw) ≡ printed_of input
   unfolding answer_of printed_of
-  output_refusal number q = refused_parsed (parsed_of input) (records_of input) list₀ (counted input) (low-number input) h number (sym e ∙ q)
+  output_refusal flaw q = refused_parsed (parsed_of input) (records_of input) list₀ (counted input) h flaw (sym e ∙ q)
 
-  pub output-lines : (list : List ℕ) → list ≡ list_of input list₀ → (count : ℕ) → r ≡ answer.Lines count → LinesPrinted count list (printed_of input)
+  pub output-lines : (list : List ℕ) → list ≡ list_of input list₀ → (count : ℕ) → r ≡ Ok count → LinesPrinted count list (printed_of input)
   unfolding answer_of list_of printed_of
   output-lines list f count q = rw f (lines_parsed (parsed_of input) (records_of input) list₀ (counted input) h count (sym e ∙ q))
 
--- the contracts of the functions that write it
-module _ (old new bytes : List ℕ) (to : ℕ) where
-  pub refusal_done : (number : ℕ) → RefusalPrinted number bytes → Written old 0 new to (refused_text number) → IsPrefixLen to new × (take to new ≡ bytes)
-  refusal_done number p w = written_start old new bytes to (rw p.same at w)
+-- what is appended
+module _ (old new bytes : List ℕ) where
+  pub refusal_done : (flaw : Flaw) (number : ℕ) → number ≡ flaw_number flaw → refused_text (flaw_number flaw) ≡ bytes → new ≡ old ++ refused_text number → new ≡ old ++ bytes
+  refusal_done flaw number e p w = w ∙ ap (λ n. old ++ refused_text n) e ∙ ap (λ b. old ++ b) p
 
-  pub lines-done : (count : ℕ) (list : List ℕ) → LinesPrinted count list bytes → Written old 0 new to (entries_text (take count list) ++ count_text (length (take count list)))
-      → IsPrefixLen to new × (take to new ≡ bytes)
-  lines-done count list p w = written_start old new bytes to (rw (length-take-le count list p.fits, p.same) at w)
+  pub lines-done : (count : ℕ) (list : List ℕ) → LinesPrinted count list bytes → new ≡ old ++ (entries_text (take count list) ++ count_text (length (take count list))) → new ≡ old ++ bytes
+  lines-done count list p w =
+      let same : entries_text (take count list) ++ count_text (length (take count list)) ≡ bytes = rw (length-take-le count list p.fits) p.same in
+      w ∙ ap (λ b. old ++ b) same
 
 pub taken-length : (count : ℕ) (list bytes : List ℕ) → LinesPrinted count list bytes → count ≡ length (take count list)
 taken-length count list bytes p = sym (length-take-le count list p.fits)

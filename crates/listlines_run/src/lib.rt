@@ -1,75 +1,57 @@
 // The program `listlines`: reads a limit, a trim byte and records, and prints the composed lines or the number of the refusal.
 #![tactic(auto)]
 
-ghost use Rattle.std.specs.Prelude.{◌≡◌, ◌+◌, ◌*◌, ◌^◌, ◌<◌, ◌≤◌, OnOk, IfSome, length, take};
+ghost use Rattle.std.specs.Prelude.{◌≡◌, ◌+◌, ◌*◌, ◌^◌, ◌<◌, ◌≤◌, ◌++◌, OnOk, IfSome, length};
 ghost use Rattle.std.specs.Io.KnownBytes.{Appends};
-ghost use Rattle.io.specs.Counts.{IsPrefixLen};
+ghost use Rattle.arrayvec.specs.ArrayVec.{array_vec_len};
 ghost use Rattle.listlines_input.specs.Input.{most_records};
-ghost use Rattle.listlines_run.specs.Program.{answer_for, answer_of, list_of};
+ghost use Rattle.listlines_run.specs.Program.{answer_of, list_of};
 ghost use Rattle.listlines_run.specs.Printed.{printed_of};
 
-use list_lines::ListAnswer;
-use listlines_input::Parsed;
+use arrayvec::ArrayVec;
+use listlines_input::{Flaw, Input};
 use std::io;
 use std::io::{Read, Write};
 use text::{Alignment, AmbiguousWidth};
 
 mod read;
 
-// The program's answer: the count of lines in the list, or the number of a refusal.
-#[derive(Clone, Copy)]
-pub enum Answer {
-    Refused(u32),
-    Lines(usize),
-}
-
-// Converts the list call's answer to the program's.
-fn answer_for(listed: ListAnswer) -> Answer
-    ensures { result ≡ answer_for listed }
-{
-    match listed {
-        ListAnswer::Written(count) => Answer::Lines(count),
-        ListAnswer::Refused(why) => Answer::Refused(why.number()),
-    }
-}
-
-// Returns the answer to an input, and its lines in `list`; the notice is aligned left.
-fn answer_to(input: &[u8], text: &mut [u32], list: &mut [u64]) -> Answer
+// Returns the count of the lines of an input, which are then in `list`; the notice is aligned left.
+fn answer_to(input: &[u8], text: &mut [u32], list: &mut [u64]) -> Result<usize, Flaw>
     requires { (most_records ≤ length text.old) × (length list.old ≡ most_records) }
     ensures { let lent = list.old in
         (result ≡ answer_of input.now lent) × (list.new ≡ list_of input.now lent) }
 {
-    match listlines_input::parse(input, text) {
-        Parsed::Refused(number) => Answer::Refused(number),
-        Parsed::Text {
-            limit,
-            trim,
-            records,
-        } => {
-            let listed = list_lines::list_lines(
-                &text[..records],
-                AmbiguousWidth::Narrow,
-                Alignment::Left,
-                limit,
-                trim,
-                list,
-            );
-            answer_for(listed)
-        }
-    }
+    let Input {
+        limit,
+        trim,
+        records,
+    } = listlines_input::parse(input, text)?;
+    let count = list_lines::list_lines(
+        &text[..records],
+        AmbiguousWidth::Narrow,
+        Alignment::Left,
+        limit,
+        trim,
+        list,
+    )?;
+    Ok(count)
 }
 
-// Writes the output for an input at the start of `output` and returns its length in bytes: at most 30 for each line, 12 for their
-// count.
-fn output_for(input: &[u8], text: &mut [u32], list: &mut [u64], output: &mut [u8]) -> usize
+// Appends the output for an input: at most 30 bytes for each line, and 12 for their count.
+fn output_for<const N: usize>(
+    input: &[u8],
+    text: &mut [u32],
+    list: &mut [u64],
+    output: &mut ArrayVec<u8, N>,
+)
     requires most_records_in_bounds { (most_records ≤ length text.old) × (length list.old ≡ most_records) }
-    requires most_records_in_bounds_2 { 30 * most_records + 12 ≤ length output.old }
-    ensures prefix_len { IsPrefixLen result output.new }
-    ensures output_after { take result output.new ≡ printed_of input.now }
+    requires room { array_vec_len output.old + (30 * most_records + 12) ≤ N }
+    ensures { output.new.items ≡ output.old.items ++ printed_of input.now }
 {
     match answer_to(input, text, list) {
-        Answer::Refused(number) => listlines_output::put_refused(output, number),
-        Answer::Lines(count) => listlines_output::put_lines(output, &list[..count]),
+        Ok(count) => listlines_output::put_lines(output, &list[..count]),
+        Err(flaw) => listlines_output::put_refused(output, u32::from(flaw)),
     }
 }
 
@@ -84,7 +66,7 @@ pub fn run<R: Read, W: Write>(input: &mut R, output: &mut W) -> io::Result<()>
     let length = read::read_all(input, &mut buffer)?;
     let mut text = [0u32; 4096];
     let mut list = [0u64; 4096];
-    let mut bytes = [0u8; 122892];
-    let printed = output_for(&buffer[..length], &mut text, &mut list, &mut bytes);
-    output.write_all(&bytes[..printed])
+    let mut printed = ArrayVec::<u8, 122892>::new();
+    output_for(&buffer[..length], &mut text, &mut list, &mut printed);
+    output.write_all(printed.as_slice())
 }

@@ -6,7 +6,7 @@ use mathlib.Core.List.{List, ◌++◌}
 use native.Mathlib.Nat.{zero-add, mul-zero, mul-suc}
 use native.Mathlib.Numerals.{add-one}
 use native.Mathlib.Omega.{arith}
-use borrow.Author.Tests.{lt-ltb, le-ltb, ltb-false}
+use borrow.Author.Tests.{ltb-false}
 use lib.Dec.{ltb}
 use lib.ListN.{length, get_or, set, take, drop, length-append, length-take, length-drop}
 use lib.Seq.{paste-suc, take-length}
@@ -14,65 +14,8 @@ use Rattle.preview_file.specs.NumbersExtra.{numbers_from}
 use Rattle.preview_file.specs.declared.Opening.{Opening}
 use Rattle.preview_file.specs.declared.Flaw.{Flaw}
 use Rattle.preview_file.specs.declared.Flaw.TheVariants.{Length, Mark, Short, Styles, Titles, Text, Rest}
-use Rattle.preview_file.specs.declared.Parsed.{Parsed}
-use Rattle.preview_file.specs.declared.Parsed.TheVariants.{Bad, Good}
+use Rattle.std.specs.Prelude.{Result, Ok, Err}
 use Rattle.preview_file.specs.FileExtra.{most_bytes, most_styles, most_titles, most_text, opening_bytes, unmarked, opening_in, end_at, judged, SizesFit, parsed_of}
-
--- the checks of an opening
-module _ (bytes : ℕ) (o : Opening) where
-  pub judged-styles : most_styles < o.styles → Bad Styles ≡ judged bytes o
-  unfolding judged
-  judged-styles h = rw (lt-ltb most_styles o.styles h) refl
-
-  module _ (s : o.styles ≤ most_styles) where
-    pub judged-titles : most_titles < o.titles → Bad Titles ≡ judged bytes o
-    unfolding judged
-    judged-titles h = rw (le-ltb most_styles o.styles s, lt-ltb most_titles o.titles h) refl
-
-    module _ (t : o.titles ≤ most_titles) where
-      pub judged-text : most_text < o.records → Bad Text ≡ judged bytes o
-      unfolding judged
-      judged-text h = rw (le-ltb most_styles o.styles s, le-ltb most_titles o.titles t, lt-ltb most_text o.records h) refl
-
-      module _ (r : o.records ≤ most_text) where
-        judged_by_length : judged bytes o ≡ cond (ltb bytes (end_at o)) (Bad Short) (cond (ltb (end_at o) bytes) (Bad Rest) (Good o))
-        unfolding judged
-        judged_by_length = rw (le-ltb most_styles o.styles s, le-ltb most_titles o.titles t, le-ltb most_text o.records r) refl
-
-        pub judged-short : bytes < end_at o → Bad Short ≡ judged bytes o
-        judged-short h = sym (judged_by_length ∙ rw (lt-ltb bytes (end_at o) h) refl)
-
-        module _ (h : end_at o ≤ bytes) where
-          pub judged-rest : end_at o < bytes → Bad Rest ≡ judged bytes o
-          judged-rest k = sym (judged_by_length ∙ rw (le-ltb bytes (end_at o) h, lt-ltb (end_at o) bytes k) refl)
-
-          pub judged_good : bytes ≤ end_at o → Good o ≡ judged bytes o
-          judged_good k = sym (judged_by_length ∙ rw (le-ltb bytes (end_at o) h, le-ltb (end_at o) bytes k) refl)
-
-pub ruleset judging = (judged-styles, judged-titles, judged-text, judged-short, judged-rest, judged_good)
-
--- the checks before those
-module _ (bytes : List ℕ) where
-  pub parsed_length : most_bytes < length bytes → Bad Length ≡ parsed_of bytes
-  unfolding parsed_of
-  parsed_length h = rw (lt-ltb most_bytes (length bytes) h) refl
-
-  module _ (l : length bytes ≤ most_bytes) (b : Bool) (e : b ≡ unmarked bytes) where
-    pub parsed_mark : b ≡ true → Bad Mark ≡ parsed_of bytes
-    unfolding parsed_of
-    parsed_mark t = rw (le-ltb most_bytes (length bytes) l, ← e, t) refl
-
-    module _ (f : b ≡ false) where
-      pub parsed_short : length bytes < opening_bytes → Bad Short ≡ parsed_of bytes
-      unfolding parsed_of
-      parsed_short h = rw (le-ltb most_bytes (length bytes) l, ← e, f, lt-ltb (length bytes) opening_bytes h) refl
-
-      pub parsed-judged :
-          (o : Opening) (p : Parsed) → opening_bytes ≤ length bytes → o ≡ opening_in bytes → p ≡ judged (length bytes) o → p ≡ parsed_of bytes
-      unfolding parsed_of
-      parsed-judged o p h i j = rw (le-ltb most_bytes (length bytes) l, ← e, f, le-ltb (length bytes) opening_bytes h, ← i) j
-
-pub ruleset parsing = (parsed_length, parsed_mark, parsed_short, parsed-judged)
 
 -- consecutive numbers and the bytes of each
 module _ (read : ℕ → ℕ) (size : ℕ) where
@@ -125,14 +68,14 @@ module _ (read : ℕ → ℕ) (size from count : ℕ) (old : List ℕ) (fits : c
 pub ruleset storing = (storing_starts, storing_length, storing_writes, storing_goes, storing_ends)
 
 -- an opening that passes has counts within the maxima that match the input's length
-abbrev Within : ℕ → Parsed → Type 0
-Within bytes (Bad flaw) = Unit {0}
-Within bytes (Good o) = SizesFit bytes o
+abbrev Within : ℕ → Result Opening Flaw → Type 0
+Within bytes (Err flaw) = Unit {0}
+Within bytes (Ok o) = SizesFit bytes o
 
 judged-within :
     (bytes : ℕ) (o : Opening) (a b c d e : Bool) →
     ltb most_styles o.styles ≡ a → ltb most_titles o.titles ≡ b → ltb most_text o.records ≡ c → ltb bytes (end_at o) ≡ d → ltb (end_at o) bytes ≡ e →
-    Within bytes (cond a (Bad Styles) (cond b (Bad Titles) (cond c (Bad Text) (cond d (Bad Short) (cond e (Bad Rest) (Good o))))))
+    Within bytes (cond a (Err Styles) (cond b (Err Titles) (cond c (Err Text) (cond d (Err Short) (cond e (Err Rest) (Ok o))))))
 judged-within bytes o true b c d e p q r s t = tt
 judged-within bytes o false true c d e p q r s t = tt
 judged-within bytes o false false true d e p q r s t = tt
@@ -147,7 +90,7 @@ judged-within bytes o false false false false false p q r s t =
     }
 
 parsed-within :
-    (bytes : ℕ) (o : Opening) (a b c : Bool) → Within bytes (cond a (Bad Length) (cond b (Bad Mark) (cond c (Bad Short) (judged bytes o))))
+    (bytes : ℕ) (o : Opening) (a b c : Bool) → Within bytes (cond a (Err Length) (cond b (Err Mark) (cond c (Err Short) (judged bytes o))))
 unfolding judged
 parsed-within bytes o true b c = tt
 parsed-within bytes o false true c = tt
@@ -155,17 +98,11 @@ parsed-within bytes o false false true = tt
 parsed-within bytes o false false false =
     judged-within bytes o (ltb most_styles o.styles) (ltb most_titles o.titles) (ltb most_text o.records) (ltb bytes (end_at o)) (ltb (end_at o) bytes) refl refl refl refl refl
 
-module _ (bytes : List ℕ) (p : Parsed) (o : Opening) (e : p ≡ parsed_of bytes) (g : p ≡ Good o) where
+module _ (bytes : List ℕ) (p : Result Opening Flaw) (o : Opening) (e : p ≡ parsed_of bytes) (g : p ≡ Ok o) where
   pub good_sized : SizesFit (length bytes) o
   unfolding parsed_of
   good_sized =
       rw (← e, g) at
       (parsed-within (length bytes) (opening_in bytes) (ltb most_bytes (length bytes)) (unmarked bytes) (ltb (length bytes) opening_bytes))
 
-pub bad_parsed : (bytes : List ℕ) (p : Parsed) (flaw : Flaw) → p ≡ parsed_of bytes → p ≡ Bad flaw → Bad flaw ≡ parsed_of bytes
-bad_parsed bytes p flaw e b = sym b ∙ e
-
-pub good_parsed : (bytes : List ℕ) (p : Parsed) (o : Opening) → p ≡ parsed_of bytes → p ≡ Good o → Good o ≡ parsed_of bytes
-good_parsed bytes p o e g = sym g ∙ e
-
-pub ruleset reading = (good_sized, bad_parsed, good_parsed)
+pub ruleset reading = (good_sized)

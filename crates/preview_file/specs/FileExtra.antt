@@ -1,14 +1,13 @@
 -- Not in the papers: the packed form of a notice, as a list of bytes; the first comment of src/lib.rt gives its layout.
-use Rattle.std.specs.Prelude.{ℕ, ◌+◌, ◌*◌, ◌≤◌, ◌^◌, ◌≡◌, Bool, cond, not, ◌||◌, List, ◌++◌, eqb, ltb, length, get_or, drop}
+use Rattle.std.specs.Prelude.{ℕ, ◌+◌, ◌*◌, ◌≤◌, ◌^◌, ◌≡◌, Bool, cond, not, ◌||◌, Result, Ok, Err, List, ◌++◌, eqb, ltb, length, get_or, drop}
 use Rattle.flat.specs.declared.FlatArea.{FlatArea}
 use Rattle.flat.specs.declared.FlatBlock.{FlatBlock}
 use Rattle.flat.specs.declared.FlatText.{FlatText}
 use Rattle.preview_file.specs.declared.Opening.{Opening}
 use Rattle.preview_file.specs.declared.Symbols.{Symbols}
 use Rattle.preview_file.specs.declared.Paddings.{Paddings}
+use Rattle.preview_file.specs.declared.Flaw.{Flaw}
 use Rattle.preview_file.specs.declared.Flaw.TheVariants.{Length, Mark, Short, Styles, Titles, Text, Rest}
-use Rattle.preview_file.specs.declared.Parsed.{Parsed}
-use Rattle.preview_file.specs.declared.Parsed.TheVariants.{Bad, Good}
 use Rattle.preview_file.specs.NumbersExtra.{number2, number4, number8, signed, numbers_from}
 
 -- maxima of bytes, styles, title records and text records
@@ -125,14 +124,14 @@ abbrev pub end_at : Opening → ℕ
 end_at o = text_at o + 4 * o.records
 
 -- result of the checks of an opening, in an input of `bytes` bytes
-unfoldable pub judged : ℕ → Opening → Parsed
+unfoldable pub judged : ℕ → Opening → Result Opening Flaw
 judged bytes o =
-    cond (ltb most_styles o.styles) (Bad Styles)
-    (cond (ltb most_titles o.titles) (Bad Titles)
-    (cond (ltb most_text o.records) (Bad Text)
-    (cond (ltb bytes (end_at o)) (Bad Short)
-    (cond (ltb (end_at o) bytes) (Bad Rest)
-    (Good o)))))
+    cond (ltb most_styles o.styles) (Err Styles)
+    (cond (ltb most_titles o.titles) (Err Titles)
+    (cond (ltb most_text o.records) (Err Text)
+    (cond (ltb bytes (end_at o)) (Err Short)
+    (cond (ltb (end_at o) bytes) (Err Rest)
+    (Ok o)))))
 
 -- an opening that passes the checks
 pub record SizesFit (bytes : ℕ) (o : Opening) : Type 0 where
@@ -141,22 +140,22 @@ pub record SizesFit (bytes : ℕ) (o : Opening) : Type 0 where
   pub text_in : o.records ≤ most_text
   pub whole : end_at o ≡ bytes
 
-unfoldable pub parsed_of : List ℕ → Parsed
+unfoldable pub parsed_of : List ℕ → Result Opening Flaw
 parsed_of bytes =
-    cond (ltb most_bytes (length bytes)) (Bad Length)
-    (cond (unmarked bytes) (Bad Mark)
-    (cond (ltb (length bytes) opening_bytes) (Bad Short)
+    cond (ltb most_bytes (length bytes)) (Err Length)
+    (cond (unmarked bytes) (Err Mark)
+    (cond (ltb (length bytes) opening_bytes) (Err Short)
     (judged (length bytes) (opening_in bytes))))
 
 -- the slices for styles, titles and text after reading: filled from the start, or unchanged if the input is bad
-abbrev pub styles_held : Parsed → List ℕ → List ℕ → List ℕ
-styles_held (Bad flaw) bytes old = old
-styles_held (Good o) bytes old = numbers_from (number8 bytes) 8 opening_bytes o.styles ++ drop o.styles old
+abbrev pub styles_held : Result Opening Flaw → List ℕ → List ℕ → List ℕ
+styles_held (Err flaw) bytes old = old
+styles_held (Ok o) bytes old = numbers_from (number8 bytes) 8 opening_bytes o.styles ++ drop o.styles old
 
-abbrev pub titles_held : Parsed → List ℕ → List ℕ → List ℕ
-titles_held (Bad flaw) bytes old = old
-titles_held (Good o) bytes old = numbers_from (number4 bytes) 4 (titles_at o) o.titles ++ drop o.titles old
+abbrev pub titles_held : Result Opening Flaw → List ℕ → List ℕ → List ℕ
+titles_held (Err flaw) bytes old = old
+titles_held (Ok o) bytes old = numbers_from (number4 bytes) 4 (titles_at o) o.titles ++ drop o.titles old
 
-abbrev pub text_held : Parsed → List ℕ → List ℕ → List ℕ
-text_held (Bad flaw) bytes old = old
-text_held (Good o) bytes old = numbers_from (number4 bytes) 4 (text_at o) o.records ++ drop o.records old
+abbrev pub text_held : Result Opening Flaw → List ℕ → List ℕ → List ℕ
+text_held (Err flaw) bytes old = old
+text_held (Ok o) bytes old = numbers_from (number4 bytes) 4 (text_at o) o.records ++ drop o.records old

@@ -2,7 +2,7 @@
 ghost use Rattle.std.specs.Prelude.{◌≡◌, ◌≤◌, length};
 ghost use Rattle.preview_file.specs.FileExtra.{opening_bytes, area_in, symbols_in, paddings_in, block_in, text_fields_in, opening_in};
 
-use crate::numbers::{count, half, number_4, signed};
+use crate::numbers::{count, number_2, number_4, signed};
 use crate::{Opening, Paddings, Symbols};
 use flat::{FlatArea, FlatBlock, FlatText};
 
@@ -11,13 +11,14 @@ fn area(input: &[u8]) -> FlatArea
     ensures { result ≡ area_in input.now }
 {
     FlatArea {
-        x: half(input, 8),
-        y: half(input, 10),
-        width: half(input, 12),
-        height: half(input, 14),
+        x: number_2(input, 8),
+        y: number_2(input, 10),
+        width: number_2(input, 12),
+        height: number_2(input, 14),
     }
 }
 
+#[tactic(auto, unfolding(crate::specs::FileExtra::symbols_in))]
 fn symbols(input: &[u8]) -> Symbols
     requires { opening_bytes ≤ length input.now }
     ensures { result ≡ symbols_in input.now }
@@ -35,18 +36,20 @@ fn symbols(input: &[u8]) -> Symbols
     }
 }
 
+#[tactic(auto, unfolding(crate::specs::FileExtra::paddings_in))]
 fn paddings(input: &[u8]) -> Paddings
     requires { opening_bytes ≤ length input.now }
     ensures { result ≡ paddings_in input.now }
 {
     Paddings {
-        left: half(input, 60),
-        right: half(input, 62),
-        top: half(input, 64),
-        bottom: half(input, 66),
+        left: number_2(input, 60),
+        right: number_2(input, 62),
+        top: number_2(input, 64),
+        bottom: number_2(input, 66),
     }
 }
 
+#[tactic(auto, unfolding(crate::specs::FileExtra::block_in))]
 fn block(input: &[u8]) -> FlatBlock
     requires { opening_bytes ≤ length input.now }
     ensures { result ≡ block_in input.now }
@@ -84,13 +87,14 @@ fn block(input: &[u8]) -> FlatBlock
 }
 
 // The form doesn't say how ambiguous glyphs are read: narrow, unless the program is told otherwise.
+#[tactic(auto, unfolding(crate::specs::FileExtra::text_fields_in))]
 fn text(input: &[u8]) -> FlatText
     requires { opening_bytes ≤ length input.now }
     ensures { result ≡ text_fields_in input.now }
 {
     FlatText {
-        scroll: half(input, 79),
-        column: half(input, 81),
+        scroll: number_2(input, 79),
+        column: number_2(input, 81),
         style: input[83],
         text_style: input[84],
         alignment: input[85],
@@ -99,6 +103,7 @@ fn text(input: &[u8]) -> FlatText
     }
 }
 
+#[tactic(auto, unfolding(crate::specs::FileExtra::opening_in))]
 pub fn opening(input: &[u8]) -> Opening
     requires { opening_bytes ≤ length input.now }
     ensures { result ≡ opening_in input.now }
@@ -107,8 +112,8 @@ pub fn opening(input: &[u8]) -> Opening
     let block = block(input);
     let text = text(input);
     Opening {
-        columns: half(input, 4),
-        rows: half(input, 6),
+        columns: number_2(input, 4),
+        rows: number_2(input, 6),
         area,
         block,
         text,

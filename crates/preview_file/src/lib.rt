@@ -10,12 +10,12 @@
 // accept, so that their refusals can be seen.
 #![tactic(auto)]
 
-ghost use Rattle.std.specs.Prelude.{◌≡◌, ◌≤◌, length};
+ghost use Rattle.std.specs.Prelude.{◌≡◌, ◌≤◌, Ok, length};
 ghost use Rattle.preview_file.specs.FileExtra.{most_styles, most_titles, most_text, unmarked, judged, SizesFit, parsed_of};
 ghost use Rattle.preview_file.specs.FileExtra.{styles_held, titles_held, text_held};
-ghost use Rattle.preview_file.specs.declared.Parsed.TheVariants.{Good};
 
 use flat::{FlatArea, FlatBlock, FlatText};
+use std::fmt;
 use store::{store_records, store_styles};
 
 mod fields;
@@ -60,7 +60,7 @@ pub struct Paddings {
 
 // Why an input is bad: it is too long, doesn't start with the mark, is cut short, has too many styles, title records or
 // text records, or has bytes left over.
-#[derive(Clone, Copy)]
+#[derive(Clone, Copy, Debug, PartialEq, Eq)]
 pub enum Flaw {
     Length,
     Mark,
@@ -71,58 +71,65 @@ pub enum Flaw {
     Rest,
 }
 
-// Result of parsing an input.
-#[derive(Clone, Copy)]
-pub enum Parsed {
-    Bad(Flaw),
-    Good(Opening),
+impl fmt::Display for Flaw {
+    fn fmt<W: fmt::Write>(&self, f: &mut fmt::Formatter<W>) -> fmt::Result {
+        f.write_str(match self {
+            Flaw::Length => "over 131,072 bytes",
+            Flaw::Mark => "it doesn't start with NTC1",
+            Flaw::Short => "cut short",
+            Flaw::Styles => "over 256 styles",
+            Flaw::Titles => "over 8,192 titles' records",
+            Flaw::Text => "over 24,576 records of text",
+            Flaw::Rest => "bytes left over",
+        })
+    }
 }
 
 // Whether an input lacks the mark at its start.
+#[tactic(auto, unfolding(crate::specs::FileExtra::unmarked))]
 fn is_unmarked(input: &[u8]) -> bool
     ensures { result ≡ unmarked input.now }
 {
-    if input.len() < 4 {
-        return true;
-    }
-    numbers::number_4(input, 0) != 1314145073
+    input.len() < 4 || numbers::number_4(input, 0) != u32::from_be_bytes(*b"NTC1")
 }
 
 // Checks the counts of an opening against their maxima and against the input's length in bytes.
-fn judge(bytes: usize, opening: Opening) -> Parsed
+#[tactic(auto, unfolding(crate::specs::FileExtra::judged))]
+fn judge(bytes: usize, opening: Opening) -> Result<Opening, Flaw>
     ensures { result ≡ judged bytes opening }
 {
     if 256 < opening.styles {
-        return Parsed::Bad(Flaw::Styles);
+        return Err(Flaw::Styles);
     }
     if 8192 < opening.titles {
-        return Parsed::Bad(Flaw::Titles);
+        return Err(Flaw::Titles);
     }
     if 24576 < opening.records {
-        return Parsed::Bad(Flaw::Text);
+        return Err(Flaw::Text);
     }
     let end = 93 + 8 * opening.styles + 4 * opening.titles + 4 * opening.records;
     if bytes < end {
-        return Parsed::Bad(Flaw::Short);
+        return Err(Flaw::Short);
     }
     if end < bytes {
-        return Parsed::Bad(Flaw::Rest);
+        return Err(Flaw::Rest);
     }
-    Parsed::Good(opening)
+    Ok(opening)
 }
 
 // Parses the opening of an input and checks the input's length.
-fn parse(input: &[u8]) -> Parsed
+#[tactic(auto, unfolding(crate::specs::FileExtra::parsed_of))]
+fn parse(input: &[u8]) -> Result<Opening, Flaw>
     ensures { result ≡ parsed_of input.now }
 {
     if 131072 < input.len() {
-        return Parsed::Bad(Flaw::Length);
+        return Err(Flaw::Length);
     }
     if is_unmarked(input) {
-        return Parsed::Bad(Flaw::Mark);
+        return Err(Flaw::Mark);
     }
     if input.len() < 93 {
-        return Parsed::Bad(Flaw::Short);
+        return Err(Flaw::Short);
     }
     judge(input.len(), fields::opening(input))
 }
@@ -137,9 +144,9 @@ fn store_all(
 )
     requires sizes_fit { SizesFit (length input.now) opening }
     requires most_styles_in_bounds { (most_styles ≤ length styles.old) × (most_titles ≤ length titles.old) × (most_text ≤ length text.old) }
-    ensures styles_after { styles.new ≡ styles_held (Good opening) input.now styles.old }
-    ensures titles_after { titles.new ≡ titles_held (Good opening) input.now titles.old }
-    ensures text_after { text.new ≡ text_held (Good opening) input.now text.old }
+    ensures styles_after { styles.new ≡ styles_held (Ok opening) input.now styles.old }
+    ensures titles_after { titles.new ≡ titles_held (Ok opening) input.now titles.old }
+    ensures text_after { text.new ≡ text_held (Ok opening) input.now text.old }
 {
     let titles_at = 93 + 8 * opening.styles;
     let text_at = titles_at + 4 * opening.titles;
@@ -149,18 +156,20 @@ fn store_all(
 }
 
 // Parses an input and stores its styles and records at the start of the slices for them, which a bad input leaves unchanged.
-pub fn read(input: &[u8], styles: &mut [u64], titles: &mut [u32], text: &mut [u32]) -> Parsed
+#[tactic(auto, using(crate::proofs::Storing::reading))]
+pub fn read(
+    input: &[u8],
+    styles: &mut [u64],
+    titles: &mut [u32],
+    text: &mut [u32],
+) -> Result<Opening, Flaw>
     requires { (most_styles ≤ length styles.old) × (most_titles ≤ length titles.old) × (most_text ≤ length text.old) }
     ensures value { result ≡ parsed_of input.now }
     ensures styles_after { styles.new ≡ styles_held result input.now styles.old }
     ensures titles_after { titles.new ≡ titles_held result input.now titles.old }
     ensures text_after { text.new ≡ text_held result input.now text.old }
 {
-    match parse(input) {
-        Parsed::Bad(flaw) => Parsed::Bad(flaw),
-        Parsed::Good(opening) => {
-            store_all(input, opening, styles, titles, text);
-            Parsed::Good(opening)
-        }
-    }
+    let opening = parse(input)?;
+    store_all(input, opening, styles, titles, text);
+    Ok(opening)
 }

@@ -10,10 +10,8 @@ pub fn store_styles(input: &[u8], from: usize, count: usize, styles: &mut [u64])
     requires count_in_bounds_2 { count ≤ length styles.old }
     ensures { styles.new ≡ numbers_from (number8 input.now) 8 from count ++ drop count styles.old }
 {
-    let mut i = 0;
-    while i < count {
+    for i in 0..count {
         styles[i] = number_8(input, from + 8 * i);
-        i += 1;
     }
 }
 
@@ -23,9 +21,7 @@ pub fn store_records(input: &[u8], from: usize, count: usize, records: &mut [u32
     requires count_in_bounds_2 { count ≤ length records.old }
     ensures { records.new ≡ numbers_from (number4 input.now) 4 from count ++ drop count records.old }
 {
-    let mut i = 0;
-    while i < count {
+    for i in 0..count {
         records[i] = number_4(input, from + 4 * i);
-        i += 1;
     }
 }

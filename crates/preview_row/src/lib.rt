@@ -2,118 +2,101 @@
 // touches hold the width of its symbol here, or 0, which covers no more cells than 1; cells that a wide symbol covers are skipped.
 #![tactic(auto)]
 
-ghost use Rattle.std.specs.Prelude.{◌≡◌, ◌+◌, ◌-◌, ◌*◌, ◌≤◌, length};
-ghost use Rattle.append_bytes.specs.WrittenExtra.{Written};
+ghost use Rattle.std.specs.Prelude.{◌≡◌, ◌+◌, ◌*◌, ◌≤◌, ◌++◌, length};
+ghost use Rattle.arrayvec.specs.ArrayVec.{array_vec_len};
 ghost use Rattle.preview_row.specs.RowExtra.{style_text, cell_text, step_text, style_after, covered_after, cells_text, end_text, row_text};
 
-use append_bytes::put;
+use arrayvec::ArrayVec;
 use preview_sgr::put_style;
 use preview_utf8::put_symbol;
 
-// Offset of the next byte, style of the previous cell, and count of the next cells that a wide symbol covers.
+// Style of the previous cell, and count of the next cells that a wide symbol covers.
 #[derive(Clone, Copy)]
 pub struct Pen {
-    pub at: usize,
     pub style: u64,
     pub covered: u64,
 }
 
-// Writes a style's sequence, if sequences are asked for and the previous style differs.
-fn put_change(buffer: &mut [u8], at: usize, ansi: bool, before: u64, style: u64) -> usize
-    requires { at + 40 ≤ length buffer.old }
-    ensures written { Written buffer.old at buffer.new result (style_text ansi before style) }
-    ensures upper_bound { result ≤ at + 40 }
+// Appends a style's sequence, if sequences are asked for and the previous style differs.
+#[tactic(auto, unfolding(crate::specs::RowExtra::style_text))]
+fn put_change<const N: usize>(text: &mut ArrayVec<u8, N>, ansi: bool, before: u64, style: u64)
+    requires { array_vec_len text.old + 40 ≤ N }
+    ensures written { text.new.items ≡ text.old.items ++ style_text ansi before style }
+    ensures upper_bound { array_vec_len text.new ≤ array_vec_len text.old + 40 }
 {
-    if ansi {
-        if before == style {
-            return at;
+    if ansi && before != style {
+        put_style(text, style);
+    }
+}
+
+// Appends a cell's text.
+#[tactic(auto, unfolding(crate::specs::RowExtra::cell_text))]
+fn put_cell<const N: usize>(text: &mut ArrayVec<u8, N>, ansi: bool, before: u64, cell: u64)
+    requires { array_vec_len text.old + 44 ≤ N }
+    ensures written { text.new.items ≡ text.old.items ++ cell_text ansi before cell }
+    ensures upper_bound { array_vec_len text.new ≤ array_vec_len text.old + 44 }
+{
+    put_change(text, ansi, before, cell::appearance(cell));
+    put_symbol(text, cell::symbol(cell));
+}
+
+impl Pen {
+    // Appends a cell's text, unless the cell is covered. Returns the pen for the next cell.
+    #[tactic(auto, unfolding(crate::specs::RowExtra::step_text, crate::specs::RowExtra::style_after, crate::specs::RowExtra::covered_after))]
+    fn step<const N: usize>(self, text: &mut ArrayVec<u8, N>, ansi: bool, cell: u64) -> Pen
+        requires { array_vec_len text.old + 44 ≤ N }
+        ensures written { text.new.items ≡ text.old.items ++ step_text ansi self.style self.covered cell }
+        ensures upper_bound { array_vec_len text.new ≤ array_vec_len text.old + 44 }
+        ensures style_value { result.style ≡ style_after self.style self.covered cell }
+        ensures covered_value { result.covered ≡ covered_after self.covered cell }
+    {
+        if 0 < self.covered {
+            return Pen {
+                style: self.style,
+                covered: self.covered - 1,
+            };
         }
-        return put_style(buffer, at, style);
-    }
-    at
-}
-
-// Writes a cell's text.
-fn put_cell(buffer: &mut [u8], at: usize, ansi: bool, before: u64, cell: u64) -> usize
-    requires { at + 44 ≤ length buffer.old }
-    ensures written { Written buffer.old at buffer.new result (cell_text ansi before cell) }
-    ensures upper_bound { result ≤ at + 44 }
-{
-    let next = put_change(buffer, at, ansi, before, cell::appearance(cell));
-    put_symbol(buffer, next, cell::symbol(cell))
-}
-
-// Returns the number less 1, saturating at 0.
-fn less_one(number: u64) -> u64
-    ensures { result ≡ number - 1 }
-{
-    if number == 0 {
-        return 0;
-    }
-    number - 1
-}
-
-// Writes a cell's text, unless the cell is covered.
-fn step(buffer: &mut [u8], pen: Pen, ansi: bool, cell: u64) -> Pen
-    requires { pen.at + 44 ≤ length buffer.old }
-    ensures written { Written buffer.old pen.at buffer.new result.at (step_text ansi pen.style pen.covered cell) }
-    ensures at_bound { result.at ≤ pen.at + 44 }
-    ensures style_value { result.style ≡ style_after pen.style pen.covered cell }
-    ensures covered_value { result.covered ≡ covered_after pen.covered cell }
-{
-    if 0 < pen.covered {
-        return Pen {
-            at: pen.at,
-            style: pen.style,
-            covered: pen.covered - 1,
-        };
-    }
-    let at = put_cell(buffer, pen.at, ansi, pen.style, cell);
-    Pen {
-        at,
-        style: cell::appearance(cell),
-        covered: less_one(cell::untouched(cell)),
+        put_cell(text, ansi, self.style, cell);
+        Pen {
+            style: cell::appearance(cell),
+            covered: cell::untouched(cell).saturating_sub(1),
+        }
     }
 }
 
-// Writes the text of cells.
-fn put_cells(buffer: &mut [u8], ansi: bool, cells: &[u64]) -> usize
-    requires { 44 * length cells.now ≤ length buffer.old }
-    ensures written { Written buffer.old 0 buffer.new result (cells_text ansi 0 0 cells.now) }
-    ensures upper_bound { result ≤ 44 * length cells.now }
+// Appends the text of cells.
+fn put_cells<const N: usize>(text: &mut ArrayVec<u8, N>, ansi: bool, cells: &[u64])
+    requires { array_vec_len text.old + 44 * length cells.now ≤ N }
+    ensures written { text.new.items ≡ text.old.items ++ cells_text ansi 0 0 cells.now }
+    ensures upper_bound { array_vec_len text.new ≤ array_vec_len text.old + 44 * length cells.now }
 {
     let mut pen = Pen {
-        at: 0,
         style: 0,
         covered: 0,
     };
-    let mut i = 0;
-    while i < cells.len() {
-        pen = step(buffer, pen, ansi, cells[i]);
-        i += 1;
+    for cell in cells {
+        pen = pen.step(text, ansi, *cell);
     }
-    pen.at
 }
 
-// Writes the end of a row.
-fn put_end(buffer: &mut [u8], at: usize, ansi: bool) -> usize
-    requires { at + 41 ≤ length buffer.old }
-    ensures written { Written buffer.old at buffer.new result (end_text ansi) }
-    ensures upper_bound { result ≤ at + 41 }
+// Appends the end of a row.
+#[tactic(auto, unfolding(crate::specs::RowExtra::end_text))]
+fn put_end<const N: usize>(text: &mut ArrayVec<u8, N>, ansi: bool)
+    requires { array_vec_len text.old + 41 ≤ N }
+    ensures { text.new.items ≡ text.old.items ++ end_text ansi }
 {
     if ansi {
-        let next = put_style(buffer, at, 0);
-        return put(buffer, next, 10);
+        put_style(text, 0);
     }
-    put(buffer, at, 10)
+    text.push(b'\n');
 }
 
-// Writes a row's text at the start of a buffer and returns its length in bytes.
-pub fn put_row(buffer: &mut [u8], ansi: bool, cells: &[u64]) -> usize
-    requires { 44 * length cells.now + 41 ≤ length buffer.old }
-    ensures written { Written buffer.old 0 buffer.new result (row_text ansi cells.now) }
-    ensures upper_bound { result ≤ length buffer.new }
+// Appends a row's text.
+#[tactic(auto, unfolding(crate::specs::RowExtra::row_text))]
+pub fn put_row<const N: usize>(text: &mut ArrayVec<u8, N>, ansi: bool, cells: &[u64])
+    requires { array_vec_len text.old + 44 * length cells.now + 41 ≤ N }
+    ensures { text.new.items ≡ text.old.items ++ row_text ansi cells.now }
 {
-    let next = put_cells(buffer, ansi, cells);
-    put_end(buffer, next, ansi)
+    put_cells(text, ansi, cells);
+    put_end(text, ansi);
 }

@@ -5,20 +5,19 @@ mod arguments;
 mod showing;
 
 use arguments::Request;
-use preview_sheet::paging::Pages;
 use read_input::read_full;
 use std::fs::File;
 use std::io;
 use std::io::Read;
 use std::rt::{Env, Files};
 
-// Options: whether ambiguous glyphs are read wide, whether to print escape sequences for colours and modifiers, and which pages to
-// show.
+// Options: whether ambiguous glyphs are read wide, whether to print escape sequences for colours and modifiers, and the page to show,
+// if not all are.
 #[derive(Clone, Copy)]
 pub struct Asked {
     pub wide: bool,
     pub ansi: bool,
-    pub pages: Pages,
+    pub pages: Option<u64>,
 }
 
 // Shows the notice read from an input. Reads one byte more than is accepted, so that longer inputs are noticed.
@@ -56,13 +55,11 @@ fn show_file(rt: &(impl Env + Files + Print), asked: Asked) -> io::Result<()> {
 
 // Runs the program.
 pub fn run(rt: &(impl Env + Files + Input + Print)) -> io::Result<()> {
-    match arguments::requested(rt) {
-        Request::Wrong => preview_messages::usage(rt),
-        Request::Show { asked, from_file } => {
-            if from_file {
-                return show_file(rt, asked);
-            }
-            show(rt, &mut rt.reader(), asked)
-        }
+    let Some(Request { asked, from_file }) = arguments::requested(rt) else {
+        return preview_messages::usage(rt);
+    };
+    if from_file {
+        return show_file(rt, asked);
     }
+    show(rt, &mut rt.reader(), asked)
 }

@@ -1,12 +1,65 @@
 // Shows a notice page by page.
-ghost use Rattle.std.specs.Prelude.{◌≡◌, ◌≤◌, min, length};
+ghost use Rattle.std.specs.Prelude.{◌≤◌, length};
 ghost use Rattle.preview_file.specs.FileExtra.{most_styles, most_titles, most_text};
 
 use crate::Asked;
-use notice::{AmbiguousWidth, DrawAnswer, DrawCounts, PagesAnswer, TallyAnswer, Wrap};
-use preview_file::{Opening, Parsed};
-use preview_sheet::{Fitting, Measure, paging, widths};
+use notice::{DrawCounts, Wrap};
+use preview_file::Opening;
+use preview_messages::Cause;
+use preview_sheet::{Measure, paging, widths};
+use refuse::Refusal;
 use std::io;
+
+// The records of a notice.
+#[derive(Clone, Copy)]
+struct Records<'a> {
+    styles: &'a [u64],
+    titles: &'a [u32],
+    text: &'a [u32],
+}
+
+// A notice: its opening and its records.
+#[derive(Clone, Copy)]
+struct Sheet<'a> {
+    opening: Opening,
+    records: Records<'a>,
+}
+
+impl Sheet<'_> {
+    // Fills the cells with `blank` and draws the notice from line `first`.
+    fn draw(self, first: u16, blank: u64, cells: &mut [u64]) -> Result<DrawCounts, Refusal> {
+        let Records {
+            styles,
+            titles,
+            text,
+        } = self.records;
+        preview_sheet::draw(self.opening, first, blank, styles, titles, text, cells)
+    }
+
+    // Returns the count of the screen's cells, or 0 if the screen is larger than drawing accepts, which is then refused.
+    fn cell_count(self) -> usize {
+        let opening = self.opening;
+        if 512 < opening.columns || 256 < opening.rows {
+            return 0;
+        }
+        usize::from(opening.columns) * usize::from(opening.rows)
+    }
+
+    // Measures the notice, if it isn't refused. Its pages are asked for first, as that checks all that drawing and measuring do.
+    fn measured(self, cells: &[u64]) -> Result<Measure, Cause> {
+        let opening = self.opening;
+        let Records {
+            styles,
+            titles,
+            text,
+        } = self.records;
+        if !flat::all_known(opening.block, opening.text) {
+            return Err(Cause::Setting);
+        }
+        preview_sheet::checked(opening, styles, titles, text, cells)?;
+        Ok(preview_sheet::measured(opening, titles, text)?)
+    }
+}
 
 // A page: its number, the count of pages, and its first line.
 #[derive(Clone, Copy)]
@@ -33,51 +86,26 @@ fn print_page(
 ) -> io::Result<()> {
     widths::mark(cells, wide_cells);
     preview_messages::page(rt, page.number, page.pages)?;
-    preview_messages::rows(rt, cells, columns as usize, ansi)?;
+    preview_messages::rows(rt, cells, usize::from(columns), ansi)?;
     preview_messages::counts(rt, rows)
 }
 
-// Draws and prints a page, if it is asked for.
+// Draws and prints a page; `wide` is the notice with widths as symbols.
 fn show_page(
     rt: &impl Print,
-    opening: Opening,
     page: Page,
-    asked: Asked,
-    styles: &[u64],
-    titles: &[u32],
-    text: &[u32],
-    wide_titles: &[u32],
-    wide_text: &[u32],
+    ansi: bool,
+    sheet: Sheet,
+    wide: Sheet,
     cells: &mut [u64],
     wide_cells: &mut [u64],
 ) -> io::Result<()> {
-    let shown = asked.pages;
-    if !shown.has(page.number) {
-        return Ok(());
-    }
-    let first = page.first;
-    let wide = preview_sheet::widened(opening);
-    preview_sheet::draw(
-        wide,
-        first,
-        blank_width(),
-        styles,
-        wide_titles,
-        wide_text,
-        wide_cells,
-    );
-    match preview_sheet::draw(opening, first, cell::blank(), styles, titles, text, cells) {
-        DrawAnswer::Refused(why) => preview_messages::refused(rt, why.number()),
-        DrawAnswer::Counts(rows) => {
-            print_page(
-                rt,
-                page,
-                opening.columns,
-                asked.ansi,
-                rows,
-                cells,
-                wide_cells,
-            )
+    let _ = wide.draw(page.first, blank_width(), wide_cells);
+    match sheet.draw(page.first, cell::blank(), cells) {
+        Err(why) => preview_messages::refused(rt, Cause::from(why)),
+        Ok(rows) => {
+            let columns = sheet.opening.columns;
+            print_page(rt, page, columns, ansi, rows, cells, wide_cells)
         }
     }
 }
@@ -85,296 +113,111 @@ fn show_page(
 // Shows the pages that are asked for.
 fn show_pages(
     rt: &impl Print,
-    opening: Opening,
     pages: u64,
     height: u16,
     asked: Asked,
-    styles: &[u64],
-    titles: &[u32],
-    text: &[u32],
-    wide_titles: &[u32],
-    wide_text: &[u32],
+    sheet: Sheet,
+    wide: Sheet,
     cells: &mut [u64],
     wide_cells: &mut [u64],
 ) -> io::Result<()> {
-    let settings = opening.text;
-    let mut first = settings.scroll;
-    let mut number = 0;
-    while number < pages {
-        let page = Page {
-            number,
-            pages,
-            first,
-        };
-        show_page(
-            rt,
-            opening,
-            page,
-            asked,
-            styles,
-            titles,
-            text,
-            wide_titles,
-            wide_text,
-            cells,
-            wide_cells,
-        )?;
+    let mut first = sheet.opening.text.scroll;
+    for number in 0..pages {
+        if paging::is_asked(asked.pages, number) {
+            let page = Page {
+                number,
+                pages,
+                first,
+            };
+            show_page(rt, page, asked.ansi, sheet, wide, cells, wide_cells)?;
+        }
         first = paging::next_first(first, height);
-        number += 1;
     }
     Ok(())
 }
 
-// Prints the tally of a text, if it is wrapped.
-fn show_tally(
-    rt: &impl Print,
-    text: &[u32],
-    ambiguous: AmbiguousWidth,
-    width: u16,
-    wrap: Wrap,
-) -> io::Result<()> {
-    let Wrap::On { trim } = wrap else {
+// Prints the tally of a notice's text at a width, if it is wrapped.
+fn show_tally(rt: &impl Print, sheet: Sheet, width: u16) -> io::Result<()> {
+    let settings = sheet.opening.text;
+    let Wrap::On { trim } = settings.named_wrap() else {
         return Ok(());
     };
-    match notice::tally(text, ambiguous, width, trim) {
-        TallyAnswer::Counted(counts) => preview_messages::tally(rt, counts),
-        TallyAnswer::Refused(why) => preview_messages::refused(rt, why.number()),
+    let ambiguous = flat::ambiguous_named(settings.ambiguous);
+    match notice::tally(sheet.records.text, ambiguous, width, trim) {
+        Ok(counts) => preview_messages::tally(rt, counts),
+        Err(why) => preview_messages::refused(rt, Cause::from(why)),
     }
 }
 
-// Shows the pages of a measured notice, and its tally.
+// Shows the pages of a measured notice, and its tally. They are drawn on `cells`, and with widths as symbols on `wide_cells`.
 fn show_measured(
     rt: &impl Print,
-    opening: Opening,
-    measure: Measure,
     asked: Asked,
-    styles: &[u64],
-    titles: &[u32],
-    text: &[u32],
-    wide_titles: &[u32],
-    wide_text: &[u32],
+    sheet: Sheet,
+    measure: Measure,
     cells: &mut [u64],
     wide_cells: &mut [u64],
 ) -> io::Result<()> {
-    let settings = opening.text;
-    let wrap = settings.named_wrap();
-    let ambiguous = flat::ambiguous_named(settings.ambiguous);
-    let shown = asked.pages;
-    let pages = paging::page_count(measure.lines, settings.scroll, measure.height);
-    if shown.is_past(pages) {
+    let Sheet { opening, records } = sheet;
+    let pages = paging::page_count(measure.lines, opening.text.scroll, measure.height);
+    if paging::is_past(asked.pages, pages) {
         return preview_messages::past_the_last(rt, pages);
     }
+    let ambiguous = flat::ambiguous_named(opening.text.ambiguous);
+    let mut titles = [0u32; 8192];
+    let mut text = [0u32; 24576];
+    widths::widen(records.titles, ambiguous, &mut titles);
+    widths::widen(records.text, ambiguous, &mut text);
+    let wide = Sheet {
+        opening: preview_sheet::widened(opening),
+        records: Records {
+            styles: records.styles,
+            titles: &titles[..records.titles.len().min(8192)],
+            text: &text[..records.text.len().min(24576)],
+        },
+    };
     show_pages(
         rt,
-        opening,
         pages,
         measure.height,
         asked,
-        styles,
-        titles,
-        text,
-        wide_titles,
-        wide_text,
+        sheet,
+        wide,
         cells,
         wide_cells,
     )?;
-    show_tally(rt, text, ambiguous, measure.width, wrap)
+    show_tally(rt, sheet, measure.width)
 }
 
-// Shows a notice, or prints why it is refused. Its pages are asked for first, as that checks all that drawing and measuring do.
+// Shows a notice on as many cells as its screen has, or prints why it is refused.
 fn show_notice(
     rt: &impl Print,
-    opening: Opening,
     asked: Asked,
-    styles: &[u64],
-    titles: &[u32],
-    text: &[u32],
-    wide_titles: &[u32],
-    wide_text: &[u32],
+    sheet: Sheet,
     cells: &mut [u64],
     wide_cells: &mut [u64],
 ) -> io::Result<()> {
-    let checked = preview_sheet::checked(opening, styles, titles, text, cells);
-    if let PagesAnswer::Refused(why) = checked {
-        return preview_messages::refused(rt, why.number());
+    let count = sheet.cell_count();
+    let drawn = count.min(cells.len());
+    let told = count.min(wide_cells.len());
+    let cells = &mut cells[..drawn];
+    match sheet.measured(cells) {
+        Ok(measure) => {
+            let wide_cells = &mut wide_cells[..told];
+            show_measured(rt, asked, sheet, measure, cells, wide_cells)
+        }
+        Err(cause) => preview_messages::refused(rt, cause),
     }
-    match preview_sheet::measured(opening, titles, text) {
-        Fitting::Refused(number) => preview_messages::refused(rt, number),
-        Fitting::Fits(measure) => show_measured(
-            rt,
-            opening,
-            measure,
-            asked,
-            styles,
-            titles,
-            text,
-            wide_titles,
-            wide_text,
-            cells,
-            wide_cells,
-        ),
-    }
-}
-
-// Returns the smaller of two numbers.
-fn least(a: usize, b: usize) -> usize
-    ensures { result ≡ min a b }
-{
-    if a < b {
-        return a;
-    }
-    b
-}
-
-// Returns the count of a screen's cells, or 0 if the screen is larger than drawing accepts, which is then refused.
-fn cell_count(columns: u16, rows: u16) -> usize {
-    if 512 < columns {
-        return 0;
-    }
-    if 256 < rows {
-        return 0;
-    }
-    columns as usize * rows as usize
-}
-
-// Shows a notice on as many cells as its screen has.
-fn show_on_cells(
-    rt: &impl Print,
-    opening: Opening,
-    asked: Asked,
-    styles: &[u64],
-    titles: &[u32],
-    text: &[u32],
-    wide_titles: &[u32],
-    wide_text: &[u32],
-    cells: &mut [u64],
-    wide_cells: &mut [u64],
-) -> io::Result<()> {
-    let count = cell_count(opening.columns, opening.rows);
-    let drawn = least(count, cells.len());
-    let told = least(count, wide_cells.len());
-    show_notice(
-        rt,
-        opening,
-        asked,
-        styles,
-        titles,
-        text,
-        wide_titles,
-        wide_text,
-        &mut cells[..drawn],
-        &mut wide_cells[..told],
-    )
 }
 
 // Shows a notice on cells allocated here.
-fn show_on_screen(
-    rt: &impl Print,
-    opening: Opening,
-    asked: Asked,
-    styles: &[u64],
-    titles: &[u32],
-    text: &[u32],
-    wide_titles: &[u32],
-    wide_text: &[u32],
-) -> io::Result<()> {
+fn show_on_screen(rt: &impl Print, asked: Asked, sheet: Sheet) -> io::Result<()> {
     let mut cells = [0u64; 131072];
     let mut wide_cells = [0u64; 131072];
-    show_on_cells(
-        rt,
-        opening,
-        asked,
-        styles,
-        titles,
-        text,
-        wide_titles,
-        wide_text,
-        &mut cells,
-        &mut wide_cells,
-    )
+    show_notice(rt, asked, sheet, &mut cells, &mut wide_cells)
 }
 
-// Copies the records with widths as symbols, and shows the notice.
-fn show_widened(
-    rt: &impl Print,
-    opening: Opening,
-    asked: Asked,
-    styles: &[u64],
-    titles: &[u32],
-    text: &[u32],
-    wide_titles: &mut [u32],
-    wide_text: &mut [u32],
-) -> io::Result<()> {
-    let settings = opening.text;
-    let ambiguous = flat::ambiguous_named(settings.ambiguous);
-    widths::widen(titles, ambiguous, wide_titles);
-    widths::widen(text, ambiguous, wide_text);
-    let title_count = least(titles.len(), wide_titles.len());
-    let record_count = least(text.len(), wide_text.len());
-    show_on_screen(
-        rt,
-        opening,
-        asked,
-        styles,
-        titles,
-        text,
-        &wide_titles[..title_count],
-        &wide_text[..record_count],
-    )
-}
-
-// Shows a notice, read as asked, if every number of its settings names a case.
-fn show_opening(
-    rt: &impl Print,
-    input: Opening,
-    asked: Asked,
-    styles: &[u64],
-    titles: &[u32],
-    text: &[u32],
-) -> io::Result<()> {
-    let opening = preview_sheet::read_as(input, asked.wide);
-    let block = opening.block;
-    let settings = opening.text;
-    let mut wide_titles = [0u32; 8192];
-    let mut wide_text = [0u32; 24576];
-    if flat::all_known(block, settings) {
-        return show_widened(
-            rt,
-            opening,
-            asked,
-            styles,
-            titles,
-            text,
-            &mut wide_titles,
-            &mut wide_text,
-        );
-    }
-    preview_messages::refused(rt, 255)
-}
-
-// Shows the notice whose styles, title records and text records are at the start of the slices.
-fn show_read(
-    rt: &impl Print,
-    opening: Opening,
-    asked: Asked,
-    styles: &[u64],
-    titles: &[u32],
-    text: &[u32],
-) -> io::Result<()> {
-    let style_count = least(opening.styles, styles.len());
-    let title_count = least(opening.titles, titles.len());
-    let record_count = least(opening.records, text.len());
-    show_opening(
-        rt,
-        opening,
-        asked,
-        &styles[..style_count],
-        &titles[..title_count],
-        &text[..record_count],
-    )
-}
-
-// Shows the notice in an input, or prints why the input is bad.
+// Shows the notice in an input, read as asked, or prints why the input is bad.
 pub fn show_input(
     rt: &impl Print,
     input: &[u8],
@@ -385,8 +228,15 @@ pub fn show_input(
 ) -> io::Result<()>
     requires { (most_styles ≤ length styles.old) × (most_titles ≤ length titles.old) × (most_text ≤ length text.old) }
 {
-    match preview_file::read(input, styles, titles, text) {
-        Parsed::Bad(flaw) => preview_messages::bad_input(rt, flaw),
-        Parsed::Good(opening) => show_read(rt, opening, asked, styles, titles, text),
-    }
+    let opening = match preview_file::read(input, styles, titles, text) {
+        Ok(opening) => opening,
+        Err(flaw) => return preview_messages::bad_input(rt, flaw),
+    };
+    let records = Records {
+        styles: &styles[..opening.styles.min(styles.len())],
+        titles: &titles[..opening.titles.min(titles.len())],
+        text: &text[..opening.records.min(text.len())],
+    };
+    let opening = preview_sheet::read_as(opening, asked.wide);
+    show_on_screen(rt, asked, Sheet { opening, records })
 }

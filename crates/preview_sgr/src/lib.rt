@@ -1,97 +1,86 @@
 // Writes a cell's colours and modifiers as an escape sequence.
 #![tactic(auto)]
 
-ghost use Rattle.std.specs.Prelude.{◌≡◌, [], ◌∷◌, ◌++◌, ◌+◌, ◌<◌, ◌≤◌, length};
-ghost use Rattle.append_bytes.specs.WrittenExtra.{Written};
+ghost use Rattle.std.specs.Prelude.{◌≡◌, [], ◌∷◌, ◌++◌, ◌+◌, ◌<◌, ◌≤◌};
+ghost use Rattle.arrayvec.specs.ArrayVec.{array_vec_len};
 ghost use Rattle.cell.specs.Cell.{cell_from};
 ghost use Rattle.preview_sgr.specs.SgrExtra.{digit, decimal, code, codes, colour, sgr};
 
-use append_bytes::{put, put_2, put_all};
+use append_bytes::put_all;
+use arrayvec::ArrayVec;
 
 fn last_digit(number: u64) -> u8
     ensures { result ≡ digit number }
 {
-    (48 + number % 10) as u8
+    b'0' + (number % 10) as u8
 }
 
-// Writes a number below 1,000 in decimal.
-fn put_decimal(buffer: &mut [u8], at: usize, number: u64) -> usize
-    requires { at + 3 ≤ length buffer.old }
-    ensures written { Written buffer.old at buffer.new result (decimal number) }
-    ensures upper_bound { result ≤ at + 3 }
+// Appends a number below 1,000 in decimal.
+#[tactic(auto, unfolding(crate::specs::SgrExtra::decimal))]
+fn put_decimal<const N: usize>(text: &mut ArrayVec<u8, N>, number: u64)
+    requires { array_vec_len text.old + 3 ≤ N }
+    ensures written { text.new.items ≡ text.old.items ++ decimal number }
+    ensures upper_bound { array_vec_len text.new ≤ array_vec_len text.old + 3 }
 {
-    if number < 10 {
-        return put(buffer, at, last_digit(number));
+    if 100 <= number {
+        text.push(last_digit(number / 100));
     }
-    if number < 100 {
-        return put_2(buffer, at, last_digit(number / 10), last_digit(number));
+    if 10 <= number {
+        text.push(last_digit(number / 10));
     }
-    let next = put(buffer, at, last_digit(number / 100));
-    put_2(buffer, next, last_digit(number / 10), last_digit(number))
+    text.push(last_digit(number));
 }
 
-// Writes a modifier's code, if its bit is 1.
-fn put_code(buffer: &mut [u8], at: usize, bit: u64, number: u8) -> usize
-    requires at_in_bounds { at + 2 ≤ length buffer.old }
+// Appends a modifier's code, if its bit is 1.
+#[tactic(auto, unfolding(crate::specs::SgrExtra::code))]
+fn put_code<const N: usize>(text: &mut ArrayVec<u8, N>, bit: u64, number: u8)
+    requires room { array_vec_len text.old + 2 ≤ N }
     requires number_bound { number < 10 }
-    ensures written { Written buffer.old at buffer.new result (code bit number) }
-    ensures upper_bound { result ≤ at + 2 }
+    ensures written { text.new.items ≡ text.old.items ++ code bit number }
+    ensures upper_bound { array_vec_len text.new ≤ array_vec_len text.old + 2 }
 {
     if bit == 1 {
-        return put_2(buffer, at, 59, 48 + number);
+        text.push(b';');
+        text.push(b'0' + number);
     }
-    at
 }
 
-// Writes the codes of all modifiers that are set.
-fn put_codes(buffer: &mut [u8], at: usize, modifiers: u64) -> usize
-    requires { at + 18 ≤ length buffer.old }
-    ensures written { Written buffer.old at buffer.new result (codes modifiers 1 9) }
-    ensures upper_bound { result ≤ at + 18 }
+// Appends the codes of all modifiers that are set.
+fn put_codes<const N: usize>(text: &mut ArrayVec<u8, N>, modifiers: u64)
+    requires { array_vec_len text.old + 18 ≤ N }
+    ensures written { text.new.items ≡ text.old.items ++ codes modifiers 1 9 }
+    ensures upper_bound { array_vec_len text.new ≤ array_vec_len text.old + 18 }
 {
-    let mut next = at;
     let mut bits = modifiers;
-    let mut number = 1;
-    while number < 10 {
-        next = put_code(buffer, next, bits % 2, number);
-        bits = bits / 2;
-        number += 1;
+    for number in 1..10 {
+        put_code(text, bits % 2, number);
+        bits /= 2;
     }
-    next
 }
 
-// Writes a colour, unless it is the terminal's default; `kind` is the digit 3 (51) for a foreground, 4 (52) for a background.
-fn put_colour(buffer: &mut [u8], at: usize, kind: u8, number: u64) -> usize
-    requires { at + 9 ≤ length buffer.old }
-    ensures written { Written buffer.old at buffer.new result (colour kind number) }
-    ensures upper_bound { result ≤ at + 9 }
+// Appends a colour, unless it is the terminal's default; `kind` is the digit 3 (51) for a foreground, 4 (52) for a background.
+#[tactic(auto, unfolding(crate::specs::SgrExtra::colour))]
+fn put_colour<const N: usize>(text: &mut ArrayVec<u8, N>, kind: u8, number: u64)
+    requires { array_vec_len text.old + 9 ≤ N }
+    ensures written { text.new.items ≡ text.old.items ++ colour kind number }
+    ensures upper_bound { array_vec_len text.new ≤ array_vec_len text.old + 9 }
 {
-    if number == 0 {
-        return at;
+    if number != 0 {
+        put_all(text, &[b';', kind, b'8', b';', b'5', b';']);
+        put_decimal(text, number);
     }
-    let next = put_all(buffer, at, &[59, kind, 56, 59, 53, 59]);
-    put_decimal(buffer, next, number)
 }
 
-// Writes both colours and the end of the sequence.
-fn put_colours(buffer: &mut [u8], at: usize, cell: u64) -> usize
-    requires { at + 19 ≤ length buffer.old }
-    ensures fact { let colours = colour 51 (cell_from cell).foreground ++ (colour 52 (cell_from cell).background ++ (109 ∷ [])) in
-        Written buffer.old at buffer.new result colours }
-    ensures upper_bound { result ≤ at + 19 }
+// Appends the sequence of a cell, at most 40 bytes.
+#[tactic(auto, unfolding(crate::specs::SgrExtra::sgr))]
+pub fn put_style<const N: usize>(text: &mut ArrayVec<u8, N>, cell: u64)
+    requires { array_vec_len text.old + 40 ≤ N }
+    ensures written { text.new.items ≡ text.old.items ++ sgr cell }
+    ensures upper_bound { array_vec_len text.new ≤ array_vec_len text.old + 40 }
 {
-    let next = put_colour(buffer, at, 51, cell::foreground(cell));
-    let end = put_colour(buffer, next, 52, cell::background(cell));
-    put(buffer, end, 109)
-}
-
-// Writes the sequence of a cell, at most 40 bytes.
-pub fn put_style(buffer: &mut [u8], at: usize, cell: u64) -> usize
-    requires { at + 40 ≤ length buffer.old }
-    ensures written { Written buffer.old at buffer.new result (sgr cell) }
-    ensures upper_bound { result ≤ at + 40 }
-{
-    let start = put_all(buffer, at, &[27, 91, 48]);
-    let next = put_codes(buffer, start, cell::modifiers(cell));
-    put_colours(buffer, next, cell)
+    put_all(text, b"\x1b[0");
+    put_codes(text, cell::modifiers(cell));
+    put_colour(text, b'3', cell::foreground(cell));
+    put_colour(text, b'4', cell::background(cell));
+    text.push(b'm');
 }

@@ -1,9 +1,12 @@
 -- The loop that changes each entry of a list by another list's entry at its index.
-use Prim.Native.Nat.{ℕ, ◌+◌, ◌<◌, ◌≤◌}
+use Prim.Native.Nat.{ℕ, ◌+◌, ◌<◌, ◌≤◌, min}
 use mathlib.Core.Path.{◌≡◌, refl, sym, ap, ◌∙◌}
+use mathlib.Core.Bool.{Bool, true, false}
 use mathlib.Core.List.{List, [], ◌∷◌, ◌++◌, append-nil}
 use native.Mathlib.Numerals.{add-one}
 use native.Mathlib.Omega.{arith}
+use borrow.Author.Tests.{ltb-true, ltb-false}
+use lib.Dec.{ltb}
 use lib.ListN.{length, get_or, set, take, drop, length-set, take-append-drop, drop_of_length-le}
 use lib.Seq.{take_all, take-suc-set, drop-set-lt, drop-cons, append_snoc}
 use Rattle.preview_sheet.specs.WidthsExtra.{changed_by}
@@ -61,4 +64,12 @@ module _ (f : ℕ → ℕ → ℕ) (old others : List ℕ) where
     pub changing_goes : i < length new → i < length others → (v : ℕ) → v ≡ f (get_or new i 0) (get_or others i 0) → Changing f old others (set new i v) (i + 1)
     changing_goes h k v e = rw e (changing_step h k)
 
-pub ruleset changing = (changing_starts, changing_length, changing_goes, changing_ends, changing_stops)
+    -- the shorter list has ended
+    pub changing_done : min (length others) (length old) ≤ i → new ≡ changed_by f old others
+    changing_done h = go (ltb i (length new)) (ltb-true i (length new)) (ltb-false i (length new))
+      where
+        go : (t : Bool) → (t ≡ true → i < length new) → (t ≡ false → length new ≤ i) → new ≡ changed_by f old others
+        go true e g = changing_stops (omega (arith, e refl, c.kept))
+        go false e g = changing_ends (g refl)
+
+pub ruleset changing = (changing_starts, changing_length, changing_goes)

@@ -27,8 +27,8 @@ use Rattle.buffer.specs.Drawing.{Drawing, over, style_at}
 use Rattle.buffer.proofs.Drawn.{drawn-at}
 use Rattle.refuse.specs.declared.Refusal.{Refusal}
 use Rattle.refuse.specs.declared.Refusal.TheVariants.{TextHeads}
-use Rattle.refuse.specs.declared.Verdict.{Verdict}
-use Rattle.refuse.specs.declared.Verdict.TheVariants.{Accepted, Refused}
+use Rattle.std.specs.Prelude.{Ok, Err}
+use Rattle.refuse.specs.Refusal.{Verdict}
 use Rattle.refuse.specs.Causes.{most_accepted, screen_causes, text_causes, text_head_wrong, text_heads_wrong}
 use Rattle.refuse.proofs.Calls.{no_cause}
 use Rattle.wrapping.specs.declared.Rule.{Rule}
@@ -211,12 +211,12 @@ module _ (o : Opening) (first : ℕ) (styles titles text : List ℕ) (d : DrawnN
 
 -- ---- a page that is refused
 
-by_verdict : (v : Verdict) (P : Type 0) → (v ≡ Accepted → P) → ((why : Refusal) → v ≡ Refused why → P) → P
-by_verdict Accepted P accepted refused = accepted refl
-by_verdict (Refused why) P accepted refused = refused why refl
+by_verdict : (v : Verdict) (P : Type 0) → (v ≡ Ok tt → P) → ((why : Refusal) → v ≡ Err why → P) → P
+by_verdict (Ok _) P accepted refused = accepted refl
+by_verdict (Err why) P accepted refused = refused why refl
 
 -- if the text is refused and the frame isn't, the frame keeps the symbols of the inner area
-module _ (i : Call) (framed : frame.verdict_of (frame_call i) ≡ Accepted) (some : is_empty (inner_area i) ≡ false)
+module _ (i : Call) (framed : frame.verdict_of (frame_call i) ≡ Ok tt) (some : is_empty (inner_area i) ≡ false)
     (column row : ℕ) (within : contains (inner_area i) column row ≡ true) where
   abbrev under : Drawing
   under = over (met i) (styled (style_at i.styles i.notice.style))

@@ -16,7 +16,6 @@ use lib.ListN.{length, replicate}
 use Rattle.text.specs.declared.AmbiguousWidth.{AmbiguousWidth}
 use Rattle.cell.specs.Cell.{blank_cell}
 use Rattle.refuse.specs.declared.Refusal.TheVariants.{TextLength, TextHeads, Titles, Symbol}
-use Rattle.refuse.specs.declared.Verdict.TheVariants.{Accepted}
 use Rattle.refuse.specs.Causes.{most_accepted, screen_causes, text_causes, titles_wrong}
 use Rattle.refuse.proofs.Calls.{no_cause}
 use Rattle.block.specs.Causes.{block_symbols, border_symbols}
@@ -25,7 +24,6 @@ use Rattle.check_block.specs.Causes.{frame_causes}
 use Rattle.line_composer.specs.declared.Wrap.{Wrap}
 use Rattle.line_composer.specs.declared.Wrap.TheVariants.{On}
 use Rattle.measure_text.specs.Measures.{lines_at, line_count}
-use Rattle.inner.specs.declared.InnerAnswer.TheVariants.{Area}
 use Rattle.inner.specs.Call as inner
 use Rattle.measure.specs.LineWidth as width
 use Rattle.measure.specs.LineCount as count
@@ -38,7 +36,7 @@ use Rattle.pages.proofs.Screen.{screen_sized, inner-some}
 use Rattle.pages.proofs.Reached.{few_columns, left-lines, reached_16}
 use Rattle.flat.specs.FlatExtra.{ambiguous_named, shadow_named, block_from, notice_from, wrap_named}
 use Rattle.preview_file.specs.declared.Opening.{Opening}
-use Rattle.preview_sheet.specs.declared.Fitting.TheVariants.{Fits}
+use Rattle.std.specs.Prelude.{Ok}
 use Rattle.preview_sheet.specs.PagingExtra.{pages_from}
 use Rattle.preview_sheet.specs.SheetExtra.{call_at, nothing_set, lines_in, met_of, fitting_of}
 
@@ -77,7 +75,7 @@ module _ (o : Opening) (styles titles text cells : List ℕ) where
   first_shown page = first_of o.text.scroll (inner_area notice_call).height page
 
   module _ (w : WrappedNotice notice_call) where
-    inner-answered : inner.answer_of (inner.call_of (block_from o.block) titles (met_of o)) ≡ Area (inner_area notice_call)
+    inner-answered : inner.answer_of (inner.call_of (block_from o.block) titles (met_of o)) ≡ Ok (inner_area notice_call)
     unfolding inner.answer_of inner.verdict_of inner.causes_of frame_causes verdict_of causes_of screen_causes text_causes inner_area inner_area_of notice_from
     inner-answered =
         let causes = causes_of most_accepted notice_call in
@@ -87,7 +85,7 @@ module _ (o : Opening) (styles titles text cells : List ℕ) where
     abbrev count_call : count.Call
     count_call = count.call_of text (ambiguous_named o.text.ambiguous) [] (block_from nothing_set) (wrap_named o.text) (inner_area notice_call).width
 
-    count-accepted : count.verdict_of count_call ≡ Accepted
+    count-accepted : count.verdict_of count_call ≡ Ok tt
     unfolding count.verdict_of count.causes_of width.causes_of frame_causes titles_wrong block_symbols border_symbols block_from shadow_named verdict_of causes_of screen_causes text_causes
     count-accepted =
         let causes = causes_of most_accepted notice_call in
@@ -101,7 +99,7 @@ module _ (o : Opening) (styles titles text cells : List ℕ) where
         ∙ sym (left-lines notice_call w)
 
     pub same_measure : fitting_of o titles text
-        ≡ Fits (record { width = (inner_area notice_call).width; height = (inner_area notice_call).height; lines = length (composed_lines notice_call) })
+        ≡ Ok (record { width = (inner_area notice_call).width; height = (inner_area notice_call).height; lines = length (composed_lines notice_call) })
     unfolding fitting_of lines_in count.answer_of
     same_measure = rw (inner-answered, count-accepted, lines-counted) refl
 

@@ -1,6 +1,6 @@
+pub mod PageCount
 pub mod Changing
 pub mod Covered
 pub mod DemandThree
-pub mod PageCount
 pub mod Sheets
 pub mod Widening

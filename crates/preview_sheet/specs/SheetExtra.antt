@@ -1,22 +1,17 @@
 -- Not in the papers: the notice of an opening of the packed form, as `preview` draws and measures it.
-use Rattle.std.specs.Prelude.{ℕ, Bool, cond, List, [], pos}
+use Rattle.std.specs.Prelude.{ℕ, Result, Ok, Err, Bool, cond, List, [], pos}
 use Rattle.text.specs.declared.AmbiguousWidth.{AmbiguousWidth}
 use Rattle.layout.specs.declared.Rect.{Rect}
 use Rattle.layout.specs.Rect.{meet}
 use Rattle.buffer.specs.Drawing.{area_of}
 use Rattle.buffer.specs.Screen.{screen_of}
-use Rattle.refuse.specs.Refusal.{refusal_number}
-use Rattle.inner.specs.declared.InnerAnswer.{InnerAnswer}
-use Rattle.inner.specs.declared.InnerAnswer.TheVariants.{Area, Refused as NoArea}
+use Rattle.refuse.specs.declared.Refusal.{Refusal}
 use Rattle.inner.specs.Call.{call_of as innerCall, answer_of as innerAnswer}
 use Rattle.line_composer.specs.declared.Wrap.{Wrap}
-use Rattle.measure.specs.declared.MeasureAnswer.{MeasureAnswer}
-use Rattle.measure.specs.declared.MeasureAnswer.TheVariants.{Value, Refused as NoValue}
 use Rattle.measure.specs.LineCount.{call_of as count_call, answer_of as countAnswer}
 use Rattle.paragraph.specs.declared.Notice.{Notice}
 use Rattle.draw_frame.specs.Call.{answer_of as frameAnswer}
-use Rattle.draw_text.specs.declared.DrawAnswer.{DrawAnswer}
-use Rattle.draw_text.specs.declared.DrawAnswer.TheVariants.{Refused as NotDrawn}
+use Rattle.render_lines.specs.declared.DrawCounts.{DrawCounts}
 use Rattle.draw_text.specs.Call.{answer_of as textAnswer}
 use Rattle.draw_notice.specs.Call.{Call, call_of}
 use Rattle.draw_notice.specs.Pair.{frame_call, text_call}
@@ -25,8 +20,7 @@ use Rattle.flat.specs.declared.FlatBlock.{FlatBlock}
 use Rattle.flat.specs.FlatExtra.{ambiguous_named, area_from, block_from, notice_from, wrap_named}
 use Rattle.preview_file.specs.declared.Opening.{Opening}
 use Rattle.preview_sheet.specs.WidthsExtra.{widened_block}
-use Rattle.preview_sheet.specs.declared.Fitting.{Fitting}
-use Rattle.preview_sheet.specs.declared.Fitting.TheVariants.{Fits, Refused}
+use Rattle.preview_sheet.specs.declared.Measure.{Measure}
 
 -- the notice with scroll row `first`
 abbrev pub notice_at : Opening → ℕ → Notice
@@ -38,11 +32,11 @@ call_at o first styles titles text cells =
     call_of o.columns o.rows cells styles text titles (area_from o.area) (notice_at o first)
 
 -- the answer of both calls: that of the text, or why the frame is refused
-abbrev pub answered_both : InnerAnswer → DrawAnswer → DrawAnswer
-answered_both (Area inner) drawn = drawn
-answered_both (NoArea why) drawn = NotDrawn why
+abbrev pub answered_both : Result Rect Refusal → Result DrawCounts Refusal → Result DrawCounts Refusal
+answered_both (Ok inner) drawn = drawn
+answered_both (Err why) drawn = Err why
 
-unfoldable pub pair_answer : Call → DrawAnswer
+unfoldable pub pair_answer : Call → Result DrawCounts Refusal
 pair_answer call = answered_both (frameAnswer (frame_call call)) (textAnswer (text_call call))
 
 -- the opening with its ambiguous glyphs read wide, if so asked
@@ -115,22 +109,22 @@ nothing_set =
     }
 
 -- count of lines at an area's width, given the answer of `line_count`
-abbrev pub fitted : Rect → MeasureAnswer → Fitting
-fitted inside (Value lines) = Fits (record { width = inside.width; height = inside.height; lines = lines })
-fitted inside (NoValue why) = Refused (refusal_number why)
+abbrev pub fitted : Rect → Result ℕ Refusal → Result Measure Refusal
+fitted inside (Ok lines) = Ok (record { width = inside.width; height = inside.height; lines = lines })
+fitted inside (Err why) = Err why
 
-unfoldable pub lines_in : AmbiguousWidth → Wrap → List ℕ → Rect → Fitting
+unfoldable pub lines_in : AmbiguousWidth → Wrap → List ℕ → Rect → Result Measure Refusal
 lines_in ambiguous wrap text inside =
     fitted inside (countAnswer (count_call text ambiguous [] (block_from nothing_set) wrap inside.width))
 
 -- size and lines of the inner area, given the answer of `inner` on the intersection of area and screen
-abbrev pub measured_in : AmbiguousWidth → Wrap → List ℕ → InnerAnswer → Fitting
-measured_in ambiguous wrap text (Area inside) = lines_in ambiguous wrap text inside
-measured_in ambiguous wrap text (NoArea why) = Refused (refusal_number why)
+abbrev pub measured_in : AmbiguousWidth → Wrap → List ℕ → Result Rect Refusal → Result Measure Refusal
+measured_in ambiguous wrap text (Ok inside) = lines_in ambiguous wrap text inside
+measured_in ambiguous wrap text (Err why) = Err why
 
 abbrev pub met_of : Opening → Rect
 met_of o = meet (area_from o.area) (area_of (screen_of o.columns o.rows))
 
-unfoldable pub fitting_of : Opening → List ℕ → List ℕ → Fitting
+unfoldable pub fitting_of : Opening → List ℕ → List ℕ → Result Measure Refusal
 fitting_of o titles text =
     measured_in (ambiguous_named o.text.ambiguous) (wrap_named o.text) text (innerAnswer (innerCall (block_from o.block) titles (met_of o)))

@@ -16,11 +16,12 @@ ghost use Rattle.flat.specs.FlatExtra.{area_from, block_from};
 ghost use Rattle.preview_sheet.specs.SheetExtra.{notice_at, call_at, pair_answer, opening_read, widened_opening, nothing_set, lines_in, fitting_of};
 
 use buffer::Screen;
-use flat::{FlatArea, FlatBlock};
+use flat::{FlatArea, FlatBlock, FlatText};
 use notice::{
-    AmbiguousWidth, Block, DrawAnswer, InnerAnswer, MeasureAnswer, Notice, PagesAnswer, Rect, Wrap,
+    AmbiguousWidth, Block, DrawCounts, Notice, PageCounts, Rect, Wrap,
 };
 use preview_file::Opening;
+use refuse::Refusal;
 
 // Size of a notice's inner area, and count of its lines.
 #[derive(Clone, Copy)]
@@ -30,35 +31,29 @@ pub struct Measure {
     pub lines: u32,
 }
 
-// A measure, or the number of a refusal.
-#[derive(Clone, Copy)]
-pub enum Fitting {
-    Fits(Measure),
-    Refused(u32),
-}
-
 // Returns the notice with scroll row `first`.
 fn notice_at(opening: Opening, first: u16) -> Notice
     ensures { result ≡ notice_at opening first }
 {
-    let block = opening.block;
-    let mut settings = opening.text;
-    settings.scroll = first;
-    settings.notice(block)
+    let settings = FlatText {
+        scroll: first,
+        ..opening.text
+    };
+    settings.notice(opening.block)
 }
 
 // Returns the opening with its ambiguous glyphs read wide, if so asked.
 pub fn read_as(opening: Opening, wide: bool) -> Opening
     ensures { result ≡ opening_read wide opening }
 {
-    let mut settings = opening.text;
-    let mut read = opening;
-    if wide {
-        settings.ambiguous = 2;
-        read.text = settings;
-        return read;
+    if !wide {
+        return opening;
     }
-    read
+    let text = FlatText {
+        ambiguous: 2,
+        ..opening.text
+    };
+    Opening { text, ..opening }
 }
 
 // Returns the opening with the symbols of its block replaced by their widths.
@@ -66,9 +61,7 @@ pub fn widened(opening: Opening) -> Opening
     ensures { result ≡ widened_opening opening }
 {
     let block = widths::widened_block(opening.block);
-    let mut wide = opening;
-    wide.block = block;
-    wide
+    Opening { block, ..opening }
 }
 
 // Returns the answer of `pages` on the notice: all its inputs are checked, and nothing is drawn.
@@ -78,7 +71,7 @@ pub fn checked(
     titles: &[u32],
     text: &[u32],
     cells: &[u64],
-) -> PagesAnswer
+) -> Result<PageCounts, Refusal>
     ensures { let call = call_at opening opening.text.scroll styles.now titles.now text.now cells.now in
         result ≡ pagesAnswer call }
 {
@@ -86,8 +79,8 @@ pub fn checked(
     let settings = opening.text;
     let area = flat_area.area();
     let notice = notice_at(opening, settings.scroll);
-    let columns = opening.columns as u32;
-    let rows = opening.rows as u32;
+    let columns = u32::from(opening.columns);
+    let rows = u32::from(opening.rows);
     notice::pages(columns, rows, cells, styles, text, titles, area, notice)
 }
 
@@ -102,12 +95,12 @@ fn draw_both(
     titles: &[u32],
     area: Rect,
     notice: Notice,
-) -> DrawAnswer
+) -> Result<DrawCounts, Refusal>
     ensures { let call = call_of columns rows cells.old styles.now text.now titles.now area notice in
         (result ≡ pair_answer call) × (cells.new ≡ pair_cells call) }
 {
     let ambiguous = notice.ambiguous;
-    let framed = notice::draw_frame(
+    let inner = notice::draw_frame(
         columns,
         rows,
         cells,
@@ -117,14 +110,9 @@ fn draw_both(
         area,
         notice.style,
         notice.block,
-    );
-    match framed {
-        InnerAnswer::Refused(why) => DrawAnswer::Refused(why),
-        InnerAnswer::Area(inner) => {
-            let settings = notice.text_settings();
-            notice::draw_text(columns, rows, cells, styles, text, inner, settings)
-        }
-    }
+    )?;
+    let settings = notice.text_settings();
+    notice::draw_text(columns, rows, cells, styles, text, inner, settings)
 }
 
 // Fills the cells with `blank` and draws the notice from line `first`.
@@ -136,7 +124,7 @@ pub fn draw(
     titles: &[u32],
     text: &[u32],
     cells: &mut [u64],
-) -> DrawAnswer
+) -> Result<DrawCounts, Refusal>
     ensures { let blanks = replicate (length cells.old) blank in
         let call = call_at opening first styles.now titles.now text.now blanks in
         (result ≡ pair_answer call) × (cells.new ≡ pair_cells call) }
@@ -144,8 +132,8 @@ pub fn draw(
     let flat_area = opening.area;
     let area = flat_area.area();
     let notice = notice_at(opening, first);
-    let columns = opening.columns as u32;
-    let rows = opening.rows as u32;
+    let columns = u32::from(opening.columns);
+    let rows = u32::from(opening.rows);
     cells.fill(blank);
     draw_both(columns, rows, cells, styles, text, titles, area, notice)
 }
@@ -194,32 +182,31 @@ fn met(area: FlatArea, columns: u16, rows: u16) -> Rect
 }
 
 // Counts the lines at an area's width.
-fn lines_in(wrap: Wrap, inside: Rect, text: &[u32], ambiguous: AmbiguousWidth) -> Fitting
+fn lines_in(
+    wrap: Wrap,
+    inside: Rect,
+    text: &[u32],
+    ambiguous: AmbiguousWidth,
+) -> Result<Measure, Refusal>
     ensures { result ≡ lines_in ambiguous wrap text.now inside }
 {
-    match notice::line_count(text, ambiguous, &[0u32; 0], no_block(), wrap, inside.width) {
-        MeasureAnswer::Value(lines) => Fitting::Fits(Measure {
-            width: inside.width,
-            height: inside.height,
-            lines,
-        }),
-        MeasureAnswer::Refused(why) => Fitting::Refused(why.number()),
-    }
+    let lines = notice::line_count(text, ambiguous, &[0u32; 0], no_block(), wrap, inside.width)?;
+    Ok(Measure {
+        width: inside.width,
+        height: inside.height,
+        lines,
+    })
 }
 
 // Returns the size of the inner area, and the count of lines at its width.
-pub fn measured(opening: Opening, titles: &[u32], text: &[u32]) -> Fitting
+pub fn measured(opening: Opening, titles: &[u32], text: &[u32]) -> Result<Measure, Refusal>
     ensures { result ≡ fitting_of opening titles.now text.now }
 {
     let area = opening.area;
     let flat_block = opening.block;
     let settings = opening.text;
     let met = met(area, opening.columns, opening.rows);
-    match notice::inner(flat_block.block(), titles, met) {
-        InnerAnswer::Area(inside) => {
-            let ambiguous = flat::ambiguous_named(settings.ambiguous);
-            lines_in(settings.named_wrap(), inside, text, ambiguous)
-        }
-        InnerAnswer::Refused(why) => Fitting::Refused(why.number()),
-    }
+    let inside = notice::inner(flat_block.block(), titles, met)?;
+    let ambiguous = flat::ambiguous_named(settings.ambiguous);
+    lines_in(settings.named_wrap(), inside, text, ambiguous)
 }

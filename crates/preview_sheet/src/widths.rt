@@ -21,27 +21,27 @@ fn widened_record(word: u32, ambiguous: AmbiguousWidth) -> u32
 pub fn widen(records: &[u32], ambiguous: AmbiguousWidth, wide: &mut [u32])
     ensures { wide.new ≡ changed_by (λ old word. widened ambiguous word) wide.old records.now }
 {
-    let mut i = 0;
-    while i < records.len() && i < wide.len() {
+    for i in 0..records.len().min(wide.len()) {
         wide[i] = widened_record(records[i], ambiguous);
-        i += 1;
     }
 }
 
 // Returns the block with all its symbols replaced by 1, the width of each.
-pub fn widened_block(mut block: FlatBlock) -> FlatBlock
+pub fn widened_block(block: FlatBlock) -> FlatBlock
     ensures { result ≡ widened_block block }
 {
-    block.top_left = 1;
-    block.top_right = 1;
-    block.bottom_left = 1;
-    block.bottom_right = 1;
-    block.vertical_left = 1;
-    block.vertical_right = 1;
-    block.horizontal_top = 1;
-    block.horizontal_bottom = 1;
-    block.shadow_symbol = 1;
-    block
+    FlatBlock {
+        top_left: 1,
+        top_right: 1,
+        bottom_left: 1,
+        bottom_right: 1,
+        vertical_left: 1,
+        vertical_right: 1,
+        horizontal_top: 1,
+        horizontal_bottom: 1,
+        shadow_symbol: 1,
+        ..block
+    }
 }
 
 // Returns a cell with the symbol of `wide`, a width, in the bits that drawing never touches.
@@ -55,9 +55,7 @@ fn with_width(cell: u64, wide: u64) -> u64
 pub fn mark(cells: &mut [u64], wide: &[u64])
     ensures { cells.new ≡ changed_by with_width cells.old wide.now }
 {
-    let mut i = 0;
-    while i < cells.len() && i < wide.len() {
+    for i in 0..wide.len().min(cells.len()) {
         cells[i] = with_width(cells[i], wide[i]);
-        i += 1;
     }
 }

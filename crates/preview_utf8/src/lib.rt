@@ -1,45 +1,29 @@
 // Writes a symbol as UTF-8. One that can't be shown is replaced, so that no control character reaches the terminal.
 #![tactic(auto)]
 
-ghost use Rattle.std.specs.Prelude.{◌≡◌, ◌+◌, ◌<◌, ◌≤◌, length};
-ghost use Rattle.append_bytes.specs.WrittenExtra.{Written};
-ghost use Rattle.preview_utf8.specs.Utf8Extra.{in_range, hidden, shown, following, encoded, utf8};
+ghost use Rattle.std.specs.Prelude.{◌≡◌, ◌+◌, ◌<◌, ◌≤◌, ◌++◌};
+ghost use Rattle.arrayvec.specs.ArrayVec.{array_vec_len};
+ghost use Rattle.preview_utf8.specs.Utf8Extra.{hidden, shown, following, encoded, utf8};
 
-use append_bytes::{put, put_2};
-
-fn is_in_range(low: u64, high: u64, number: u64) -> bool
-    ensures { result ≡ in_range low high number }
-{
-    if low <= number {
-        return number <= high;
-    }
-    false
-}
+use arrayvec::ArrayVec;
 
 // Whether a symbol is a control character, a surrogate or beyond the last code point.
+#[tactic(auto, unfolding(crate::specs::Utf8Extra::hidden, crate::specs::Utf8Extra::in_range))]
 fn is_hidden(symbol: u64) -> bool
     ensures { result ≡ hidden symbol }
 {
-    if symbol < 32 {
-        return true;
-    }
-    if is_in_range(127, 159, symbol) {
-        return true;
-    }
-    if is_in_range(55296, 57343, symbol) {
-        return true;
-    }
-    1114111 < symbol
+    symbol < 32
+        || (127..=159).contains(&symbol)
+        || (55296..=57343).contains(&symbol)
+        || 1114111 < symbol
 }
 
 // Returns the symbol, or the replacement character if it can't be shown.
+#[tactic(auto, unfolding(crate::specs::Utf8Extra::shown, crate::specs::Utf8Extra::hidden))]
 fn shown_symbol(symbol: u64) -> u64
     ensures { (result ≡ shown symbol) × (result < 1114112) }
 {
-    if is_hidden(symbol) {
-        return 65533;
-    }
-    symbol
+    if is_hidden(symbol) { 65533 } else { symbol }
 }
 
 // Returns the continuation byte that holds the lowest six bits.
@@ -49,37 +33,41 @@ fn following(number: u64) -> u8
     (128 + number % 64) as u8
 }
 
-// Writes a code point.
-fn put_code_point(buffer: &mut [u8], at: usize, symbol: u64) -> usize
-    requires at_in_bounds { at + 4 ≤ length buffer.old }
+// Appends a code point.
+#[tactic(auto, unfolding(crate::specs::Utf8Extra::encoded))]
+fn put_code_point<const N: usize>(text: &mut ArrayVec<u8, N>, symbol: u64)
+    requires room { array_vec_len text.old + 4 ≤ N }
     requires symbol_bound { symbol < 1114112 }
-    ensures written { Written buffer.old at buffer.new result (encoded symbol) }
-    ensures upper_bound { result ≤ at + 4 }
+    ensures written { text.new.items ≡ text.old.items ++ encoded symbol }
+    ensures upper_bound { array_vec_len text.new ≤ array_vec_len text.old + 4 }
 {
     if symbol < 128 {
-        return put(buffer, at, symbol as u8);
+        text.push(symbol as u8);
+        return;
     }
     if symbol < 2048 {
-        return put_2(buffer, at, (192 + symbol / 64) as u8, following(symbol));
+        text.push((192 + symbol / 64) as u8);
+        text.push(following(symbol));
+        return;
     }
     if symbol < 65536 {
-        let next = put(buffer, at, (224 + symbol / 4096) as u8);
-        return put_2(buffer, next, following(symbol / 64), following(symbol));
+        text.push((224 + symbol / 4096) as u8);
+        text.push(following(symbol / 64));
+        text.push(following(symbol));
+        return;
     }
-    let next = put_2(
-        buffer,
-        at,
-        (240 + symbol / 262144) as u8,
-        following(symbol / 4096),
-    );
-    put_2(buffer, next, following(symbol / 64), following(symbol))
+    text.push((240 + symbol / 262144) as u8);
+    text.push(following(symbol / 4096));
+    text.push(following(symbol / 64));
+    text.push(following(symbol));
 }
 
-// Writes a symbol's bytes into a buffer and returns the offset of the next byte.
-pub fn put_symbol(buffer: &mut [u8], at: usize, symbol: u64) -> usize
-    requires { at + 4 ≤ length buffer.old }
-    ensures written { Written buffer.old at buffer.new result (utf8 symbol) }
-    ensures upper_bound { result ≤ at + 4 }
+// Appends a symbol's bytes, at most four.
+#[tactic(auto, unfolding(crate::specs::Utf8Extra::utf8))]
+pub fn put_symbol<const N: usize>(text: &mut ArrayVec<u8, N>, symbol: u64)
+    requires { array_vec_len text.old + 4 ≤ N }
+    ensures written { text.new.items ≡ text.old.items ++ utf8 symbol }
+    ensures upper_bound { array_vec_len text.new ≤ array_vec_len text.old + 4 }
 {
-    put_code_point(buffer, at, shown_symbol(symbol))
+    put_code_point(text, shown_symbol(symbol));
 }

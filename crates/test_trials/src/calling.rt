@@ -4,7 +4,7 @@ ghost use Rattle.preview_file.specs.FileExtra.{most_styles, most_titles, most_te
 
 use crate::calls::{Call, draw, next_call};
 use crate::report;
-use preview_file::{Opening, Parsed};
+use preview_file::Opening;
 use read_input::read_full;
 use std::io;
 use std::io::Read;
@@ -53,7 +53,7 @@ fn answer(
 ) -> io::Result<u32>
     requires { (most_styles ≤ length styles.old) × (most_titles ≤ length titles.old) × (most_text ≤ length text.old) }
 {
-    let Parsed::Good(opening) = preview_file::read(input, styles, titles, text) else {
+    let Ok(opening) = preview_file::read(input, styles, titles, text) else {
         return Ok(99);
     };
     let style_count = at_most(opening.styles, styles.len());

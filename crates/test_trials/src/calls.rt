@@ -1,18 +1,11 @@
 // The calls under test.
 ghost use Rattle.std.specs.Prelude.{◌≡◌};
-ghost use Rattle.draw_block.specs.Call.{block_answer_number};
-ghost use Rattle.inner.specs.Call.{inner_answer_number};
-ghost use Rattle.draw_text.specs.Call.{draw_answer_number};
-ghost use Rattle.count_pages.specs.Call.{pages_answer_number};
+ghost use Rattle.refuse.specs.Refusal.{verdict_number};
 
 use crate::page_reading::read_back;
-use draw_block::BlockAnswer;
-use draw_text::DrawAnswer;
-use inner::InnerAnswer;
-use notice::PagesAnswer;
-use num::byte_to_u32;
 use preview_file::Opening;
 use read_input::read_full;
+use refuse::Refusal;
 use std::io;
 use std::io::Read;
 
@@ -29,7 +22,7 @@ pub struct Call {
 
 // Returns a two-byte number, high byte first.
 fn number(high: u8, low: u8) -> usize {
-    (byte_to_u32(high) * 256 + byte_to_u32(low)) as usize
+    usize::from(u16::from_be_bytes([high, low]))
 }
 
 // Reads the next call of a file.
@@ -38,62 +31,32 @@ pub fn next_call(file: &mut impl Read) -> io::Result<Call> {
     read_full(file, &mut bytes)?;
     Ok(Call {
         kind: bytes[0],
-        answer: byte_to_u32(bytes[1]),
+        answer: u32::from(bytes[1]),
         cells: number(bytes[2], bytes[3]),
         records: number(bytes[4], bytes[5]),
         bytes: number(bytes[6], bytes[7]),
     })
 }
 
-// Returns the number of the refusal cause, or 0 if the block is drawn.
-fn block_number(framed: BlockAnswer) -> u32
-    ensures { result ≡ block_answer_number framed }
+// Returns the number of the refusal cause, or 0 if the call is accepted.
+fn answer_number<A: Drop>(answer: Result<A, Refusal>) -> u32
+    ensures { result ≡ verdict_number answer }
 {
-    match framed {
-        BlockAnswer::Done => 0,
-        BlockAnswer::Refused(why) => why.number(),
-    }
-}
-
-// Returns the number of the refusal cause, or 0 if the frame is drawn.
-fn frame_number(framed: InnerAnswer) -> u32
-    ensures { result ≡ inner_answer_number framed }
-{
-    match framed {
-        InnerAnswer::Area(_) => 0,
-        InnerAnswer::Refused(why) => why.number(),
-    }
-}
-
-// Returns the number of the refusal cause, or 0 if the text is drawn.
-fn text_number(drawn: DrawAnswer) -> u32
-    ensures { result ≡ draw_answer_number drawn }
-{
-    match drawn {
-        DrawAnswer::Counts(_) => 0,
-        DrawAnswer::Refused(why) => why.number(),
-    }
-}
-
-// Returns the number of the refusal cause, or 0 if the pages are counted.
-fn pages_number(counted: PagesAnswer) -> u32
-    ensures { result ≡ pages_answer_number counted }
-{
-    match counted {
-        PagesAnswer::Pages(_) => 0,
-        PagesAnswer::Refused(why) => why.number(),
+    match answer {
+        Ok(_) => 0,
+        Err(why) => u32::from(why),
     }
 }
 
 // Draws a block.
 fn draw_block(opening: Opening, styles: &[u64], titles: &[u32], cells: &mut [u64]) -> u32 {
-    let columns = opening.columns as u32;
-    let rows = opening.rows as u32;
+    let columns = u32::from(opening.columns);
+    let rows = u32::from(opening.rows);
     let flat_area = opening.area;
     let flat_block = opening.block;
     let settings = opening.text;
     let ambiguous = flat::ambiguous_named(settings.ambiguous);
-    block_number(draw_block::draw_block(
+    answer_number(draw_block::draw_block(
         columns,
         rows,
         cells,
@@ -107,13 +70,13 @@ fn draw_block(opening: Opening, styles: &[u64], titles: &[u32], cells: &mut [u64
 
 // Draws a frame.
 fn draw_frame(opening: Opening, styles: &[u64], titles: &[u32], cells: &mut [u64]) -> u32 {
-    let columns = opening.columns as u32;
-    let rows = opening.rows as u32;
+    let columns = u32::from(opening.columns);
+    let rows = u32::from(opening.rows);
     let flat_area = opening.area;
     let flat_block = opening.block;
     let settings = opening.text;
     let ambiguous = flat::ambiguous_named(settings.ambiguous);
-    frame_number(draw_frame::draw_frame(
+    answer_number(draw_frame::draw_frame(
         columns,
         rows,
         cells,
@@ -128,13 +91,13 @@ fn draw_frame(opening: Opening, styles: &[u64], titles: &[u32], cells: &mut [u64
 
 // Draws a text into the opening's area.
 fn draw_text(opening: Opening, styles: &[u64], text: &[u32], cells: &mut [u64]) -> u32 {
-    let columns = opening.columns as u32;
-    let rows = opening.rows as u32;
+    let columns = u32::from(opening.columns);
+    let rows = u32::from(opening.rows);
     let flat_area = opening.area;
     let flat = opening.text;
     let settings = flat.text_settings();
     let area = flat_area.area();
-    text_number(draw_text::draw_text(columns, rows, cells, styles, text, area, settings))
+    answer_number(draw_text::draw_text(columns, rows, cells, styles, text, area, settings))
 }
 
 // Runs a call of a kind and returns its number.
@@ -157,7 +120,7 @@ pub fn draw(
         return Ok(draw_text(opening, styles, text, cells));
     }
     if kind == 4 {
-        return Ok(pages_number(preview_sheet::checked(opening, styles, titles, text, cells)));
+        return Ok(answer_number(preview_sheet::checked(opening, styles, titles, text, cells)));
     }
     Ok(draw_block(opening, styles, titles, cells))
 }

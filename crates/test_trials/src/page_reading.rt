@@ -1,15 +1,13 @@
 // Draws a notice page by page and reads each page back.
 use crate::reading::{next_solid, read_area};
 use buffer::Screen;
-use draw_text::DrawAnswer;
-use inner::InnerAnswer;
 use layout::Rect;
 use line_composer::Wrap;
 use preview_file::Opening;
 use preview_sheet::paging;
 use render_lines::DrawCounts;
 use std::io;
-use tally::{TallyAnswer, TallyCounts};
+use tally::TallyCounts;
 use test_print::print_number;
 use test_texts::numbers::step;
 
@@ -51,7 +49,7 @@ fn read_page(
     text: &[u32],
     cells: &mut [u64],
 ) -> Sums {
-    let DrawAnswer::Counts(rows) = preview_sheet::draw(
+    let Ok(rows) = preview_sheet::draw(
         opening,
         first,
         cell::blank(),
@@ -84,27 +82,19 @@ fn read_pages(
         read: 0,
     };
     let mut first = 0;
-    let mut number = 0;
-    while number < pages {
+    for _ in 0..pages {
         sums = read_page(opening, inside, sums, first, styles, titles, text, cells);
         first = paging::next_first(first, inside.height);
-        number += 1;
     }
     sums
 }
 
 // Whether rows and glyph counts equal the tally's, and no solid glyph of the text is left unread.
 fn agrees(sums: Sums, counts: TallyCounts, text: &[u32]) -> bool {
-    if counts.lines != sums.rows {
-        return false;
-    }
-    if counts.placed != sums.placed {
-        return false;
-    }
-    if counts.clipped != sums.clipped {
-        return false;
-    }
-    next_solid(text, sums.read) == text.len()
+    counts.lines == sums.rows
+        && counts.placed == sums.placed
+        && counts.clipped == sums.clipped
+        && next_solid(text, sums.read) == text.len()
 }
 
 // Returns 0 if the pages of a notice show its solid glyphs in order, else 98. Prints the numbers of pages and of glyphs placed.
@@ -124,14 +114,14 @@ pub fn read_back(
         rows: opening.rows,
     };
     let met = flat_area.area().intersection(screen.area());
-    let InnerAnswer::Area(inside) = inner::inner(flat_block.block(), titles, met) else {
+    let Ok(inside) = inner::inner(flat_block.block(), titles, met) else {
         return Ok(98);
     };
     let Wrap::On { trim } = settings.named_wrap() else {
         return Ok(98);
     };
     let ambiguous = flat::ambiguous_named(settings.ambiguous);
-    let TallyAnswer::Counted(counts) = tally::tally(text, ambiguous, inside.width, trim) else {
+    let Ok(counts) = tally::tally(text, ambiguous, inside.width, trim) else {
         return Ok(98);
     };
     let pages = paging::page_count(counts.lines, 0, inside.height);

@@ -1,6 +1,5 @@
 // Shows the inputs in data/preview as `preview` does, each after a line with its name. examples/preview/cases.py writes them.
 use preview_run::Asked;
-use preview_sheet::paging::Pages;
 use std::fs::File;
 use std::io;
 use std::rt::Files;
@@ -21,7 +20,7 @@ fn plain(rt: &(impl Files + Print), name: &str) -> io::Result<()> {
         Asked {
             wide: false,
             ansi: false,
-            pages: Pages::All,
+            pages: None,
         },
     )
 }
@@ -34,7 +33,7 @@ fn wide(rt: &(impl Files + Print), name: &str) -> io::Result<()> {
         Asked {
             wide: true,
             ansi: false,
-            pages: Pages::All,
+            pages: None,
         },
     )
 }
@@ -47,7 +46,7 @@ fn coloured(rt: &(impl Files + Print), name: &str) -> io::Result<()> {
         Asked {
             wide: false,
             ansi: true,
-            pages: Pages::All,
+            pages: None,
         },
     )
 }
@@ -60,7 +59,7 @@ fn one_page(rt: &(impl Files + Print), name: &str, page: u64) -> io::Result<()> 
         Asked {
             wide: false,
             ansi: false,
-            pages: Pages::Only(page),
+            pages: Some(page),
         },
     )
 }

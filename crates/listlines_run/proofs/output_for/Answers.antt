@@ -1,35 +1,33 @@
 -- `listlines_run::output_for` meets its contract.
-use Rattle.listlines_run.proofs.Printing.{output_refusal, output-lines, refusal_done, lines-done, taken-length}
+use Rattle.listlines_run.proofs.Printing.{flaw-low, output_refusal, output-lines, refusal_done, lines-done, taken-length}
+use Rattle.std.proofs.Common.{◌<◌, ◌≤◌, length, take}
+use Rattle.listlines_input.specs.Input.{most_records}
 use native.Mathlib.Omega.{arith}
 use borrow.Author.Rules.{rules}
 use Rattle.listlines_run.proofs.output_for.Goals as goal
 
 pub put_refused-requires : goal.put_refused-requires
-put_refused-requires c =
-    let printed = output_refusal _ _ c.requires.most_records_in_bounds.1 _ c.answer_to.ensures.0 _ c.in-Refused.is in
-    record { number_bound = printed.low; in_bounds = search rules }
+put_refused-requires g c =
+    let low : c.from.result < 100000 = rw c.from.ensures (flaw-low _) in
+    search rules
 
 pub slice_bounds-put_lines-end : goal.slice_bounds-put_lines-end
-slice_bounds-put_lines-end c = (output-lines _ _ c.requires.most_records_in_bounds.1 _ c.answer_to.ensures.0 _ c.answer_to.ensures.1 _ c.in-Lines.is).fits
+slice_bounds-put_lines-end g c = (output-lines _ _ c.requires.most_records_in_bounds.1 _ c.answer_to.ensures.0 _ c.answer_to.ensures.1 _ c.in-Ok.is).fits
 
-pub slice_bounds-put_lines-end-in-Lines : goal.slice_bounds-put_lines-end-in-Lines
-slice_bounds-put_lines-end-in-Lines c = taken-length _ _ _ (output-lines _ _ c.requires.most_records_in_bounds.1 _ c.answer_to.ensures.0 _ c.answer_to.ensures.1 _ c.in-Lines.is)
+pub slice_bounds-put_lines-end-in-Ok : goal.slice_bounds-put_lines-end-in-Ok
+slice_bounds-put_lines-end-in-Ok g c = taken-length _ _ _ (output-lines _ _ c.requires.most_records_in_bounds.1 _ c.answer_to.ensures.0 _ c.answer_to.ensures.1 _ c.in-Ok.is)
 
 pub put_lines-requires : goal.put_lines-requires
-put_lines-requires c =
-    let printed = output-lines _ _ c.requires.most_records_in_bounds.1 _ c.answer_to.ensures.0 _ c.answer_to.ensures.1 _ c.in-Lines.is in
+put_lines-requires g c =
+    let printed = output-lines _ _ c.requires.most_records_in_bounds.1 _ c.answer_to.ensures.0 _ c.answer_to.ensures.1 _ c.in-Ok.is in
     let taken = taken-length _ _ _ printed in
-    let room = c.requires.most_records_in_bounds_2 in
-    record { entries_len_bound = omega (arith, printed.few, taken); entries_in_bounds = omega (arith, printed.few, taken, room) }
+    let few : length (take c.in-Ok.count c.answer_to.new.list) ≤ most_records = omega (arith, printed.few, taken) in
+    search rules
 
-pub returns-in-Refused : goal.returns-in-Refused
-returns-in-Refused c =
-    let printed = output_refusal _ _ c.requires.most_records_in_bounds.1 _ c.answer_to.ensures.0 _ c.in-Refused.is in
-    let done = refusal_done _ _ _ _ _ printed c.put_refused.ensures in
-    record { prefix_len = done.0; output_after = done.1 }
+pub returns-in-Err : goal.returns-in-Err
+returns-in-Err g c =
+    refusal_done _ _ _ _ _ c.from.ensures (output_refusal _ _ c.requires.most_records_in_bounds.1 _ c.answer_to.ensures.0 _ c.in-Err.is) c.put_refused.ensures
 
-pub returns-in-Lines : goal.returns-in-Lines
-returns-in-Lines c =
-    let printed = output-lines _ _ c.requires.most_records_in_bounds.1 _ c.answer_to.ensures.0 _ c.answer_to.ensures.1 _ c.in-Lines.is in
-    let done = lines-done _ _ _ _ _ _ printed c.put_lines.ensures in
-    record { prefix_len = done.0; output_after = done.1 }
+pub returns-in-Ok : goal.returns-in-Ok
+returns-in-Ok g c =
+    lines-done _ _ _ _ _ (output-lines _ _ c.requires.most_records_in_bounds.1 _ c.answer_to.ensures.0 _ c.answer_to.ensures.1 _ c.in-Ok.is) c.put_lines.ensures

@@ -1,25 +1,19 @@
--- `preview_sgr::put_codes` meets its contract.
-use Rattle.preview_sgr.proofs.Sequences.{coding}
-use borrow.Author.Rules.{rules}
+use Rattle.std.proofs.Common.{ℕ, suc, ◌+◌, ◌-◌, ◌/◌, ◌%◌, ◌<◌, ◌≡◌, List, ◌++◌, sym, ap, ◌∙◌, arith, append_assoc}
+use Rattle.preview_sgr.specs.SgrExtra.{code, codes}
 use Rattle.preview_sgr.proofs.put_codes.Goals as goal
 
-pub loop-number-init : goal.loop-number-init
-loop-number-init c = search (coding, rules)
-
-pub put_code-next-requires : goal.put_code-next-requires
-put_code-next-requires c = search (coding, rules)
-
-pub overflow_add-number : goal.overflow_add-number
-overflow_add-number c = search (coding, rules)
-
-pub loop-number-smaller : goal.loop-number-smaller
-loop-number-smaller c = search (coding, rules)
+-- one more code is written
+one_more : (all middle new : List ℕ) (bits number : ℕ) → number < 10 → middle ++ codes bits number (10 - number) ≡ all
+    → new ≡ middle ++ code (bits % 2) number → new ++ codes (bits / 2) (number + 1) (10 - (number + 1)) ≡ all
+one_more all middle new bits number h before w =
+    let first = code (bits % 2) number in
+    let rest = codes (bits / 2) (number + 1) (10 - (number + 1)) in
+    let e : 10 - number ≡ suc (10 - (number + 1)) = omega arith in
+    let turn : codes bits number (10 - number) ≡ first ++ rest = ap (codes bits number) e in
+    ap (λ text. text ++ rest) w ∙ append_assoc middle first rest ∙ ap (λ codes. middle ++ codes) (sym turn) ∙ before
 
 pub loop-number-preserved : goal.loop-number-preserved
-loop-number-preserved c = search (coding, rules)
-
-pub shape_of-buffer : goal.shape_of-buffer
-shape_of-buffer c = search (coding, rules)
-
-pub returns : goal.returns
-returns c = search (coding, rules)
+loop-number-preserved g c = record {
+  written = one_more _ _ _ _ _ c.loop-number-test.true c.loop-number.invariant.written c.put_code.ensures.written;
+  upper_bound = omega arith;
+}

@@ -3,8 +3,8 @@ use Rattle.preview_sheet.proofs.Sheets.{sheets}
 use borrow.Author.Rules.{rules}
 use Rattle.preview_sheet.proofs.lines_in.Goals as goal
 
-pub returns-in-Value : goal.returns-in-Value
-returns-in-Value c = search (sheets, rules)
+pub returns-in_err-lines : goal.returns-in_err-lines
+returns-in_err-lines c = search (sheets, rules)
 
-pub returns-in-Refused : goal.returns-in-Refused
-returns-in-Refused c = search (sheets, rules)
+pub returns : goal.returns
+returns c = search (sheets, rules)

@@ -1,37 +1,9 @@
--- `preview_file::store::store_styles` meets its contract.
+use Rattle.std.proofs.Common.{rules}
 use Rattle.preview_file.proofs.Storing.{storing}
-use borrow.Author.Rules.{rules}
 use Rattle.preview_file.proofs.store.store_styles.Goals as goal
-
-pub loop-i-init : goal.loop-i-init
-loop-i-init c = search (storing, rules)
-
-pub overflow_mul-i : goal.overflow_mul-i
-overflow_mul-i c = search (storing, rules)
-
-pub overflow_add-from : goal.overflow_add-from
-overflow_add-from c = search (storing, rules)
-
-pub number_8-requires : goal.number_8-requires
-number_8-requires c = search (storing, rules)
-
-pub offset_bounds-styles-i : goal.offset_bounds-styles-i
-offset_bounds-styles-i c = search (storing, rules)
-
-pub bounds-styles-i : goal.bounds-styles-i
-bounds-styles-i c = search (storing, rules)
-
-pub overflow_add-i : goal.overflow_add-i
-overflow_add-i c = search (storing, rules)
-
-pub loop-i-smaller : goal.loop-i-smaller
-loop-i-smaller c = search (storing, rules)
 
 pub loop-i-preserved : goal.loop-i-preserved
 loop-i-preserved c = search (storing, rules)
-
-pub shape_of-styles : goal.shape_of-styles
-shape_of-styles c = search (storing, rules)
 
 pub returns : goal.returns
 returns c = search (storing, rules)

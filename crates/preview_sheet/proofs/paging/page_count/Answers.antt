@@ -1,13 +1,7 @@
 -- `preview_sheet::paging::page_count` meets its contract.
-use Rattle.preview_sheet.proofs.PageCount.{paging}
-use borrow.Author.Rules.{rules}
+use Rattle.std.proofs.Common.{arith}
+use Rattle.preview_sheet.proofs.PageCount.{pages_counted}
 use Rattle.preview_sheet.proofs.paging.page_count.Goals as goal
 
-pub returns-then-height-eq0 : goal.returns-then-height-eq0
-returns-then-height-eq0 c = search (paging, rules)
-
-pub returns-then-pages-lt1 : goal.returns-then-pages-lt1
-returns-then-pages-lt1 c = search (paging, rules)
-
 pub returns : goal.returns
-returns c = search (paging, rules)
+returns c = pages_counted c.args.lines c.args.first c.args.height _ _ _ c.if-height-eq0.false (omega arith) c.from-3.ensures (rw c.div_ceil.ensures at c.max.ensures)

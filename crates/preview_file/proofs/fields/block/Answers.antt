@@ -1,7 +1,0 @@
--- `preview_file::fields::block` meets its contract.
-use Rattle.preview_file.proofs.Reading.{fields}
-use borrow.Author.Rules.{rules}
-use Rattle.preview_file.proofs.fields.block.Goals as goal
-
-pub returns : goal.returns
-returns c = search (fields, rules)

@@ -1,7 +1,0 @@
--- `preview_file::numbers::number_4` meets its contract.
-use Rattle.preview_file.proofs.Reading.{numbers}
-use borrow.Author.Rules.{rules}
-use Rattle.preview_file.proofs.numbers.number_4.Goals as goal
-
-pub returns : goal.returns
-returns c = search (numbers, rules)
