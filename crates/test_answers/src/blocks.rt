@@ -3,8 +3,7 @@ ghost use Rattle.std.specs.Prelude.{◌≡◌};
 ghost use Rattle.test_answers.specs.BlocksExtra.{area_sum, with_space};
 
 use block::Space;
-use draw_block::{BlockAnswer, draw_block};
-use inner::InnerAnswer;
+use draw_block::draw_block;
 use layout::Rect;
 use test_blocks::areas::cells_of;
 use test_blocks::words::{four_on, write_words};
@@ -41,9 +40,7 @@ pub fn inner(case: Case) -> Option<u32> {
     let n = titles::write_titles(&mut records, case.manner.titles, case.seed);
     let titles = &records[..n];
     let block = case.block;
-    let InnerAnswer::Area(inner) = inner::inner(block, titles, case.area) else {
-        return None;
-    };
+    let inner = inner::inner(block, titles, case.area).ok()?;
     let across = with_space(sum_area(inner), block.horizontal_space());
     Some(with_space(across, block.vertical_space(titles)))
 }
@@ -62,7 +59,7 @@ pub fn drawn(case: Case, cells: &mut [u64]) -> Option<u32> {
     let ambiguous = ambiguous_of(below(case.seed, 2));
     let columns = u32::from(screen.columns);
     let rows = u32::from(screen.rows);
-    let BlockAnswer::Done = draw_block(
+    draw_block(
         columns,
         rows,
         cells,
@@ -71,8 +68,7 @@ pub fn drawn(case: Case, cells: &mut [u64]) -> Option<u32> {
         ambiguous,
         case.area,
         case.block,
-    ) else {
-        return None;
-    };
+    )
+    .ok()?;
     Some(test_sums::sum_entries(cells))
 }

@@ -3,7 +3,6 @@ ghost use Rattle.std.specs.Prelude.{◌≡◌};
 ghost use Rattle.test_answers.specs.TextsExtra.{measures_sum};
 
 use line_composer::Wrap;
-use measure::MeasureAnswer;
 use test_blocks::parts::Part;
 use test_blocks::titles;
 use test_sums::with_number;
@@ -34,18 +33,8 @@ pub fn measures(case: Case, text: &[u32]) -> Option<u32> {
     let ambiguous = case.ambiguous;
     let on = Wrap::On { trim: case.trim };
     let off = unwrapped(case.column);
-    let MeasureAnswer::Value(wrapped) = measure::line_count(
-        text, ambiguous, titles, block, on, case.limit,
-    ) else {
-        return None;
-    };
-    let MeasureAnswer::Value(unwrapped) = measure::line_count(
-        text, ambiguous, titles, block, off, case.limit,
-    ) else {
-        return None;
-    };
-    let MeasureAnswer::Value(columns) = measure::line_width(text, ambiguous, titles, block) else {
-        return None;
-    };
+    let wrapped = measure::line_count(text, ambiguous, titles, block, on, case.limit).ok()?;
+    let unwrapped = measure::line_count(text, ambiguous, titles, block, off, case.limit).ok()?;
+    let columns = measure::line_width(text, ambiguous, titles, block).ok()?;
     Some(sum_measures(wrapped, unwrapped, columns))
 }

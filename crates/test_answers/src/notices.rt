@@ -4,8 +4,7 @@ ghost use Rattle.test_answers.specs.NoticesExtra.{counts_sum};
 
 use crate::blocks;
 use draw_frame::draw_frame;
-use draw_text::{DrawAnswer, draw_text};
-use inner::InnerAnswer;
+use draw_text::draw_text;
 use layout::Rect;
 use render_lines::DrawCounts;
 use test_blocks::areas::cells_of;
@@ -48,7 +47,7 @@ fn sum_text(given: Given, area: Rect, cells: &mut [u64]) -> Option<Drawing> {
     let columns = u32::from(screen.columns);
     let rows = u32::from(screen.rows);
     let settings = notice.text_settings();
-    let DrawAnswer::Counts(counts) = draw_text(
+    let counts = draw_text(
         columns,
         rows,
         cells,
@@ -56,9 +55,8 @@ fn sum_text(given: Given, area: Rect, cells: &mut [u64]) -> Option<Drawing> {
         given.text,
         area,
         settings,
-    ) else {
-        return None;
-    };
+    )
+    .ok()?;
     let sum = with_number(sum_counts(counts), test_sums::sum_entries(cells));
     Some(Drawing { sum, counts })
 }
@@ -69,7 +67,7 @@ fn frame_of(given: Given, cells: &mut [u64]) -> Option<Rect> {
     let notice = given.case.notice;
     let columns = u32::from(screen.columns);
     let rows = u32::from(screen.rows);
-    let InnerAnswer::Area(inner) = draw_frame(
+    draw_frame(
         columns,
         rows,
         cells,
@@ -79,10 +77,8 @@ fn frame_of(given: Given, cells: &mut [u64]) -> Option<Rect> {
         given.case.area,
         notice.style,
         notice.block,
-    ) else {
-        return None;
-    };
-    Some(inner)
+    )
+    .ok()
 }
 
 // Writes the styles, text, titles and cells of a case, then draws. None too if the case's screen is larger than `cells`.

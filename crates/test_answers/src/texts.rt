@@ -5,10 +5,9 @@ ghost use Rattle.line_composer.specs.declared.Method.TheVariants.{Truncate};
 ghost use Rattle.line_composer.specs.Lines.{lines};
 ghost use Rattle.test_answers.specs.TextsExtra.{counts_sum, with_line, lines_sum};
 
-use line_composer::{LineComposer, Method, NextLine, WrappedLine};
-use list_lines::ListAnswer;
-use refuse::{ACCEPTED, Verdict};
-use tally::{TallyAnswer, TallyCounts};
+use line_composer::{LineComposer, Method, WrappedLine};
+use refuse::ACCEPTED;
+use tally::TallyCounts;
 use test_sums::with_number;
 use test_texts::Case;
 use text::Alignment;
@@ -32,11 +31,10 @@ fn with_line(sum: u32, line: WrappedLine) -> u32
     requires { (line.first < 2 ^ 32) × (line.end < 2 ^ 32) × (line.width < 2 ^ 32) }
     ensures { result ≡ with_line sum line }
 {
-    let alignment = line.alignment;
     let first = with_number(sum, line.first as u32);
     let end = with_number(first, line.end as u32);
     let width = with_number(end, line.width as u32);
-    with_number(width, text::alignment_number(alignment))
+    with_number(width, u32::from(line.alignment))
 }
 
 // Returns the checksum of a text's truncated lines, scrolled right by `column`: of each, then of their count.
@@ -48,27 +46,25 @@ fn sum_truncated(rule: Rule, column: u32, default_alignment: Alignment, text: &[
     let mut sum = 0;
     let mut count = 0;
     loop {
-        let NextLine::OneLine(line, next) = composer.next(rule, default_alignment, text) else {
+        let Some(line) = composer.next(rule, default_alignment, text) else {
             return with_number(sum, count);
         };
         sum = with_line(sum, line);
-        composer = next;
         count += 1;
     }
 }
 
 // Returns the checksum of the list of wrapped lines, for which `list` has room.
 pub fn wrapped(case: Case, text: &[u32], list: &mut [u64]) -> Option<u32> {
-    let ListAnswer::Written(n) = list_lines::list_lines(
+    let n = list_lines::list_lines(
         text,
         case.ambiguous,
         case.default_alignment,
         case.limit,
         case.trim,
         list,
-    ) else {
-        return None;
-    };
+    )
+    .ok()?;
     Some(test_sums::sum_entries(list.get(..n)?))
 }
 
@@ -83,9 +79,7 @@ pub fn counts(case: Case, text: &[u32]) -> Option<u32> {
 
 // Pulls truncated lines from the composer, as no call lists them; refuses a text that a call would refuse.
 pub fn truncated(case: Case, text: &[u32]) -> Option<u32> {
-    if let Verdict::Refused(_) = check_records::line_verdict(ACCEPTED, text, case.limit) {
-        return None;
-    }
+    check_records::line_verdict(ACCEPTED, text, case.limit).ok()?;
     let rule = Rule {
         limit: usize::from(case.limit),
         trim: case.trim,
