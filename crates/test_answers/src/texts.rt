@@ -70,10 +70,7 @@ pub fn wrapped(case: Case, text: &[u32], list: &mut [u64]) -> Option<u32> {
 
 // Returns the checksum of a text's tally.
 pub fn counts(case: Case, text: &[u32]) -> Option<u32> {
-    let TallyAnswer::Counted(counts) = tally::tally(text, case.ambiguous, case.limit, case.trim)
-    else {
-        return None;
-    };
+    let counts = tally::tally(text, case.ambiguous, case.limit, case.trim).ok()?;
     Some(sum_counts(counts))
 }
 
