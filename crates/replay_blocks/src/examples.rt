@@ -1,81 +1,47 @@
 // Draws and prints document 01's two examples of titles.
-ghost use Rattle.std.specs.Prelude.{◌<◌, ◌≤◌, length};
+ghost use Rattle.std.specs.Prelude.{◌≤◌};
 
 use layout::Rect;
-use num::byte_to_u32;
 use std::io;
 use test_blocks::plain;
 use text::{AmbiguousWidth, glyph, head};
 
 // Returns the head of a centred title for a bar, else a glyph of width 1.
 fn record(byte: u8) -> u32 {
-    if byte == 124 {
-        return head::pack(1, 0);
+    match byte {
+        b'|' => head::pack(1, 0),
+        _ => glyph::pack(u32::from(byte), 1, false, 0),
     }
-    glyph::pack(byte_to_u32(byte), 1, false, 0)
 }
 
-fn write_titles(titles: &mut [u32], text: &[u8])
-    requires { length text.now ≤ length titles.old }
+// Draws titles over the whole of a row and prints it.
+fn print_row<const COLUMNS: usize>(rt: &impl Print, text: &[u8; 9]) -> io::Result<()>
+    requires { COLUMNS ≤ 512 }
 {
-    let mut i = 0;
-    while i < text.len() {
-        titles[i] = record(text[i]);
-        i += 1;
-    }
-}
-
-// Draws titles over the whole of a row.
-fn draw_row(cells: &mut [u64], columns: u16, titles: &[u32]) {
-    let styles = [0u64; 1];
+    let titles = text.map(|byte| record(byte));
+    let mut cells = [cell::blank(); COLUMNS];
     let area = Rect {
         x: 0,
         y: 0,
-        width: columns,
+        width: COLUMNS as u16,
         height: 1,
     };
     draw_block::draw_block(
-        columns as u32,
+        COLUMNS as u32,
         1,
-        cells,
-        &styles,
-        titles,
+        &mut cells,
+        &[0],
+        &titles,
         AmbiguousWidth::Narrow,
         area,
         plain::plain(),
     );
-}
-
-// Draws and prints a row of titles.
-fn print_row(
-    rt: &impl Print,
-    text: &[u8],
-    titles: &mut [u32],
-    cells: &mut [u64],
-    columns: u16,
-) -> io::Result<()>
-    requires { length text.now ≤ length titles.old }
-{
-    write_titles(titles, text);
-    draw_row(cells, columns, titles);
-    test_print::print_row(rt, cells)
-}
-
-fn print_first(rt: &impl Print) -> io::Result<()> {
-    let mut titles = [0u32; 9];
-    let mut cells = [cell::blank(); 5];
-    rt.print("centred titles abcd, efg in 5: ")?;
-    print_row(rt, b"|abcd|efg", &mut titles, &mut cells, 5)
-}
-
-fn print_second(rt: &impl Print) -> io::Result<()> {
-    let mut titles = [0u32; 9];
-    let mut cells = [cell::blank(); 4];
-    rt.print("centred titles a, bcdefg in 4: ")?;
-    print_row(rt, b"|a|bcdefg", &mut titles, &mut cells, 4)
+    test_print::print_row(rt, &cells)
 }
 
 pub fn print_both(rt: &impl Print) -> io::Result<()> {
-    print_first(rt)?;
-    print_second(rt)
+    rt.print("centred titles abcd, efg in 5: ")?;
+    print_row::<5>(rt, b"|abcd|efg")?;
+    rt.print("centred titles a, bcdefg in 4: ")?;
+    print_row::<4>(rt, b"|a|bcdefg")
 }

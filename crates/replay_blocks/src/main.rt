@@ -4,7 +4,6 @@
 
 mod examples;
 mod replaying;
-mod report;
 
 use std::io;
 

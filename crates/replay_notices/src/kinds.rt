@@ -1,49 +1,45 @@
-// Classifies the port's answers; the counts show that most cases draw something.
-ghost use Rattle.std.specs.Prelude.{◌≤◌};
+// Counts of the cases that place a glyph, clip one, or draw no row; they show that most cases draw something.
+use std::fmt;
+use test_answers::notices::Drawing;
 
-use test_answers::notices::Answer;
-
-// Returns 1 if a number is above 0, else 0.
-fn one_if_any(number: u32) -> u32
-    ensures { result ≤ 1 }
-{
-    if number == 0 { 0 } else { 1 }
+#[derive(Clone, Copy)]
+pub struct Kinds {
+    placing: u32,
+    clipping: u32,
+    rowless: u32,
 }
 
-// Returns 1 if a glyph is placed, else 0.
-pub fn places(answer: Answer) -> u32
-    ensures { result ≤ 1 }
-{
-    match answer {
-        Answer::Drawing { sum: _, counts } => one_if_any(counts.placed),
-        Answer::Refused => 0,
+// Returns a count, and one more if a case is of its kind. A part has fewer than 2^32 cases, so that it never saturates.
+fn counted(count: u32, is_one: bool) -> u32 {
+    count.saturating_add(u32::from(is_one))
+}
+
+impl Kinds {
+    pub fn new() -> Kinds {
+        Kinds {
+            placing: 0,
+            clipping: 0,
+            rowless: 0,
+        }
+    }
+
+    // Counts an accepted call.
+    pub fn count(&mut self, drawing: Drawing) {
+        let counts = drawing.counts;
+        self.placing = counted(self.placing, 0 < counts.placed);
+        self.clipping = counted(self.clipping, 0 < counts.clipped);
+        self.rowless = counted(self.rowless, counts.rows == 0);
     }
 }
 
-// Returns 1 if a glyph is clipped, else 0.
-pub fn clips(answer: Answer) -> u32
-    ensures { result ≤ 1 }
-{
-    match answer {
-        Answer::Drawing { sum: _, counts } => one_if_any(counts.clipped),
-        Answer::Refused => 0,
-    }
-}
-
-// Returns 1 if an accepted call draws no row, else 0.
-pub fn draws_no_row(answer: Answer) -> u32
-    ensures { result ≤ 1 }
-{
-    match answer {
-        Answer::Drawing { sum: _, counts } => 1 - one_if_any(counts.rows),
-        Answer::Refused => 0,
-    }
-}
-
-// Whether an answer has the given checksum.
-pub fn agrees(answer: Answer, given: u32) -> bool {
-    match answer {
-        Answer::Drawing { sum, counts: _ } => sum == given,
-        Answer::Refused => false,
+impl fmt::Display for Kinds {
+    fn fmt<W: fmt::Write>(&self, f: &mut fmt::Formatter<W>) -> fmt::Result {
+        let placing = self.placing;
+        let clipping = self.clipping;
+        let rowless = self.rowless;
+        write!(
+            f,
+            "{placing} place a glyph, {clipping} clip one, {rowless} draw no row"
+        )
     }
 }

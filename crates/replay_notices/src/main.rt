@@ -7,7 +7,6 @@
 mod examples;
 mod kinds;
 mod replaying;
-mod report;
 
 use std::io;
 

@@ -1,83 +1,81 @@
 // Answers the cases in order and compares with the oracle's checksums.
-ghost use Rattle.std.specs.Prelude.{◌≤◌, IfOk};
-
-use crate::{kinds, report};
-use std::fs::File;
+use crate::kinds::Kinds;
+use std::fmt::Display;
 use std::io;
 use std::io::Read;
 use std::rt::Files;
-use test_answers::notices::{Answer, Asked, ask};
+use test_answers::notices;
+use test_answers::notices::Drawing;
+use test_notices::Case;
 use test_notices::parts::Part;
-use test_notices::{Case, parts};
-use test_sums::stored;
+use test_sums::replay::{replay_file, replay_part};
 
-// Returns 1 if the port's answer on a case differs from the oracle's, else 0. `before` cases of the part differed earlier.
-fn differs(
+// Replays a part and returns the kinds of its answers.
+fn replay_notice_part<A: Fn(Case, &mut [u64]) -> Option<Drawing>>(
     rt: &impl Print,
-    asked: Asked,
-    part: Part,
-    number: u32,
-    case: Case,
-    answer: Answer,
-    sum: u32,
-    before: u32,
-) -> io::Result<u32>
-    ensures { IfOk result (λ n. n ≤ 1) }
-{
-    if kinds::agrees(answer, sum) {
-        return Ok(0);
-    }
-    report::print_case(rt, asked, part, number, case, before)?;
-    Ok(1)
-}
-
-// Replays a part, reading the checksums from the file.
-fn replay_part(
-    rt: &impl Print,
-    asked: Asked,
-    part: Part,
     file: &mut impl Read,
-    cells: &mut [u64],
-) -> io::Result<()> {
-    let count = parts::count(part);
-    let mut number = 0;
-    let mut differ = 0;
-    let mut placing = 0;
-    let mut clipping = 0;
-    let mut rowless = 0;
-    while number < count {
-        let sum = stored::next_sum(file)?;
-        let case = parts::case(part, number);
-        let answer = ask(asked, case, cells);
-        differ += differs(rt, asked, part, number, case, answer, sum, differ)?;
-        placing += kinds::places(answer);
-        clipping += kinds::clips(answer);
-        rowless += kinds::draws_no_row(answer);
-        number += 1;
-    }
-    report::print_counts(rt, asked, part, number, differ)?;
-    report::print_kinds(rt, asked, part, placing, clipping, rowless)
-}
-
-// Replays the checksums of a file.
-fn replay_file(
-    rt: &(impl Files + Print),
-    name: &str,
-    asked: Asked,
-    cells: &mut [u64],
-) -> io::Result<()> {
-    let Ok(mut file) = File::open(rt, name) else {
-        return report::print_no_data(rt, name);
-    };
-    replay_part(rt, asked, Part::Narrow, &mut file, cells)?;
-    replay_part(rt, asked, Part::Small, &mut file, cells)?;
-    replay_part(rt, asked, Part::Large, &mut file, cells)
-}
-
-// Replays all files on the cells of the largest screen.
-pub fn replay(rt: &(impl Files + Print)) -> io::Result<()> {
+    heading: &impl Display,
+    part: Part,
+    answer: &A,
+) -> io::Result<Kinds>
+    requires { A.IsAlwaysCallable answer.now }
+{
+    // the cells of the largest screen
     let mut cells = [0u64; 3600];
-    replay_file(rt, "notices", Asked::Both, &mut cells)?;
-    replay_file(rt, "frames", Asked::Frame, &mut cells)?;
-    replay_file(rt, "texts", Asked::Text, &mut cells)
+    let mut kinds = Kinds::new();
+    replay_part(
+        rt,
+        file,
+        heading,
+        part.count(),
+        |number|
+            requires { A.IsAlwaysCallable answer.now }
+        {
+            let case = part.case(number);
+            let drawing = answer(case, &mut cells);
+            if let Some(drawing) = drawing {
+                kinds.count(drawing);
+            }
+            (drawing.map(|drawing| drawing.sum), case)
+        },
+    )?;
+    Ok(kinds)
+}
+
+// Replays all parts. A frame alone places and clips nothing, so its kinds aren't printed.
+fn replay_parts<A: Fn(Case, &mut [u64]) -> Option<Drawing>>(
+    rt: &impl Print,
+    file: &mut impl Read,
+    name: &str,
+    prints_kinds: bool,
+    answer: &A,
+) -> io::Result<()>
+    requires { A.IsAlwaysCallable answer.now }
+{
+    for part in Part::ALL {
+        let heading = format_args!("{name}, {part}");
+        let kinds = replay_notice_part(rt, file, &heading, part, answer)?;
+        if prints_kinds {
+            println!(rt; "{heading}: {kinds}")?;
+        }
+    }
+    Ok(())
+}
+
+pub fn replay(rt: &(impl Files + Print)) -> io::Result<()> {
+    replay_file(
+        rt,
+        "notices",
+        |file| replay_parts(rt, file, "notices", true, &notices::both),
+    )?;
+    replay_file(
+        rt,
+        "frames",
+        |file| replay_parts(rt, file, "frames", false, &notices::frame),
+    )?;
+    replay_file(
+        rt,
+        "texts",
+        |file| replay_parts(rt, file, "texts", true, &notices::text),
+    )
 }

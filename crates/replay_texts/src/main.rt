@@ -2,9 +2,7 @@
 // of its answer to each case.
 #![tactic(auto)]
 
-mod data;
 mod replaying;
-mod report;
 
 use std::io;
 

@@ -1,79 +1,73 @@
-// Answers the cases in order and compares with the oracle's checksums.
-ghost use Rattle.std.specs.Prelude.{◌≤◌, IfOk, length};
-
-use crate::{data, report};
+// Answers the cases in order and compares with the oracle's checksums: one file for each question.
+use std::fmt::Display;
 use std::io;
 use std::io::Read;
 use std::rt::Files;
-use test_answers::texts::{Question, agrees};
-use test_sums::stored;
-use test_texts::parts;
+use test_answers::{measures, texts};
+use test_sums::replay::{replay_file, replay_part};
+use test_texts::Case;
 use test_texts::parts::Part;
 
-// Returns 1 if the port's answer on a case differs from the oracle's, else 0. `before` cases of the part differed earlier.
-fn differs(
+// Replays a question on a part.
+fn replay_text_part<A: Fn(Case, &[u32], &mut [u64]) -> Option<u32>>(
     rt: &impl Print,
-    question: Question,
-    part: Part,
-    number: u32,
-    text: &mut [u32],
-    list: &mut [u64],
-    sum: u32,
-    before: u32,
-) -> io::Result<u32>
-    requires { 16384 ≤ length text.old }
-    ensures { IfOk result (λ n. n ≤ 1) }
-{
-    let case = parts::write_case(part, number, text);
-    if agrees(question, case, &text[..case.length], list, sum) {
-        return Ok(0);
-    }
-    report::print_case(rt, question, part, number, case, before)?;
-    Ok(1)
-}
-
-// Replays a question on a part, reading the checksums from the file.
-fn replay_part(
-    rt: &impl Print,
-    question: Question,
-    part: Part,
     file: &mut impl Read,
-    text: &mut [u32],
-    list: &mut [u64],
+    heading: &impl Display,
+    part: Part,
+    answer: &A,
 ) -> io::Result<()>
-    requires { 16384 ≤ length text.old }
+    requires { A.IsAlwaysCallable answer.now }
 {
-    let count = parts::count(part);
-    let mut number = 0;
-    let mut differ = 0;
-    while number < count {
-        let sum = stored::next_sum(file)?;
-        differ += differs(rt, question, part, number, text, list, sum, differ)?;
-        number += 1;
-    }
-    report::print_counts(rt, question, part, number, differ)
-}
-
-// Replays a question on all parts. `list` has room for the lines of every text.
-fn replay_parts(rt: &impl Print, question: Question, file: &mut impl Read) -> io::Result<()> {
     let mut text = [0u32; 16384];
     let mut list = [0u64; 32768];
-    replay_part(rt, question, Part::Short, file, &mut text, &mut list)?;
-    replay_part(rt, question, Part::Ambiguous, file, &mut text, &mut list)?;
-    replay_part(rt, question, Part::Several, file, &mut text, &mut list)?;
-    replay_part(rt, question, Part::Long, file, &mut text, &mut list)
+    replay_part(
+        rt,
+        file,
+        heading,
+        part.count(),
+        |number|
+            requires { A.IsAlwaysCallable answer.now }
+        {
+            let case = part.write_case(number, &mut text);
+            (answer(case, &text[..case.length], &mut list), case)
+        },
+    )
 }
 
-fn replay_question(rt: &(impl Files + Print), question: Question) -> io::Result<()> {
-    match data::open(rt, question) {
-        Ok(mut file) => replay_parts(rt, question, &mut file),
-        Err(_) => report::print_no_data(rt, question),
+// Replays a question on all parts. The list that an answer may write has room for the lines of every text.
+fn replay_parts<A: Fn(Case, &[u32], &mut [u64]) -> Option<u32>>(
+    rt: &impl Print,
+    file: &mut impl Read,
+    question: &str,
+    answer: &A,
+) -> io::Result<()>
+    requires { A.IsAlwaysCallable answer.now }
+{
+    for part in Part::ALL {
+        let heading = format_args!("{question}, {part}");
+        replay_text_part(rt, file, &heading, part, answer)?;
     }
+    Ok(())
 }
 
 pub fn replay(rt: &(impl Files + Print)) -> io::Result<()> {
-    replay_question(rt, Question::Wrapped)?;
-    replay_question(rt, Question::Tally)?;
-    replay_question(rt, Question::Truncated)?;
-    replay_question(rt, Question::Measures)
+    replay_file(
+        rt,
+        "wrapped",
+        |file| replay_parts(rt, file, "wrapped", &texts::wrapped),
+    )?;
+    let tally = |case: Case, text: &[u32], _: &mut [u64]| texts::counts(case, text);
+    replay_file(rt, "tally", |file| replay_parts(rt, file, "tally", &tally))?;
+    let truncated = |case: Case, text: &[u32], _: &mut [u64]| texts::truncated(case, text);
+    replay_file(
+        rt,
+        "truncated",
+        |file| replay_parts(rt, file, "truncated", &truncated),
+    )?;
+    let measures = |case: Case, text: &[u32], _: &mut [u64]| measures::measures(case, text);
+    replay_file(
+        rt,
+        "measures",
+        |file| replay_parts(rt, file, "measures", &measures),
+    )
 }

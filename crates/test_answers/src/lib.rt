@@ -1,14 +1,7 @@
-// Checksums of the port's answers on test texts, blocks and notices.
+// Checksums of the port's answers on test texts, blocks and notices; None is a refused call.
 #![tactic(auto)]
 
 pub mod blocks;
-mod measures;
+pub mod measures;
 pub mod notices;
 pub mod texts;
-
-// Checksum of an answer, or that the call was refused.
-#[derive(Clone, Copy)]
-enum Answer {
-    Sum(u32),
-    Refused,
-}

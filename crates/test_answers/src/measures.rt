@@ -1,13 +1,10 @@
 // `line_count` and `line_width` of a text in a block.
-ghost use Rattle.std.specs.Prelude.{◌≡◌, ◌≤◌, length};
+ghost use Rattle.std.specs.Prelude.{◌≡◌};
 ghost use Rattle.test_answers.specs.TextsExtra.{measures_sum};
 
-use crate::Answer;
-use block::Block;
 use line_composer::Wrap;
-use measure::MeasureAnswer;
 use test_blocks::parts::Part;
-use test_blocks::{parts, titles};
+use test_blocks::titles;
 use test_sums::with_number;
 use test_texts::Case;
 
@@ -25,40 +22,19 @@ fn unwrapped(column: u32) -> Wrap {
     }
 }
 
-// Returns the checksum of the rows wrapped, the rows unwrapped, and the columns.
-fn measures_in(case: Case, text: &[u32], titles: &[u32], block: Block) -> Answer {
-    let width = case.limit;
+// Returns the checksum of the rows wrapped, the rows unwrapped, and the columns. The block and its titles are those of the inner-area
+// case with the same number.
+pub fn measures(case: Case, text: &[u32]) -> Option<u32> {
+    let framed = Part::Inner.case(case.number);
+    let mut records = [0u32; 6];
+    let n = titles::write_titles(&mut records, framed.manner.titles, framed.seed);
+    let titles = &records[..n];
+    let block = framed.block;
     let ambiguous = case.ambiguous;
     let on = Wrap::On { trim: case.trim };
     let off = unwrapped(case.column);
-    let MeasureAnswer::Value(wrapped) = measure::line_count(
-        text, ambiguous, titles, block, on, width,
-    ) else {
-        return Answer::Refused;
-    };
-    let MeasureAnswer::Value(unwrapped) = measure::line_count(
-        text, ambiguous, titles, block, off, width,
-    ) else {
-        return Answer::Refused;
-    };
-    let MeasureAnswer::Value(columns) = measure::line_width(text, ambiguous, titles, block) else {
-        return Answer::Refused;
-    };
-    Answer::Sum(sum_measures(wrapped, unwrapped, columns))
-}
-
-// Writes the titles of a block, then measures. The block is that of the inner-area case with the same number.
-fn measures_with(case: Case, text: &[u32], records: &mut [u32]) -> Answer
-    requires { 6 ≤ length records.old }
-{
-    let framed = parts::case(Part::Inner, case.number);
-    let block = framed.block;
-    let n = titles::count(framed.titles, framed.seed);
-    titles::write_titles(records, framed.titles, framed.seed);
-    measures_in(case, text, &records[..n], block)
-}
-
-pub fn measures(case: Case, text: &[u32]) -> Answer {
-    let mut records = [0u32; 6];
-    measures_with(case, text, &mut records)
+    let wrapped = measure::line_count(text, ambiguous, titles, block, on, case.limit).ok()?;
+    let unwrapped = measure::line_count(text, ambiguous, titles, block, off, case.limit).ok()?;
+    let columns = measure::line_width(text, ambiguous, titles, block).ok()?;
+    Some(sum_measures(wrapped, unwrapped, columns))
 }

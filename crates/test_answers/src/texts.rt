@@ -5,26 +5,16 @@ ghost use Rattle.line_composer.specs.declared.Method.TheVariants.{Truncate};
 ghost use Rattle.line_composer.specs.Lines.{lines};
 ghost use Rattle.test_answers.specs.TextsExtra.{counts_sum, with_line, lines_sum};
 
-use crate::{Answer, measures};
-use line_composer::{LineComposer, Method, NextLine, WrappedLine};
-use list_lines::ListAnswer;
-use refuse::{ACCEPTED, Verdict};
-use tally::{TallyAnswer, TallyCounts};
+use line_composer::{LineComposer, Method, WrappedLine};
+use refuse::ACCEPTED;
+use tally::TallyCounts;
 use test_sums::with_number;
 use test_texts::Case;
 use text::Alignment;
 use wrapping::Rule;
 
-// What is compared for a text.
-#[derive(Clone, Copy)]
-pub enum Question {
-    Wrapped,
-    Tally,
-    Truncated,
-    Measures,
-}
-
 // Returns the checksum of a tally's six counts.
+#[tactic(auto, unfolding(crate::specs::TextsExtra::counts_sum))]
 fn sum_counts(counts: TallyCounts) -> u32
     ensures { result ≡ counts_sum counts }
 {
@@ -41,11 +31,10 @@ fn with_line(sum: u32, line: WrappedLine) -> u32
     requires { (line.first < 2 ^ 32) × (line.end < 2 ^ 32) × (line.width < 2 ^ 32) }
     ensures { result ≡ with_line sum line }
 {
-    let alignment = line.alignment;
     let first = with_number(sum, line.first as u32);
     let end = with_number(first, line.end as u32);
     let width = with_number(end, line.width as u32);
-    with_number(width, text::alignment_number(alignment))
+    with_number(width, u32::from(line.alignment))
 }
 
 // Returns the checksum of a text's truncated lines, scrolled right by `column`: of each, then of their count.
@@ -57,71 +46,41 @@ fn sum_truncated(rule: Rule, column: u32, default_alignment: Alignment, text: &[
     let mut sum = 0;
     let mut count = 0;
     loop {
-        let NextLine::OneLine(line, next) = composer.next(rule, default_alignment, text) else {
+        let Some(line) = composer.next(rule, default_alignment, text) else {
             return with_number(sum, count);
         };
         sum = with_line(sum, line);
-        composer = next;
         count += 1;
     }
 }
 
-fn wrapped_lines(case: Case, text: &[u32], list: &mut [u64]) -> Answer {
-    let ambiguous = case.ambiguous;
-    let default_alignment = case.default_alignment;
-    let ListAnswer::Written(n) = list_lines::list_lines(
+// Returns the checksum of the list of wrapped lines, for which `list` has room.
+pub fn wrapped(case: Case, text: &[u32], list: &mut [u64]) -> Option<u32> {
+    let n = list_lines::list_lines(
         text,
-        ambiguous,
-        default_alignment,
+        case.ambiguous,
+        case.default_alignment,
         case.limit,
         case.trim,
         list,
-    ) else {
-        return Answer::Refused;
-    };
-    if list.len() < n {
-        return Answer::Refused;
-    }
-    Answer::Sum(test_sums::sum_entries(&list[..n]))
+    )
+    .ok()?;
+    Some(test_sums::sum_entries(list.get(..n)?))
 }
 
-fn counts(case: Case, text: &[u32]) -> Answer {
-    let ambiguous = case.ambiguous;
-    let TallyAnswer::Counted(counts) = tally::tally(text, ambiguous, case.limit, case.trim) else {
-        return Answer::Refused;
-    };
-    Answer::Sum(sum_counts(counts))
+// Returns the checksum of a text's tally.
+pub fn counts(case: Case, text: &[u32]) -> Option<u32> {
+    let counts = tally::tally(text, case.ambiguous, case.limit, case.trim).ok()?;
+    Some(sum_counts(counts))
 }
 
 // Pulls truncated lines from the composer, as no call lists them; refuses a text that a call would refuse.
-fn truncated_lines(case: Case, text: &[u32]) -> Answer {
-    if let Verdict::Refused(_) = check_records::line_verdict(ACCEPTED, text, case.limit) {
-        return Answer::Refused;
-    }
-    let default_alignment = case.default_alignment;
-    let ambiguous = case.ambiguous;
+pub fn truncated(case: Case, text: &[u32]) -> Option<u32> {
+    check_records::line_verdict(ACCEPTED, text, case.limit).ok()?;
     let rule = Rule {
-        limit: case.limit as usize,
+        limit: usize::from(case.limit),
         trim: case.trim,
-        ambiguous,
+        ambiguous: case.ambiguous,
     };
-    Answer::Sum(sum_truncated(rule, case.column, default_alignment, text))
-}
-
-// Returns the answer to a question. `list` has room for wrapped lines.
-fn ask(question: Question, case: Case, text: &[u32], list: &mut [u64]) -> Answer {
-    match question {
-        Question::Wrapped => wrapped_lines(case, text, list),
-        Question::Tally => counts(case, text),
-        Question::Truncated => truncated_lines(case, text),
-        Question::Measures => measures::measures(case, text),
-    }
-}
-
-// Whether the port's answer has the given checksum.
-pub fn agrees(question: Question, case: Case, text: &[u32], list: &mut [u64], sum: u32) -> bool {
-    let Answer::Sum(ours) = ask(question, case, text, list) else {
-        return false;
-    };
-    ours == sum
+    Some(sum_truncated(rule, case.column, case.default_alignment, text))
 }

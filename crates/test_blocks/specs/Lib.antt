@@ -1,3 +1,1 @@
 pub mod ScreensExtra
-pub mod SizesExtra
-pub mod TitlesExtra

@@ -9,7 +9,7 @@ use test_texts::random::{below, next};
 
 // Returns the number of cells of a screen.
 pub fn cells_of(screen: Screen) -> usize {
-    (screen.columns as usize) * (screen.rows as usize)
+    usize::from(screen.columns) * usize::from(screen.rows)
 }
 
 // Returns a random index below the length of a row or column.
@@ -17,7 +17,7 @@ fn place(x: u32, cells: u16) -> u16
     requires { 0 < cells }
     ensures { result < cells }
 {
-    below(x, cells as u32) as u16
+    below(x, u32::from(cells)) as u16
 }
 
 // Returns the start of an area along a row or column.

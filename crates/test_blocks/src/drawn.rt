@@ -1,17 +1,18 @@
 // Blocks to draw, with every set of borders, with and without a shadow.
 ghost use Rattle.std.specs.Prelude.{◌<◌, ◌≤◌};
 ghost use Rattle.test_blocks.specs.ScreensExtra.{Accepted};
-ghost use Rattle.test_blocks.specs.SizesExtra.{Writable};
 
 use crate::areas::area;
+use crate::many_titles::Manner;
 use crate::shadows::{shadow, style};
-use crate::titles::{alignment_of, position_of};
+use crate::titles::position_of;
 use crate::words::four_on;
 use crate::{Case, borders};
 use block::Block;
 use buffer::Screen;
 use padding::Padding;
 use test_texts::random::{below, next, seed};
+use test_texts::texts::alignment_of;
 
 // Returns the block with a number, made from x and the random numbers after it. Its style numbers are below `styles`, and its
 // shadow's offsets are mostly at most `reach`.
@@ -38,7 +39,6 @@ pub fn block(number: u32, styles: u32, reach: u32, padding: Padding, x: u32) -> 
 fn case(number: u32, screen: Screen, reach: u32, x: u32) -> Case
     requires accepted { Accepted screen }
     requires reach_bound { reach ≤ 128 }
-    ensures { Writable result }
 {
     let y = next(x);
     let styles = 1 + below(x, 8);
@@ -51,19 +51,19 @@ fn case(number: u32, screen: Screen, reach: u32, x: u32) -> Case
             four_on(four_on(y)),
         ),
         area: area(y, screen),
-        screen: screen,
-        titles: 0,
-        glyphs: 0,
-        right: false,
-        styles: styles,
+        screen: Some(screen),
+        manner: Manner {
+            titles: 0,
+            glyphs: 0,
+            right: false,
+            styles,
+        },
         seed: x,
     }
 }
 
 // Returns the case with a number on a screen of up to 8 × 6 cells.
-pub fn small(number: u32) -> Case
-    ensures { Writable result }
-{
+pub fn small(number: u32) -> Case {
     let a = seed(number);
     let b = next(a);
     let screen = Screen {
@@ -74,9 +74,7 @@ pub fn small(number: u32) -> Case
 }
 
 // Returns the case with a number on a screen of 512 × 256 cells.
-pub fn large(number: u32) -> Case
-    ensures { Writable result }
-{
+pub fn large(number: u32) -> Case {
     let screen = Screen {
         columns: 512,
         rows: 256,

@@ -1,11 +1,9 @@
 // Inner areas: every vertical axis with every kind of titles. Horizontal axes are random, and each occurs.
-ghost use Rattle.test_blocks.specs.SizesExtra.{Writable};
-
 use crate::axes::{Axis, axis_of};
+use crate::many_titles::Manner;
 use crate::titles::position_of;
 use crate::{Case, borders};
 use block::{Block, Borders, Shadow};
-use buffer::Screen;
 use layout::Rect;
 use padding::Padding;
 use test_texts::random::{below, seed};
@@ -38,9 +36,7 @@ fn block(across: Axis, down: Axis, position: TitlePosition, x: u32) -> Block {
 }
 
 // Returns the case with a number.
-pub fn case(number: u32) -> Case
-    ensures { Writable result }
-{
+pub fn case(number: u32) -> Case {
     let x = seed(number);
     let across = axis_of(below(x, 4900));
     let down = axis_of(number / 10);
@@ -53,14 +49,13 @@ pub fn case(number: u32) -> Case
     Case {
         block: block(across, down, position_of(number / 5), x),
         area: area,
-        screen: Screen {
-            columns: 0,
-            rows: 0,
+        screen: None,
+        manner: Manner {
+            titles: number % 5,
+            glyphs: 2,
+            right: false,
+            styles: 1,
         },
-        titles: number % 5,
-        glyphs: 2,
-        right: false,
-        styles: 1,
         seed: x,
     }
 }

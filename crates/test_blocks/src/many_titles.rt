@@ -1,19 +1,23 @@
 // Titles of the blocks to draw: any number, of any alignment and position, or all at the right.
 ghost use Rattle.std.specs.Prelude.{◌<◌, ◌≤◌, ◌+◌, length};
-ghost use Rattle.test_blocks.specs.TitlesExtra.{Bounded};
 
 use crate::borders::symbol;
 use crate::titles::{head, right_head};
 use crate::words::four_on;
 use test_texts::random::{below, next, seed};
 
-// Number of titles, maximum glyphs in each, whether all are right titles, and exclusive bound of their style numbers.
+// Number of titles, maximum glyphs in each, whether all are right titles, and exclusive bound of their style numbers: numbers of titles
+// and glyphs that calls accept, with one to eight styles.
 #[derive(Clone, Copy)]
 pub struct Manner {
     pub titles: u32,
     pub glyphs: u32,
     pub right: bool,
     pub styles: u32,
+    ghost few_titles: { titles ≤ 16 },
+    ghost few_glyphs: { glyphs ≤ 256 },
+    ghost some_styles: { 0 < styles },
+    ghost few_styles: { styles ≤ 8 },
 }
 
 // Returns a head of random position, and of random alignment unless it is to be a right title's.
@@ -68,27 +72,17 @@ fn glyph(x: u32, styles: u32) -> u32
     text::glyph::pack(symbol(x), width(y), below(z, 2) == 1, below(z, styles))
 }
 
-// Writes glyphs from `place` up to `end`, each made from four random numbers.
-fn write_glyphs(titles: &mut [u32], place: usize, end: usize, styles: u32, seed: u32)
-    requires place_le_end { (place ≤ end) × (end ≤ length titles.old) }
+// Writes a title: its head, then glyphs, each made from four random numbers.
+fn write_title(title: &mut [u32], head: u32, styles: u32, seed: u32)
+    requires not_empty { 0 < length title.old }
     requires styles_nonzero { (0 < styles) × (styles ≤ 8) }
 {
+    title[0] = head;
     let mut x = seed;
-    let mut i = place;
-    while i < end {
-        titles[i] = glyph(x, styles);
+    for record in &mut title[1..] {
+        *record = glyph(x, styles);
         x = four_on(x);
-        i += 1;
     }
-}
-
-// Writes a title from `place` up to `end`: its head, then glyphs.
-fn write_title(titles: &mut [u32], place: usize, end: usize, head: u32, styles: u32, seed: u32)
-    requires place_lt_end { (place < end) × (end ≤ length titles.old) }
-    requires styles_nonzero { (0 < styles) × (styles ≤ 8) }
-{
-    write_glyphs(titles, place + 1, end, styles, seed);
-    titles[place] = head;
 }
 
 // Returns the end of the title whose head is at `place`.
@@ -103,28 +97,19 @@ fn end_of(place: usize, most: u32, x: u32) -> usize
 // Writes titles made from x and the random numbers after it, and returns their number of records: at most 16 heads, each with 256
 // glyphs.
 pub fn write_many(titles: &mut [u32], manner: Manner, x: u32) -> usize
-    requires bounded { Bounded manner }
-    requires in_bounds { 4112 ≤ length titles.old }
+    requires { 4112 ≤ length titles.old }
     ensures { result ≤ 4112 }
 {
     let common = any_head(x, manner.right);
     let mut y = next(next(x));
     let mut place = 0;
-    let mut i = 0;
-    while i < manner.titles {
+    for _i in 0..manner.titles {
         let z = four_on(y);
         let end = end_of(place, manner.glyphs, z);
-        write_title(
-            titles,
-            place,
-            end,
-            head_of(y, common, manner.right),
-            manner.styles,
-            seed(y),
-        );
+        let head = head_of(y, common, manner.right);
+        write_title(&mut titles[place..end], head, manner.styles, seed(y));
         place = end;
         y = next(next(z));
-        i += 1;
     }
     place
 }

@@ -35,10 +35,10 @@ fn offset(x: u32, reach: u32) -> i32
 
 // Returns the effect of a shadow kind: an overlay, or a symbol made from x.
 fn effect(kind: u32, x: u32) -> Effect {
-    if kind == 1 {
-        return Effect::Overlay;
+    match kind {
+        1 => Effect::Overlay,
+        _ => Effect::Symbol(symbol(x)),
     }
-    Effect::Symbol(symbol(x))
 }
 
 // Returns the shadow of a kind, made from x and the next five random numbers: 0 is absent, 1 an overlay, 2 and 3 a symbol.

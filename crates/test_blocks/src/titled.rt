@@ -1,11 +1,11 @@
 // Blocks to draw with up to 16 titles, of every alignment and position or all at the right.
 ghost use Rattle.std.specs.Prelude.{◌≤◌};
 ghost use Rattle.test_blocks.specs.ScreensExtra.{Accepted};
-ghost use Rattle.test_blocks.specs.SizesExtra.{Writable};
 
 use crate::Case;
 use crate::areas::{area, roomy};
 use crate::drawn::block;
+use crate::many_titles::Manner;
 use crate::words::four_on;
 use buffer::Screen;
 use layout::Rect;
@@ -51,7 +51,6 @@ fn glyphs(x: u32, most: u32) -> u32
 fn case(number: u32, screen: Screen, most: u32, right: bool, x: u32) -> Case
     requires accepted { Accepted screen }
     requires most_bound { most ≤ 256 }
-    ensures { Writable result }
 {
     let y = next(x);
     let z = seed(next(y));
@@ -59,19 +58,19 @@ fn case(number: u32, screen: Screen, most: u32, right: bool, x: u32) -> Case
     Case {
         block: block(number, styles, 4, Padding::uniform(1), four_on(four_on(y))),
         area: titled_area(number / 384, y, screen),
-        screen: screen,
-        titles: count(z),
-        glyphs: glyphs(next(next(z)), most),
-        right: right,
-        styles: styles,
+        screen: Some(screen),
+        manner: Manner {
+            titles: count(z),
+            glyphs: glyphs(next(next(z)), most),
+            right,
+            styles,
+        },
         seed: x,
     }
 }
 
 // Returns the case with a number on a screen of up to 40 × 5 cells, with titles of up to 16 glyphs, all right titles if `right` is set.
-fn few_cells(number: u32, right: bool) -> Case
-    ensures { Writable result }
-{
+fn few_cells(number: u32, right: bool) -> Case {
     let a = seed(number);
     let b = next(a);
     let screen = Screen {
@@ -82,24 +81,18 @@ fn few_cells(number: u32, right: bool) -> Case
 }
 
 // Returns such a case with titles of every alignment.
-pub fn small(number: u32) -> Case
-    ensures { Writable result }
-{
+pub fn small(number: u32) -> Case {
     few_cells(number, false)
 }
 
 // Returns such a case with right titles alone: it uses the numbers of blocks whose default alignment is right, 64 in each 192. The
 // remainder keeps them in 32 bits.
-pub fn right(number: u32) -> Case
-    ensures { Writable result }
-{
+pub fn right(number: u32) -> Case {
     few_cells(number % 4096 / 64 * 192 + 128 + number % 64, true)
 }
 
 // Returns the case with a number on a screen of 512 × 3 cells, with titles of up to 256 glyphs.
-pub fn wide(number: u32) -> Case
-    ensures { Writable result }
-{
+pub fn wide(number: u32) -> Case {
     let screen = Screen {
         columns: 512,
         rows: 3,

@@ -1,17 +1,8 @@
-// Alignments and positions of titles, and the titles of the cases for the inner area: up to two, of up to three records each.
+// Positions and heads of titles, and the titles of the cases for the inner area: up to two, of up to three records each.
 ghost use Rattle.std.specs.Prelude.{◌<◌, ◌≤◌, length};
 
 use test_texts::random::{below, next};
-use text::{Alignment, TitlePosition};
-
-// Returns the alignment with a number.
-pub fn alignment_of(number: u32) -> Alignment {
-    match number % 3 {
-        0 => Alignment::Left,
-        1 => Alignment::Center,
-        _ => Alignment::Right,
-    }
-}
+use text::TitlePosition;
 
 // Returns the title position with a number.
 pub fn position_of(number: u32) -> TitlePosition {
@@ -48,7 +39,7 @@ fn record_at(place: usize, kind: u32, x: u32) -> u32
 }
 
 // Returns the number of records of a kind's titles: no title, one with up to two glyphs, or two.
-pub fn count(kind: u32, x: u32) -> usize
+fn count(kind: u32, x: u32) -> usize
     ensures { result ≤ 6 }
 {
     match kind {
@@ -58,16 +49,17 @@ pub fn count(kind: u32, x: u32) -> usize
     }
 }
 
-// Writes the records of two titles; a kind may use fewer.
-pub fn write_titles(titles: &mut [u32], kind: u32, seed: u32)
+// Writes the titles of a kind and returns their number of records.
+pub fn write_titles(titles: &mut [u32], kind: u32, seed: u32) -> usize
     requires in_bounds { 6 ≤ length titles.old }
     requires kind_bound { kind ≤ 16 }
+    ensures { result ≤ 6 }
 {
+    let count = count(kind, seed);
     let mut x = seed;
-    let mut i = 0;
-    while i < 6 {
-        titles[i] = record_at(i, kind, x);
+    for (place, record) in titles[..count].iter_mut().enumerate() {
+        *record = record_at(place, kind, x);
         x = next(x);
-        i += 1;
     }
+    count
 }

@@ -1,5 +1,5 @@
 // Random 64-bit words.
-ghost use Rattle.std.specs.Prelude.{◌<◌, ◌≤◌, ◌^◌, length};
+ghost use Rattle.std.specs.Prelude.{◌<◌, ◌^◌};
 
 use test_texts::random::next;
 
@@ -12,7 +12,7 @@ pub fn four_on(x: u32) -> u32 {
 fn halves(first: u32, second: u32) -> u64
     ensures { result < 2 ^ 32 }
 {
-    (first / 65536 * 65536 + second / 65536) as u64
+    u64::from(first / 65536 * 65536 + second / 65536)
 }
 
 // Returns the upper halves of x and of the next three random numbers, concatenated.
@@ -24,16 +24,13 @@ fn word(x: u32) -> u64 {
 }
 
 // Writes words that are multiples of `unit`, each made from four random numbers.
-pub fn write_words(words: &mut [u64], count: usize, unit: u64, seed: u32)
-    requires count_in_bounds { count ≤ length words.old }
-    requires unit_nonzero { 0 < unit }
+pub fn write_words(words: &mut [u64], unit: u64, seed: u32)
+    requires { 0 < unit }
 {
     let mut x = seed;
-    let mut i = 0;
-    while i < count {
+    for place in words {
         let found = word(x);
-        words[i] = found - found % unit;
+        *place = found - found % unit;
         x = four_on(x);
-        i += 1;
     }
 }

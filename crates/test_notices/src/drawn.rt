@@ -1,7 +1,6 @@
 // Notices to draw, in blocks of every kind, with and without titles.
 ghost use Rattle.std.specs.Prelude.{◌<◌, ◌≤◌};
 ghost use Rattle.test_blocks.specs.ScreensExtra.{Accepted};
-ghost use Rattle.test_notices.specs.SizesExtra.{Writable};
 
 use crate::Case;
 use crate::settings::{notice, padding};
@@ -10,6 +9,7 @@ use layout::Rect;
 use paragraph::Notice;
 use test_blocks::areas::{area, roomy};
 use test_blocks::drawn::block;
+use test_blocks::many_titles::Manner;
 use test_blocks::words::four_on;
 use test_texts::random::{below, next, seed};
 
@@ -48,7 +48,6 @@ fn framed(number: u32, styles: u32, x: u32, y: u32) -> Notice
 fn case(number: u32, screen: Screen, most: u32, x: u32) -> Case
     requires accepted { Accepted screen }
     requires le_most { (2 ≤ most) × (most ≤ 1024) }
-    ensures { Writable result }
 {
     let y = next(x);
     let z = seed(next(y));
@@ -59,17 +58,19 @@ fn case(number: u32, screen: Screen, most: u32, x: u32) -> Case
         area: notice_area(v, y, screen),
         screen: screen,
         records: most,
-        titles: titles(z),
-        styles: styles,
+        manner: Manner {
+            titles: titles(z),
+            glyphs: 16,
+            right: false,
+            styles,
+        },
         seed: x,
     }
 }
 
 // Returns the case with a number on a screen of up to 11 × 9 cells, with a text of up to 64 records. Most clipped glyphs occur
 // here.
-pub fn narrow(number: u32) -> Case
-    ensures { Writable result }
-{
+pub fn narrow(number: u32) -> Case {
     let a = seed(number);
     let b = next(a);
     let screen = Screen {
@@ -80,9 +81,7 @@ pub fn narrow(number: u32) -> Case
 }
 
 // Returns the case with a number on a screen of up to 40 × 10 cells, with a text of up to 64 records, not that of `narrow`.
-pub fn small(number: u32) -> Case
-    ensures { Writable result }
-{
+pub fn small(number: u32) -> Case {
     let a = seed(seed(number));
     let b = next(a);
     let screen = Screen {
@@ -93,9 +92,7 @@ pub fn small(number: u32) -> Case
 }
 
 // Returns the case with a number on a screen of 120 × 30 cells, with a text of up to 1,024 records.
-pub fn large(number: u32) -> Case
-    ensures { Writable result }
-{
+pub fn large(number: u32) -> Case {
     let screen = Screen {
         columns: 120,
         rows: 30,

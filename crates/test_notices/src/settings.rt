@@ -5,10 +5,9 @@ use block::Block;
 use line_composer::Wrap;
 use padding::Padding;
 use paragraph::Notice;
-use test_blocks::titles::alignment_of;
 use test_blocks::words::four_on;
 use test_texts::random::{below, next};
-use test_texts::texts::ambiguous_of;
+use test_texts::texts::{alignment_of, ambiguous_of};
 
 // Returns the padding of one side: mostly none, and once in 128 more than fits.
 fn padded(x: u32) -> u16 {

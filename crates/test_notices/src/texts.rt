@@ -44,6 +44,6 @@ pub fn write_text(text: &mut [u32], most: u32, x: u32) -> usize
         spaces: 2 + below(c, 6),
     };
     let n = length_of(d, most) as usize;
-    write_random(text, n, manner, next(next(d)));
+    write_random(&mut text[..n], manner, next(next(d)));
     n
 }

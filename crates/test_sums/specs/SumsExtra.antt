@@ -1,6 +1,6 @@
 -- Not in the papers: checksums by which answers are compared. Each step multiplies by an odd number, so that answers which differ
 -- in only one number, or in half of one entry, have different checksums.
-use Rattle.std.specs.Prelude.{ℕ, ◌/◌, ◌%◌, ◌^◌, List, [], ◌∷◌, length}
+use Rattle.std.specs.Prelude.{ℕ, ◌/◌, ◌%◌, ◌^◌, List, length, fold}
 use Rattle.test_texts.specs.NumbersExtra.{stepped}
 
 -- a checksum extended by a number
@@ -11,11 +11,6 @@ with_number sum number = stepped sum 2654435769 number
 unfoldable pub with_entry : ℕ → ℕ → ℕ
 with_entry sum entry = with_number (with_number sum (entry / 2 ^ 32)) (entry % 2 ^ 32)
 
--- a checksum extended by each entry of a list
-abbrev pub with_entries : ℕ → List ℕ → ℕ
-with_entries sum [] = sum
-with_entries sum (entry ∷ entries) = with_entries (with_entry sum entry) entries
-
 -- the checksum of entries: of their count, then of each
 unfoldable pub entries_sum : List ℕ → ℕ
-entries_sum entries = with_entries (length entries % 2 ^ 32) entries
+entries_sum entries = fold with_entry (length entries % 2 ^ 32) entries

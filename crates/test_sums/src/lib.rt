@@ -6,9 +6,11 @@ ghost use Rattle.test_sums.specs.SumsExtra.{with_number, with_entry, entries_sum
 
 use test_texts::numbers::step;
 
+pub mod replay;
 pub mod stored;
 
 // Returns a checksum extended by a number.
+#[tactic(auto, unfolding(crate::specs::SumsExtra::with_number))]
 pub fn with_number(sum: u32, number: u32) -> u32
     ensures { result ≡ with_number sum number }
 {
@@ -16,6 +18,7 @@ pub fn with_number(sum: u32, number: u32) -> u32
 }
 
 // Returns a checksum extended by an entry: its upper half, then its lower.
+#[tactic(auto, unfolding(crate::specs::SumsExtra::with_entry))]
 fn with_entry(sum: u32, entry: u64) -> u32
     ensures { result ≡ with_entry sum entry }
 {
@@ -25,14 +28,10 @@ fn with_entry(sum: u32, entry: u64) -> u32
 }
 
 // Returns the checksum of entries (composed lines or cells): of their count, then of each.
+#[tactic(auto, unfolding(crate::specs::SumsExtra::entries_sum))]
 pub fn sum_entries(entries: &[u64]) -> u32
     ensures { result ≡ entries_sum entries.now }
 {
-    let mut sum = (entries.len() % 4294967296) as u32;
-    let mut i = 0;
-    while i < entries.len() {
-        sum = with_entry(sum, entries[i]);
-        i += 1;
-    }
-    sum
+    let count = (entries.len() % 4294967296) as u32;
+    entries.iter().fold(count, |sum, entry| with_entry(sum, *entry))
 }

@@ -1,5 +1,4 @@
 // The oracle's checksums: a file has one for each case in order, 4 bytes each, high byte first.
-use num::byte_to_u32;
 use read_input::read_full;
 use std::io;
 use std::io::Read;
@@ -8,10 +7,5 @@ use std::io::Read;
 pub fn next_sum(file: &mut impl Read) -> io::Result<u32> {
     let mut bytes = [0u8; 4];
     read_full(file, &mut bytes)?;
-    Ok(
-        byte_to_u32(bytes[0]) * 16777216
-            + byte_to_u32(bytes[1]) * 65536
-            + byte_to_u32(bytes[2]) * 256
-            + byte_to_u32(bytes[3]),
-    )
+    Ok(u32::from_be_bytes(bytes))
 }

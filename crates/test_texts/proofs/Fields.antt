@@ -19,7 +19,7 @@ module _ (r a : ℕ) (h : a < 4) (e : r ≡ head_record a 0) where
   pub head-zeros : zeros_of r ≡ 0
   head-zeros = rw e (fields.head-zeros a 0 h (omega arith))
 
-pub ruleset head-fields = (head-is-head, head-alignment, head_position, head-zeros)
+pub ruleset head_fields = (head-is-head, head-alignment, head_position, head-zeros)
 
 module _ (r x width : ℕ) (space : Bool) (w : width < 8) (e : r ≡ glyph_record (x % 2 ^ 21) width space (x % 2 ^ 6)) where
   pub glyph-is_no_head : is_head r ≡ false

@@ -1,2 +1,1 @@
 pub mod NumbersExtra
-pub mod MannersExtra

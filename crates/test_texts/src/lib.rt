@@ -10,6 +10,7 @@ mod several;
 mod short;
 pub mod texts;
 
+use std::fmt;
 use text::{Alignment, AmbiguousWidth};
 
 // A test case. Its text is the first `length` records that `write_case` wrote. `trim` is for wrapped lines, `column` (horizontal
@@ -23,4 +24,12 @@ pub struct Case {
     pub trim: bool,
     pub column: u32,
     pub ambiguous: AmbiguousWidth,
+}
+
+// A case's settings, for one whose answer differs.
+impl fmt::Display for Case {
+    fn fmt<W: fmt::Write>(&self, f: &mut fmt::Formatter<W>) -> fmt::Result {
+        let trimmed = if self.trim { "trimmed" } else { "not trimmed" };
+        write!(f, "limit {}, column {}, {trimmed}", self.limit, self.column)
+    }
 }

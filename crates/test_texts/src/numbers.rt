@@ -6,6 +6,5 @@ ghost use Rattle.test_texts.specs.NumbersExtra.{stepped};
 pub fn step(x: u32, by: u32, plus: u32) -> u32
     ensures { result ≡ stepped x by plus }
 {
-    let wide = (x as u64) * (by as u64) + (plus as u64);
-    (wide % 4294967296) as u32
+    x.wrapping_mul(by).wrapping_add(plus)
 }

@@ -1,10 +1,11 @@
 // Records of the test texts.
-ghost use Rattle.std.specs.Prelude.{◌≡◌, true, false, ◌<◌, eqb};
+ghost use Rattle.std.specs.Prelude.{◌≡◌, true, false, ◌<◌};
 ghost use Rattle.text.specs.Record.{is_head, alignment_of, position_of, zeros_of, width_code_of, whitespace_of};
 
 use text::glyph::{STYLES, SYMBOLS};
 
 // Returns a head with an alignment.
+#[tactic(auto, using(crate::proofs::Fields::head_fields))]
 pub fn head(alignment: u32) -> u32
     requires { alignment < 4 }
     ensures result_value { is_head result ≡ true }
@@ -16,12 +17,12 @@ pub fn head(alignment: u32) -> u32
 }
 
 // Returns a glyph whose symbol and style are taken from x.
-pub fn glyph(width: u32, space: u32, x: u32) -> u32
-    requires width_bound { width < 8 }
-    requires space_bound { space < 2 }
+#[tactic(auto, using(crate::proofs::Fields::glyph_fields))]
+pub fn glyph(width: u32, is_space: bool, x: u32) -> u32
+    requires { width < 8 }
     ensures result_value { is_head result ≡ false }
     ensures result_value_2 { width_code_of result ≡ width }
-    ensures result_value_3 { whitespace_of result ≡ eqb space 1 }
+    ensures result_value_3 { whitespace_of result ≡ is_space }
 {
-    text::glyph::pack(x % SYMBOLS, width, space == 1, x % STYLES)
+    text::glyph::pack(x % SYMBOLS, width, is_space, x % STYLES)
 }

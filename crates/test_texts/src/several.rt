@@ -22,11 +22,11 @@ pub fn write_case(text: &mut [u32], number: u32) -> Case
         spaces: 1 + below(c, 5),
     };
     let length = below(d, 25) as usize;
-    texts::write_random(text, length, manner, f);
+    texts::write_random(&mut text[..length], manner, f);
     Case {
         number: number,
         length: length,
-        default_alignment: texts::alignment(number % 3),
+        default_alignment: texts::alignment_of(number),
         limit: below(e, 9) as u16,
         trim: number % 2 == 0,
         column: below(f, 10),

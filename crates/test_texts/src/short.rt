@@ -11,9 +11,9 @@ fn glyph(kind: u32, x: u32) -> u32
     requires { kind < 8 }
 {
     if kind == 7 {
-        return records::glyph(7, 0, x);
+        return records::glyph(7, false, x);
     }
-    records::glyph(kind % 4, kind / 4, x)
+    records::glyph(kind % 4, 4 <= kind, x)
 }
 
 // Writes the head of a text line with the default alignment.
@@ -30,16 +30,14 @@ fn write_glyphs(text: &mut [u32], number: u32, kinds: u32) -> usize
     ensures { result ≤ length text.new }
 {
     let mut rest = number;
-    let mut n = 1;
-    while n < text.len() {
+    for n in 1..text.len() {
         if rest == 0 {
             return n;
         }
         text[n] = glyph((rest - 1) % kinds, rest);
         rest = (rest - 1) / kinds;
-        n += 1;
     }
-    n
+    text.len()
 }
 
 // Writes text line `line` and returns case `number`, which is one of its ten of a setting, at columns 0 to 9.

@@ -1,6 +1,5 @@
 // Random texts.
-ghost use Rattle.std.specs.Prelude.{◌<◌, ◌≤◌, length};
-ghost use Rattle.test_texts.specs.MannersExtra.{Writable};
+ghost use Rattle.std.specs.Prelude.{◌<◌, ◌≤◌};
 
 use crate::random::{below, next};
 use crate::records;
@@ -13,11 +12,15 @@ pub struct Manner {
     pub heads: u32,
     pub widths: u32,
     pub spaces: u32,
+    ghost some_heads: { 0 < heads },
+    ghost some_widths: { 0 < widths },
+    ghost widest: { widths ≤ 8 },
+    ghost some_spaces: { 0 < spaces },
 }
 
 // Returns the alignment with a number.
-pub fn alignment(number: u32) -> Alignment {
-    match number {
+pub fn alignment_of(number: u32) -> Alignment {
+    match number % 3 {
         0 => Alignment::Left,
         1 => Alignment::Center,
         _ => Alignment::Right,
@@ -32,12 +35,11 @@ pub fn ambiguous_of(number: u32) -> AmbiguousWidth {
     AmbiguousWidth::Wide
 }
 
-// Returns 1 once in `times`, else 0.
-fn once_in(x: u32, times: u32) -> u32
+// True once in `times`.
+fn once_in(x: u32, times: u32) -> bool
     requires { 0 < times }
-    ensures { result < 2 }
 {
-    if below(x, times) == 0 { 1 } else { 0 }
+    below(x, times) == 0
 }
 
 // Returns the width code that a number up to `widths` stands for: `widths` itself for the ambiguous one.
@@ -52,15 +54,10 @@ fn width_code(number: u32, widths: u32) -> u32
 }
 
 // Returns the record at index `place`, made from x and the next two random numbers. Record 0 is a head.
-fn any_record(place: usize, x: u32, manner: Manner) -> u32
-    requires { Writable manner }
-{
+fn any_record(place: usize, x: u32, manner: Manner) -> u32 {
     let second = next(x);
     let third = next(second);
-    if place == 0 {
-        return records::head(below(second, 4));
-    }
-    if below(x, manner.heads) == 0 {
+    if place == 0 || once_in(x, manner.heads) {
         return records::head(below(second, 4));
     }
     records::glyph(
@@ -70,16 +67,11 @@ fn any_record(place: usize, x: u32, manner: Manner) -> u32
     )
 }
 
-// Writes a text of `count` random records.
-pub fn write_random(text: &mut [u32], count: usize, manner: Manner, seed: u32)
-    requires count_in_bounds { count ≤ length text.old }
-    requires writable { Writable manner }
-{
+// Writes a text of random records.
+pub fn write_random(text: &mut [u32], manner: Manner, seed: u32) {
     let mut x = seed;
-    let mut i = 0;
-    while i < count {
-        text[i] = any_record(i, x, manner);
+    for (place, record) in text.iter_mut().enumerate() {
+        *record = any_record(place, x, manner);
         x = next(next(next(x)));
-        i += 1;
     }
 }

@@ -3,21 +3,53 @@ ghost use Rattle.std.specs.Prelude.{◌≡◌};
 ghost use Rattle.refuse.specs.Refusal.{verdict_number};
 
 use crate::page_reading::read_back;
+use layout::Rect;
 use preview_file::Opening;
 use read_input::read_full;
 use refuse::Refusal;
+use render_lines::DrawCounts;
 use std::io;
 use std::io::Read;
 
-// A call: its kind (0 draws a block, 1 a frame, 2 all pages of a notice, 3 a text, 4 counts the pages of a notice and draws nothing), the
-// expected number, the numbers of cells and text records to pass, and the length of the packed notice in bytes.
+// What a call does: draws a block, a frame, all pages of a notice or a text, or counts the pages of a notice and draws nothing.
+#[derive(Clone, Copy, PartialEq, Eq)]
+pub enum Kind {
+    Block,
+    Frame,
+    Pages,
+    Text,
+    PageCount,
+}
+
+impl From<u8> for Kind {
+    fn from(number: u8) -> Kind {
+        match number {
+            1 => Kind::Frame,
+            2 => Kind::Pages,
+            3 => Kind::Text,
+            4 => Kind::PageCount,
+            _ => Kind::Block,
+        }
+    }
+}
+
+// A call: its kind, the expected number, the numbers of cells and text records to pass, and the length of the packed notice in bytes.
 #[derive(Clone, Copy)]
 pub struct Call {
-    pub kind: u8,
+    pub kind: Kind,
     pub answer: u32,
     pub cells: usize,
     pub records: usize,
     pub bytes: usize,
+}
+
+// What a call is given besides the cells.
+#[derive(Clone, Copy)]
+pub struct Given<'a> {
+    pub opening: Opening,
+    pub styles: &'a [u64],
+    pub titles: &'a [u32],
+    pub text: &'a [u32],
 }
 
 // Returns a two-byte number, high byte first.
@@ -30,7 +62,7 @@ pub fn next_call(file: &mut impl Read) -> io::Result<Call> {
     let mut bytes = [0u8; 8];
     read_full(file, &mut bytes)?;
     Ok(Call {
-        kind: bytes[0],
+        kind: Kind::from(bytes[0]),
         answer: u32::from(bytes[1]),
         cells: number(bytes[2], bytes[3]),
         records: number(bytes[4], bytes[5]),
@@ -38,8 +70,8 @@ pub fn next_call(file: &mut impl Read) -> io::Result<Call> {
     })
 }
 
-// Returns the number of the refusal cause, or 0 if the call is accepted.
-fn answer_number<A: Drop>(answer: Result<A, Refusal>) -> u32
+// Returns the number of the refusal cause, or 0 for an accepted call.
+fn answer_number<T: Copy>(answer: Result<T, Refusal>) -> u32
     ensures { result ≡ verdict_number answer }
 {
     match answer {
@@ -49,78 +81,69 @@ fn answer_number<A: Drop>(answer: Result<A, Refusal>) -> u32
 }
 
 // Draws a block.
-fn draw_block(opening: Opening, styles: &[u64], titles: &[u32], cells: &mut [u64]) -> u32 {
-    let columns = u32::from(opening.columns);
-    let rows = u32::from(opening.rows);
+fn draw_block(given: Given, cells: &mut [u64]) -> Result<(), Refusal> {
+    let opening = given.opening;
     let flat_area = opening.area;
     let flat_block = opening.block;
-    let settings = opening.text;
-    let ambiguous = flat::ambiguous_named(settings.ambiguous);
-    answer_number(draw_block::draw_block(
-        columns,
-        rows,
+    draw_block::draw_block(
+        u32::from(opening.columns),
+        u32::from(opening.rows),
         cells,
-        styles,
-        titles,
-        ambiguous,
+        given.styles,
+        given.titles,
+        flat::ambiguous_named(opening.text.ambiguous),
         flat_area.area(),
         flat_block.block(),
-    ))
+    )
 }
 
 // Draws a frame.
-fn draw_frame(opening: Opening, styles: &[u64], titles: &[u32], cells: &mut [u64]) -> u32 {
-    let columns = u32::from(opening.columns);
-    let rows = u32::from(opening.rows);
+fn draw_frame(given: Given, cells: &mut [u64]) -> Result<Rect, Refusal> {
+    let opening = given.opening;
     let flat_area = opening.area;
     let flat_block = opening.block;
-    let settings = opening.text;
-    let ambiguous = flat::ambiguous_named(settings.ambiguous);
-    answer_number(draw_frame::draw_frame(
-        columns,
-        rows,
+    draw_frame::draw_frame(
+        u32::from(opening.columns),
+        u32::from(opening.rows),
         cells,
-        styles,
-        titles,
-        ambiguous,
+        given.styles,
+        given.titles,
+        flat::ambiguous_named(opening.text.ambiguous),
         flat_area.area(),
-        settings.style,
+        opening.text.style,
         flat_block.block(),
-    ))
+    )
 }
 
 // Draws a text into the opening's area.
-fn draw_text(opening: Opening, styles: &[u64], text: &[u32], cells: &mut [u64]) -> u32 {
-    let columns = u32::from(opening.columns);
-    let rows = u32::from(opening.rows);
+fn draw_text(given: Given, cells: &mut [u64]) -> Result<DrawCounts, Refusal> {
+    let opening = given.opening;
     let flat_area = opening.area;
-    let flat = opening.text;
-    let settings = flat.text_settings();
-    let area = flat_area.area();
-    answer_number(draw_text::draw_text(columns, rows, cells, styles, text, area, settings))
+    let flat_text = opening.text;
+    draw_text::draw_text(
+        u32::from(opening.columns),
+        u32::from(opening.rows),
+        cells,
+        given.styles,
+        given.text,
+        flat_area.area(),
+        flat_text.text_settings(),
+    )
 }
 
 // Runs a call of a kind and returns its number.
-pub fn draw(
-    rt: &impl Print,
-    kind: u8,
-    opening: Opening,
-    styles: &[u64],
-    titles: &[u32],
-    text: &[u32],
-    cells: &mut [u64],
-) -> io::Result<u32> {
-    if kind == 1 {
-        return Ok(draw_frame(opening, styles, titles, cells));
+pub fn run(rt: &impl Print, kind: Kind, given: Given, cells: &mut [u64]) -> io::Result<u32> {
+    match kind {
+        Kind::Block => Ok(answer_number(draw_block(given, cells))),
+        Kind::Frame => Ok(answer_number(draw_frame(given, cells))),
+        Kind::Pages => read_back(rt, given, cells),
+        Kind::Text => Ok(answer_number(draw_text(given, cells))),
+        Kind::PageCount => Ok(answer_number(preview_sheet::checked(
+            given.opening,
+            given.styles,
+            given.titles,
+            given.text,
+            cells,
+        ))),
     }
-    if kind == 2 {
-        return read_back(rt, opening, styles, titles, text, cells);
-    }
-    if kind == 3 {
-        return Ok(draw_text(opening, styles, text, cells));
-    }
-    if kind == 4 {
-        return Ok(answer_number(preview_sheet::checked(opening, styles, titles, text, cells)));
-    }
-    Ok(draw_block(opening, styles, titles, cells))
 }

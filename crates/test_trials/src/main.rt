@@ -20,18 +20,14 @@ use std::fs::File;
 use std::io;
 use std::io::Read;
 use std::rt::Files;
-use test_print::print_number;
 
 // Runs `count` calls of a file and prints how many differ.
 fn run_calls(rt: &impl Print, file: &mut impl Read, count: u32) -> io::Result<()> {
-    let mut calls = 0;
-    let mut differ = 0;
-    while calls < count {
-        differ += calling::differs(rt, file)?;
-        calls += 1;
+    let mut differ = 0u32;
+    for _call in 0..count {
+        differ += u32::from(calling::differs(rt, file)?);
     }
-    print_number(rt, calls, b" calls, ")?;
-    print_number(rt, differ, b" differ\n")
+    println!(rt; "{count} calls, {differ} differ")
 }
 
 // Runs `count` calls of the file with a name. One that can't be opened is read as an empty one.

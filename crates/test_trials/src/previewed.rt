@@ -12,17 +12,15 @@ fn case(rt: &(impl Files + Print), name: &str, asked: Asked) -> io::Result<()> {
     }
 }
 
-// Shows all pages without ANSI sequences.
+// All pages, without ANSI sequences, with ambiguous glyphs read narrow.
+const PLAIN: Asked = Asked {
+    wide: false,
+    ansi: false,
+    pages: None,
+};
+
 fn plain(rt: &(impl Files + Print), name: &str) -> io::Result<()> {
-    case(
-        rt,
-        name,
-        Asked {
-            wide: false,
-            ansi: false,
-            pages: None,
-        },
-    )
+    case(rt, name, PLAIN)
 }
 
 // Shows all pages with ambiguous glyphs read wide.
@@ -32,8 +30,7 @@ fn wide(rt: &(impl Files + Print), name: &str) -> io::Result<()> {
         name,
         Asked {
             wide: true,
-            ansi: false,
-            pages: None,
+            ..PLAIN
         },
     )
 }
@@ -44,24 +41,16 @@ fn coloured(rt: &(impl Files + Print), name: &str) -> io::Result<()> {
         rt,
         name,
         Asked {
-            wide: false,
             ansi: true,
-            pages: None,
+            ..PLAIN
         },
     )
 }
 
 // Shows one page without ANSI sequences.
 fn one_page(rt: &(impl Files + Print), name: &str, page: u64) -> io::Result<()> {
-    case(
-        rt,
-        name,
-        Asked {
-            wide: false,
-            ansi: false,
-            pages: Some(page),
-        },
-    )
+    let pages = Some(page);
+    case(rt, name, Asked { pages, ..PLAIN })
 }
 
 fn shown(rt: &(impl Files + Print)) -> io::Result<()> {

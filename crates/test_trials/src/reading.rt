@@ -3,64 +3,39 @@ use layout::Rect;
 use text::{glyph, head};
 
 // Whether a record is a solid glyph.
-fn is_solid(record: u32) -> bool {
-    if head::is_head(record) {
-        return false;
-    }
-    !glyph::is_whitespace(record)
+pub fn is_solid(record: u32) -> bool {
+    !head::is_head(record) && !glyph::is_whitespace(record)
 }
 
-// Returns the index of the first solid glyph from `from` on, or the end of the text.
-pub fn next_solid(text: &[u32], from: usize) -> usize {
-    let mut i = from;
-    while i < text.len() {
-        if is_solid(text[i]) {
-            return i;
-        }
-        i += 1;
+// Returns the records after the next solid glyph, or None if there is none or its symbol differs.
+fn after_glyph(unread: &[u32], symbol: u64) -> Option<&[u32]> {
+    let next = unread.iter().position(|record| is_solid(*record))?;
+    if u64::from(glyph::symbol(unread[next])) != symbol {
+        return None;
     }
-    i
-}
-
-// Returns the index after the next solid glyph, or 65,535 (past any text) if there is none or its symbol differs.
-fn after_glyph(text: &[u32], from: usize, symbol: u64) -> usize {
-    let i = next_solid(text, from);
-    if text.len() <= i {
-        return 65535;
-    }
-    if glyph::symbol(text[i]) as u64 != symbol {
-        return 65535;
-    }
-    i + 1
+    Some(&unread[next + 1..])
 }
 
 // Whether the cell at index `place` of a 40 × 20 screen is in an area.
 fn is_inside(area: Rect, place: usize) -> bool {
-    if 800 <= place {
-        return false;
-    }
-    area.contains((place % 40) as u16, (place / 40) as u16)
+    place < 800 && area.contains((place % 40) as u16, (place / 40) as u16)
 }
 
-// Returns the index of the record after the glyph that a cell shows, or `from` if it shows none in the area.
-fn read_cell(text: &[u32], from: usize, area: Rect, place: usize, cell: u64) -> usize {
+// Returns the records after the glyph that a cell shows, or all if it shows none in the area.
+fn after_cell(unread: &[u32], area: Rect, place: usize, cell: u64) -> Option<&[u32]> {
     let symbol = cell::symbol(cell);
-    if symbol == 32 {
-        return from;
+    if symbol != 32 && is_inside(area, place) {
+        return after_glyph(unread, symbol);
     }
-    if is_inside(area, place) {
-        return after_glyph(text, from, symbol);
-    }
-    from
+    Some(unread)
 }
 
-// Returns the index of the record after the last glyph in an area, read row by row from the top, each from left to right.
-pub fn read_area(text: &[u32], from: usize, area: Rect, cells: &[u64]) -> usize {
-    let mut read = from;
-    let mut i = 0;
-    while i < cells.len() {
-        read = read_cell(text, read, area, i, cells[i]);
-        i += 1;
+// Returns the records after the last glyph in an area, read row by row from the top, each from left to right, or None if the glyphs
+// aren't those of the text.
+pub fn after_area<'a>(text: &'a [u32], area: Rect, cells: &[u64]) -> Option<&'a [u32]> {
+    let mut unread = text;
+    for (place, cell) in cells.iter().enumerate() {
+        unread = after_cell(unread, area, place, *cell)?;
     }
-    read
+    Some(unread)
 }

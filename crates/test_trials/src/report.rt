@@ -2,7 +2,6 @@
 use read_input::read_full;
 use std::io;
 use std::io::Read;
-use test_print::print_number;
 
 // Prints what differs from an accepted call: the next 32 bytes of a file.
 pub fn print_name(rt: &impl Print, file: &mut impl Read) -> io::Result<()> {
@@ -13,10 +12,6 @@ pub fn print_name(rt: &impl Print, file: &mut impl Read) -> io::Result<()> {
 
 // Prints a call's number and whether the cells are unchanged.
 pub fn print_answer(rt: &impl Print, answer: u32, kept: bool) -> io::Result<()> {
-    rt.print("answers ")?;
-    if kept {
-        print_number(rt, answer, b", cells kept\n")
-    } else {
-        print_number(rt, answer, b", cells changed\n")
-    }
+    let cells = if kept { "kept" } else { "changed" };
+    println!(rt; "answers {answer}, cells {cells}")
 }

@@ -1,21 +1,18 @@
 -- `test_answers::texts::sum_truncated` meets its contract.
-use Rattle.test_answers.proofs.Pulling.{pulling}
+use borrow.Author.Rules.{rules}
+use Rattle.test_answers.proofs.Pulling.{first_fits, end_fits, width_fits, count_fits, pulling_ends}
 use Rattle.test_answers.proofs.texts.sum_truncated.Goals as goal
 
-pub loop-line-init : goal.loop-line-init
-loop-line-init c = search pulling
-
 pub returns-in_default : goal.returns-in_default
-returns-in_default c = search pulling
+returns-in_default c = pulling_ends _ _ _ _ _ _ _ _ c.loop-line.invariant _ c.in_default.ensures c.with_number.ensures
 
 pub with_line-sum-requires : goal.with_line-sum-requires
-with_line-sum-requires c = search pulling
+with_line-sum-requires c =
+    (
+      first_fits _ _ _ _ _ _ _ _ c.loop-line.invariant _ c.in-Some.ensures c.requires.0,
+      end_fits _ _ _ _ _ _ _ _ c.loop-line.invariant _ c.in-Some.ensures c.requires.0,
+      width_fits _ _ _ _ _ _ _ _ c.loop-line.invariant _ c.in-Some.ensures c.requires.0,
+    )
 
 pub overflow_add-count : goal.overflow_add-count
-overflow_add-count c = search pulling
-
-pub loop-line-smaller : goal.loop-line-smaller
-loop-line-smaller c = search pulling
-
-pub loop-line-preserved : goal.loop-line-preserved
-loop-line-preserved c = search pulling
+overflow_add-count c = count_fits _ _ _ _ _ _ _ _ c.loop-line.invariant _ c.in-Some.ensures c.requires.0

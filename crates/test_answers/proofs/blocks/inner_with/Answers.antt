@@ -1,7 +1,0 @@
--- `test_answers::blocks::inner_with` meets its contract.
-use native.Mathlib.Omega.{arith}
-use lib.ListN.{length-take}
-use Rattle.test_answers.proofs.blocks.inner_with.Goals as goal
-
-pub slice_bounds-sum_inner-end-2 : goal.slice_bounds-sum_inner-end-2
-slice_bounds-sum_inner-end-2 c = simp length-take (omega arith)
