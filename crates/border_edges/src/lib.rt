@@ -1,7 +1,7 @@
 // The sides and corners of a block's area (block.rs: the tables in `Block::render_sides` and `Block::render_corners`).
 #![tactic(auto)]
 
-ghost use Rattle.std.specs.Prelude.{◌≡◌, ◌&&◌, ◌-◌};
+ghost use Rattle.std.specs.Prelude.{◌≡◌, ◌-◌};
 ghost use Rattle.layout.specs.Rect.{right_of, bottom_of};
 ghost use Rattle.border_edges.specs.Edges.{left_edge, top_edge, right_edge, bottom_edge, bottom_right_edge, top_right_edge, bottom_left_edge, top_left_edge};
 
@@ -28,16 +28,6 @@ fn last_row(area: Rect) -> u16
     ensures { result ≡ bottom_of area - 1 }
 {
     area.bottom().saturating_sub(1)
-}
-
-// Whether both borders are present.
-fn both(one: bool, other: bool) -> bool
-    ensures { result ≡ (one && other) }
-{
-    if one {
-        return other;
-    }
-    false
 }
 
 // Returns the left side: the first column.
@@ -129,7 +119,7 @@ pub fn bottom_right(block: Block, area: Rect) -> Edge
         height: 1,
     };
     Edge {
-        present: both(on.right, on.bottom),
+        present: on.right && on.bottom,
         part,
         symbol: set.bottom_right,
     }
@@ -148,7 +138,7 @@ pub fn top_right(block: Block, area: Rect) -> Edge
         height: 1,
     };
     Edge {
-        present: both(on.right, on.top),
+        present: on.right && on.top,
         part,
         symbol: set.top_right,
     }
@@ -167,7 +157,7 @@ pub fn bottom_left(block: Block, area: Rect) -> Edge
         height: 1,
     };
     Edge {
-        present: both(on.left, on.bottom),
+        present: on.left && on.bottom,
         part,
         symbol: set.bottom_left,
     }
@@ -186,7 +176,7 @@ pub fn top_left(block: Block, area: Rect) -> Edge
         height: 1,
     };
     Edge {
-        present: both(on.left, on.top),
+        present: on.left && on.top,
         part,
         symbol: set.top_left,
     }
