@@ -1,9 +1,7 @@
--- The call `draw_block`: its answers and drawing, the numbers of its answers, the order of its causes, and the preconditions that
--- an accepted call meets.
-use Prim.Native.Nat.{ℕ, ◌<◌, ◌^◌}
+-- The call `draw_block`: the numbers of its answers, the order of its causes, and the preconditions that an accepted call meets.
+use Prim.Native.Nat.{◌<◌, ◌^◌}
 use mathlib.Core.Path.{◌≡◌, refl, sym, ◌∙◌}
 use mathlib.Core.Bool.{false}
-use mathlib.Core.List.{List}
 use lib.ListN.{length}
 use Rattle.std.specs.Prelude.{Ok, Err}
 use Rattle.text.specs.Line.{Opens}
@@ -12,15 +10,14 @@ use Rattle.refuse.specs.declared.Refusal.{Refusal}
 use Rattle.refuse.specs.declared.Refusal.TheVariants.{Screen, Titles, Symbol}
 use Rattle.refuse.specs.Refusal.{verdict_number, Verdict}
 use Rattle.refuse.specs.Causes.{most_accepted, screen_causes, screen_wrong}
-use Rattle.refuse.proofs.Calls.{no_cause, left_refused, left-accepted}
+use Rattle.refuse.proofs.Calls.{no_cause}
 use Rattle.refuse.proofs.Accepted.{titles_open}
 use Rattle.refuse.proofs.Lowest.{InOrder, in_order}
 use Rattle.check_settings.proofs.Cells.{columns_fit, rows_fit, has_cells}
 use Rattle.block.specs.Causes.{SymbolsFit}
-use Rattle.buffer.specs.Drawing.{drawn}
 use Rattle.buffer.specs.Screen.{screen_of}
 use Rattle.buffer.specs.PartsExtra.{HasCells}
-use Rattle.draw_block.specs.Call.{Call, causes_of, verdict_of, answer_of, drawing_of, cells_after}
+use Rattle.draw_block.specs.Call.{Call, causes_of, verdict_of, answer_of, cells_after}
 
 -- a cause that holds refuses the call, and a refusal names the lowest cause that holds
 pub lowest-first : (most : Ceilings) (call : Call) → InOrder (causes_of most call)

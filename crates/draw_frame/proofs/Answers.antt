@@ -1,30 +1,24 @@
--- The call `draw_frame`: its answer and drawing, the answer as document 01's number and an area, the order of its causes, and what
+-- The call `draw_frame`: the answer as document 01's number and an area, the order of its causes, and what
 -- acceptance implies for its inputs.
-use Prim.Native.Nat.{ℕ, ◌<◌, ◌≤◌, ◌^◌}
+use Prim.Native.Nat.{◌<◌, ◌≤◌, ◌^◌}
 use mathlib.Core.Path.{◌≡◌, refl, sym, ◌∙◌}
-use mathlib.Core.Bool.{Bool, true, false}
-use mathlib.Core.List.{List}
+use mathlib.Core.Bool.{false}
 use lib.ListN.{length}
-use borrow.Author.Tests.{le-leb, lt-leb}
 use Rattle.std.specs.Prelude.{Ok, Err}
 use Rattle.text.specs.Line.{Opens}
-use Rattle.layout.specs.declared.Rect.{Rect}
 use Rattle.refuse.specs.declared.Ceilings.{Ceilings}
 use Rattle.refuse.specs.declared.Refusal.{Refusal}
 use Rattle.refuse.specs.declared.Refusal.TheVariants.{Screen, Titles, Symbol}
 use Rattle.refuse.specs.Refusal.{verdict_number, Verdict}
-use Rattle.refuse.specs.Causes.{most_accepted, screen_causes, screen_wrong, style_numbers_wrong}
-use Rattle.refuse.proofs.Calls.{no_cause, answer_refused, answer_accepted, left_refused, left-accepted, answered-number, answered_value}
+use Rattle.refuse.specs.Causes.{most_accepted, screen_causes, screen_wrong}
+use Rattle.refuse.proofs.Calls.{no_cause, answered-number, answered_value}
 use Rattle.refuse.proofs.Accepted.{titles_open}
 use Rattle.refuse.proofs.Lowest.{InOrder, in_order}
 use Rattle.check_settings.proofs.Cells.{columns_fit, rows_fit, has_cells}
-use Rattle.block.specs.declared.Block.{Block}
 use Rattle.block.specs.Causes.{SymbolsFit}
-use Rattle.check_block.specs.Styles.{frame_styles}
-use Rattle.buffer.specs.Drawing.{drawn}
 use Rattle.buffer.specs.PartsExtra.{HasCells}
 use Rattle.inner.specs.Call.{no_rect, inner_answer_rect}
-use Rattle.draw_frame.specs.Call.{Call, notice_frame_styles, causes_of, verdict_of, screen_in, inner_in, answer_of, area_of, drawing_of, cells_after}
+use Rattle.draw_frame.specs.Call.{Call, causes_of, verdict_of, screen_in, inner_in, answer_of, area_of, cells_after}
 
 -- a call is refused if and only if a cause holds, and for the lowest such cause
 pub lowest-first : (most : Ceilings) (call : Call) → InOrder (causes_of most call)

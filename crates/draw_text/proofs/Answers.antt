@@ -1,28 +1,23 @@
--- The call `draw_text`: its answer and drawing, the answer as document 01's numbers, the order of its causes, and what acceptance implies
+-- The call `draw_text`: the answer as document 01's numbers, the order of its causes, and what acceptance implies
 -- for its inputs.
-use Prim.Native.Nat.{ℕ, ◌<◌, ◌≤◌, ◌^◌}
+use Prim.Native.Nat.{◌<◌, ◌≤◌, ◌^◌}
 use mathlib.Core.Path.{◌≡◌, refl, sym, ◌∙◌}
-use mathlib.Core.Bool.{Bool, true, false}
-use mathlib.Core.List.{List}
+use mathlib.Core.Bool.{false}
 use lib.ListN.{length}
-use borrow.Author.Tests.{le-leb, lt-leb}
 use Rattle.std.specs.Prelude.{Ok, Err}
 use Rattle.refuse.specs.declared.Ceilings.{Ceilings}
 use Rattle.refuse.specs.declared.Refusal.{Refusal}
 use Rattle.refuse.specs.declared.Refusal.TheVariants.{Screen, TextLength, TextHeads}
 use Rattle.refuse.specs.Refusal.{verdict_number, Verdict}
-use Rattle.refuse.specs.Causes.{most_accepted, screen_causes, text_causes, screen_wrong, glyph_styles, style_numbers_wrong}
-use Rattle.refuse.proofs.Calls.{no_cause, answer_refused, answer_accepted, left_refused, left-accepted, answered-number, answered_value}
+use Rattle.refuse.specs.Causes.{most_accepted, screen_causes, text_causes, screen_wrong}
+use Rattle.refuse.proofs.Calls.{no_cause, answered-number, answered_value}
 use Rattle.refuse.proofs.Accepted.{sound}
 use Rattle.refuse.proofs.Lowest.{InOrder, in_order}
 use Rattle.check_settings.proofs.Cells.{columns_fit, rows_fit, has_cells}
-use Rattle.buffer.specs.Drawing.{drawn}
 use Rattle.buffer.specs.PartsExtra.{HasCells}
-use Rattle.render_lines.specs.declared.DrawCounts.{DrawCounts}
 use Rattle.render_lines.specs.DrawingExtra.{Composable}
-use Rattle.render_text.specs.declared.TextSettings.{TextSettings}
 use Rattle.paragraph.specs.Notice.{no_draw_counts}
-use Rattle.draw_text.specs.Call.{Call, text_styles, causes_of, verdict_of, screen_in, drawing_of, rows_of, answer_of, counts_of, cells_after, draw_answer_counts}
+use Rattle.draw_text.specs.Call.{Call, causes_of, verdict_of, screen_in, rows_of, answer_of, counts_of, cells_after, draw_answer_counts}
 
 -- a call is refused if and only if a cause holds, and for the lowest such cause
 pub lowest-first : (most : Ceilings) (call : Call) → InOrder (causes_of most call)

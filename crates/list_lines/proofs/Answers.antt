@@ -1,18 +1,15 @@
--- The answer and the list after the call `list_lines`, by path through its checks; the answer's numbers; the order of its causes.
+-- The call `list_lines`: the order of its causes, the numbers of its answer, and the list after it.
 use Prim.Native.Nat.{ℕ, ◌≤◌}
-use mathlib.Core.Path.{◌≡◌, refl, sym, ap, ◌∙◌}
-use mathlib.Core.Bool.{Bool, true, false}
-use mathlib.Core.List.{List, ◌++◌, map}
+use mathlib.Core.Path.{◌≡◌, refl, sym, ◌∙◌}
+use mathlib.Core.Bool.{Bool, false}
+use mathlib.Core.List.{◌++◌, map}
 use borrow.Author.Tests.{ltb-false}
-use lib.Dec.{ltb}
 use lib.ListN.{length, drop}
-use Rattle.std.specs.Prelude.{Ok, Err}
+use Rattle.std.specs.Prelude.{Ok}
 use Rattle.refuse.specs.declared.Ceilings.{Ceilings}
-use Rattle.refuse.specs.declared.Refusal.{Refusal}
-use Rattle.refuse.specs.declared.Refusal.TheVariants.{ListLength}
-use Rattle.refuse.specs.Refusal.{first_cause, verdict_number, unless_refused, Verdict}
-use Rattle.refuse.specs.Causes.{most_accepted, text_causes, line_causes, list_too_short}
-use Rattle.refuse.proofs.Calls.{stop, pass, stop_early, pass_early, answer_refused, answer_accepted, left_refused, left-accepted, answered-number, answered_value}
+use Rattle.refuse.specs.Refusal.{verdict_number, unless_refused}
+use Rattle.refuse.specs.Causes.{text_causes, line_causes, list_too_short}
+use Rattle.refuse.proofs.Calls.{answered-number, answered_value}
 use Rattle.refuse.proofs.Lowest.{InOrder, in_order}
 use Rattle.entry.specs.Entry.{listed}
 use Rattle.list_lines.specs.Call.{Call, lines_of, marked_lines_of, causes_of, verdict_of, answer_of, list_after, list_answer_count}
@@ -34,9 +31,7 @@ answer_count call = answered_value list_answer_count (λ count. count) 0 (λ cou
 -- the list after an accepted call
 pub list-accepted : (call : Call) → verdict_of call ≡ Ok tt → list_after call ≡ map listed (marked_lines_of call) ++ drop (length (lines_of call)) call.list
 unfolding list_after
-list-accepted call a =
-    let new = map listed (marked_lines_of call) ++ drop (length (lines_of call)) call.list in
-    sym (left-accepted (verdict_of call) new call.list a new refl)
+list-accepted call a = rw a
 
 -- a list that isn't too short has an entry for each line
 pub list-room : (entries n count : ℕ) (b : Bool) → count ≡ n → b ≡ list_too_short entries count → b ≡ false → n ≤ entries

@@ -1,13 +1,11 @@
 -- The calls `line_count` and `line_width`: their answers, the answers as document 01's numbers, and the order of their causes.
-use Prim.Native.Nat.{ℕ}
 use mathlib.Core.Path.{◌≡◌, refl, sym, ◌∙◌}
-use Rattle.std.specs.Prelude.{Ok, Err}
+use Rattle.std.specs.Prelude.{Ok}
 use Rattle.refuse.specs.declared.Ceilings.{Ceilings}
-use Rattle.refuse.specs.declared.Refusal.{Refusal}
 use Rattle.refuse.specs.declared.Refusal.TheVariants.{TextLength, TextHeads}
 use Rattle.refuse.specs.Refusal.{verdict_number, Verdict}
 use Rattle.refuse.specs.Causes.{most_accepted, text_causes}
-use Rattle.refuse.proofs.Calls.{no_cause, answer_refused, answer_accepted, answered-number, answered_value}
+use Rattle.refuse.proofs.Calls.{no_cause, answered-number, answered_value}
 use Rattle.refuse.proofs.Accepted.{TextAccepted, sound}
 use Rattle.refuse.proofs.Lowest.{InOrder, in_order}
 use Rattle.measure_text.specs.Measures.{line_width}

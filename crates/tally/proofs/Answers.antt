@@ -1,13 +1,10 @@
 -- The call `tally`: its answer, the answer as document 01's numbers, and the order of its causes.
-use mathlib.Core.Path.{◌≡◌, refl, sym, ◌∙◌}
-use Rattle.std.specs.Prelude.{Ok, Err}
+use mathlib.Core.Path.{◌≡◌, refl, ◌∙◌}
 use Rattle.refuse.specs.declared.Ceilings.{Ceilings}
-use Rattle.refuse.specs.declared.Refusal.{Refusal}
-use Rattle.refuse.specs.Refusal.{first_cause, verdict_number, Verdict}
-use Rattle.refuse.specs.Causes.{most_accepted, text_causes, line_causes}
-use Rattle.refuse.proofs.Calls.{answer_refused, answer_accepted, answered-number, answered_value}
+use Rattle.refuse.specs.Refusal.{verdict_number}
+use Rattle.refuse.specs.Causes.{text_causes, line_causes}
+use Rattle.refuse.proofs.Calls.{answered-number, answered_value}
 use Rattle.refuse.proofs.Lowest.{InOrder, in_order}
-use Rattle.tally.specs.declared.TallyCounts.{TallyCounts}
 use Rattle.tally.specs.Tally.{no_counts, tally_of}
 use Rattle.tally.specs.Call.{Call, rule_in, causes_of, verdict_of, answer_of, counts_of, tally_answer_counts}
 
