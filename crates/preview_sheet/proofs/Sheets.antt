@@ -33,9 +33,14 @@ use Rattle.flat.specs.declared.FlatBlock.{FlatBlock}
 use Rattle.flat.specs.declared.FlatText.{FlatText}
 use Rattle.flat.specs.FlatExtra.{ambiguous_named, area_from, block_from, notice_from, wrap_named}
 use Rattle.preview_file.specs.declared.Opening.{Opening}
-use Rattle.std.specs.Prelude.{Result, Ok, Err}
+use Rattle.std.specs.Prelude.{Result, Ok, Err, IsErrAnd}
 use Rattle.preview_sheet.specs.declared.Measure.{Measure}
 use Rattle.preview_sheet.specs.SheetExtra.{notice_at, call_at, answered_both, pair_answer, opening_read, nothing_set, lines_in, met_of, fitting_of}
+
+-- an error that a call hands on
+pub err_of : {A : Type 0} (r : Result A Refusal) (why : Refusal) → IsErrAnd r (λ own. own ≡ why) → r ≡ Err why
+err_of (Ok answer) why h = absurd h
+err_of (Err own) why h = ap (λ f. Err f) h
 
 pub area-met : (area : FlatArea) (columns rows : ℕ) (a s r : Rect)
     → a ≡ area_from area → s ≡ area_of (screen_of columns rows) → r ≡ meet a s → r ≡ meet (area_from area) (area_of (screen_of columns rows))
