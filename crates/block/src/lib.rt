@@ -38,6 +38,7 @@ pub enum Effect {
 }
 
 // Shadow of a block, if any: effect, style number, and offset from the block in columns and rows (block/shadow.rs: `Shadow`).
+// An enum that holds an enum, as document 01 asks; else it would be an Option.
 #[derive(Clone, Copy)]
 pub enum Shadow {
     Absent,

@@ -8,7 +8,8 @@ ghost use Rattle.buffer.specs.PartsExtra.{in_row, OnScreen};
 
 use layout::Rect;
 
-// Size of a screen in cells.
+// Size of a screen in cells. It is passed beside the cells: a struct that holds the `&mut` slice was tried, and its caller then knows
+// nothing of the slice's cells after a call.
 #[derive(Clone, Copy)]
 pub struct Screen {
     pub columns: u16,

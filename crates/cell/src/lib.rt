@@ -1,4 +1,5 @@
 // Cell, 64 bits: symbol 21 | foreground 8 | background 8 | modifiers 9 | 18 bits never touched.
+// Each field has its function, as its place and its size differ: a generic one would take both and be no plainer.
 #![tactic(auto)]
 
 ghost use Rattle.std.specs.Prelude.{◌≡◌, cond, ◌-◌, ◌<◌, ◌^◌};

@@ -16,6 +16,7 @@ pub fn count_lines(rule: Rule, default_alignment: Alignment, text: &[u32]) -> us
 {
     let mut composer = LineComposer::new(rule, Method::WordWrap, text);
     let mut count = 0;
+    // By `let .. else`, as document 01 asks of a next composed line.
     loop {
         let Some(_) = composer.next(rule, default_alignment, text) else {
             return count;

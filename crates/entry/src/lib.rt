@@ -1,4 +1,5 @@
 // Entry of a composed line, 64 bits: first 15 | end 15 | width 16 | alignment 2 | mark 1 | 15 zeros.
+// Each field has its function, as its place and its size differ: a generic one would take both and be no plainer.
 #![tactic(auto)]
 
 ghost use Rattle.std.specs.Prelude.{◌≡◌, ◌<◌, ◌^◌};

@@ -70,7 +70,7 @@ pub struct FlatPagesAnswer {
     pub pages: u32,
 }
 
-// Returns 0, or the number of the refusal.
+// Returns 0, or the number of the refusal. Not a `From`: the trait and both types are the library's.
 pub fn verdict_number(verdict: Result<(), Refusal>) -> u32
     ensures { result ≡ verdict_number verdict }
 {

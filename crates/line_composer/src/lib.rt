@@ -26,7 +26,7 @@ pub enum Wrap {
     On { trim: bool },
 }
 
-// How lines are composed: wrapped, or truncated and scrolled right by a number of columns.
+// How lines are composed: wrapped, or truncated and scrolled right by a number of columns. Two methods, so no Option.
 #[derive(Clone, Copy)]
 pub enum Method {
     WordWrap,
@@ -80,6 +80,7 @@ fn next_line(
     requires few_records { FewRecords records.now }
     ensures { PulledMethodRun rule method alignment records.now wrapper.old result wrapper.new }
 {
+    // Only one of the two methods changes the wrapper line by line: a trait or a closure for each would be no plainer.
     match method {
         Method::WordWrap => wrapper.next_line(rule, records),
         Method::Truncate(column) => {
@@ -131,6 +132,7 @@ impl LineComposer {
         requires few_records { FewRecords text.now }
         ensures { PulledLine rule default_alignment text.now self.old result self.new }
     {
+        // By `let .. else`, as document 01 asks of a next composed line.
         loop {
             let from = self.from;
             let to = self.to;

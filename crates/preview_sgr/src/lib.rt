@@ -15,7 +15,7 @@ fn last_digit(number: u64) -> u8
     b'0' + (number % 10) as u8
 }
 
-// Appends a number below 1,000 in decimal.
+// Appends a number below 1,000 in decimal. By hand: `decimal` takes any number, by its last three digits, and the library's doesn't.
 #[tactic(auto, unfolding(crate::specs::SgrExtra::decimal))]
 fn put_decimal<const N: usize>(text: &mut ArrayVec<u8, N>, number: u64)
     requires { array_vec_len text.old + 3 ≤ N }

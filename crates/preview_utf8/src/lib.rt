@@ -33,7 +33,7 @@ fn following(number: u64) -> u8
     (128 + number % 64) as u8
 }
 
-// Appends a code point.
+// Appends a code point. By hand: the definition `encoded` and the edit `five_bits` speak of its bytes.
 #[tactic(auto, unfolding(crate::specs::Utf8Extra::encoded))]
 fn put_code_point<const N: usize>(text: &mut ArrayVec<u8, N>, symbol: u64)
     requires room { array_vec_len text.old + 4 ≤ N }

@@ -19,6 +19,7 @@ pub fn read_full<R: Read>(input: &mut R, buffer: &mut [u8]) -> io::Result<usize>
     ensures err { OnErr result (Loses (R.remaining input.old) (R.remaining input.new)) }
 {
     let mut done = 0;
+    // A turn reads as many bytes as the reader gives, so no `for` counts them.
     while done < buffer.len() {
         let n = input.read(&mut buffer[done..])?;
         if n == 0 {

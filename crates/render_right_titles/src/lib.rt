@@ -113,6 +113,7 @@ fn render_titles_backward(
     let first = line::line_length(titles);
     let mut left = area;
     let mut end = titles.len();
+    // From the last title on: `Lines` gives them from the first on only.
     while first < end {
         let at = heads::last_head(titles, end);
         let from = at + 1;

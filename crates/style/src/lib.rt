@@ -1,5 +1,6 @@
 // Style, 64 bits: foreground given 1 | foreground 8 | background given 1 | background 8 | add 9 | remove 9 | 28 zeros.
 // Whether a colour is given, and the colour, are two fields of the packed form (document 01), so they are read by two functions.
+// Each field has its function, as its place and its size differ: a generic one would take both and be no plainer.
 #![tactic(auto)]
 
 ghost use Rattle.std.specs.Prelude.{◌≡◌, ◌<◌, ◌^◌};

@@ -90,6 +90,7 @@ pub fn line_counts(rule: Rule, text: &[u32]) -> LineCounts
 {
     let mut composer = LineComposer::new(rule, Method::WordWrap, text);
     let mut counts = LineCounts::empty(0);
+    // By `let .. else`, as document 01 asks of a next composed line.
     loop {
         let Some(line) = composer.next(rule, Alignment::Left, text) else {
             return counts;

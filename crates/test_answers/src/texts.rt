@@ -45,6 +45,7 @@ fn sum_truncated(rule: Rule, column: u32, default_alignment: Alignment, text: &[
     let mut composer = LineComposer::new(rule, Method::Truncate(column), text);
     let mut sum = 0;
     let mut count = 0;
+    // By `let .. else`, as document 01 asks of a next composed line.
     loop {
         let Some(line) = composer.next(rule, default_alignment, text) else {
             return with_number(sum, count);

@@ -184,6 +184,7 @@ impl WordWrapper {
         ensures { PulledRun rule records.now self.old result self.new }
     {
         if self.live {
+            // The index is the state's: each step moves it on.
             while self.at < records.len() {
                 let (next, line) = self.step(rule, records);
                 *self = next;
