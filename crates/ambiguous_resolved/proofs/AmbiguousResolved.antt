@@ -173,7 +173,7 @@ module _ (a b : AmbiguousWidth) (columns rows : ℕ) (cells styles titles : List
     block_verdict = rw (titles-wrong-same a most_accepted titles, same-frame-styles a framed titles)
 
     block-resolved : (block.answer_of boxed_replaced ≡ block.answer_of boxed) × (block.cells_after boxed_replaced ≡ block.cells_after boxed)
-    unfolding block.answer_of block.cells_after block.drawing_of
+    unfolding block.cells_after block.drawing_of
     block-resolved = (rw block_verdict, rw (block_verdict, same-titles a b titles))
 
   -- `draw_frame`

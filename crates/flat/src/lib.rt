@@ -7,7 +7,6 @@ ghost use Rattle.flat.specs.FlatExtra.{unnamed, alignment_named, ambiguous_known
 ghost use Rattle.flat.specs.FlatExtra.{position_named, shadow_named, wrap_named, area_from, block_known, block_from, text_known, settings_from, notice_from};
 
 use block::{Block, BorderSet, Borders, Effect, Shadow};
-use check_settings::styles;
 use layout::Rect;
 use line_composer::Wrap;
 use padding::Padding;
@@ -72,118 +71,104 @@ pub struct FlatText {
     pub ambiguous: u8,
 }
 
-// Whether any number isn't below the count of cases. It is the same test as that of style numbers against the count of styles.
+// Whether any number isn't below the count of cases.
 fn any_unnamed(cases: usize, numbers: &[u8]) -> bool
     ensures { result ≡ unnamed cases numbers.now }
 {
-    styles::style_numbers_wrong(cases, numbers)
+    numbers.iter().any(|number| cases <= *number as usize)
 }
 
-// Returns the alignment that a number names; numbers above 2 give the last.
+// Returns the alignment that a number names; numbers above 2 give the last. Not a TryFrom, nor are those below: the clauses of the
+// exports to C speak of the case of every number.
 pub fn alignment_named(number: u8) -> Alignment
     ensures { result ≡ alignment_named number }
 {
-    if number == 0 {
-        return Alignment::Left;
+    match number {
+        0 => Alignment::Left,
+        1 => Alignment::Center,
+        _ => Alignment::Right,
     }
-    if number == 1 {
-        return Alignment::Center;
-    }
-    Alignment::Right
 }
 
 // Whether a number names a reading of ambiguous glyphs.
 pub fn ambiguous_known(number: u8) -> bool
     ensures { result ≡ ambiguous_known number }
 {
-    if number == 0 {
-        return false;
-    }
-    number <= 2
+    number != 0 && number <= 2
 }
 
 // Returns the reading of ambiguous glyphs that a number names; numbers other than 1 give wide.
 pub fn ambiguous_named(number: u8) -> AmbiguousWidth
     ensures { result ≡ ambiguous_named number }
 {
-    if number == 1 {
-        return AmbiguousWidth::Narrow;
+    match number {
+        1 => AmbiguousWidth::Narrow,
+        _ => AmbiguousWidth::Wide,
     }
-    AmbiguousWidth::Wide
 }
 
 // Whether the settings of a tally name cases.
 pub fn tally_known(ambiguous: u8, trim: u8) -> bool
     ensures { result ≡ tally_known ambiguous trim }
 {
-    if ambiguous_known(ambiguous) {
-        return trim <= 1;
-    }
-    false
+    ambiguous_known(ambiguous) && trim <= 1
 }
 
 // Whether the settings of a list call name cases.
 pub fn list_known(ambiguous: u8, alignment: u8, trim: u8) -> bool
     ensures { result ≡ list_known ambiguous alignment trim }
 {
-    if tally_known(ambiguous, trim) {
-        return alignment <= 2;
-    }
-    false
+    tally_known(ambiguous, trim) && alignment <= 2
 }
 
 // Returns the title position that a number names; numbers above 1 give the last.
 fn position_named(number: u8) -> TitlePosition
     ensures { result ≡ position_named number }
 {
-    if number == 0 {
-        return TitlePosition::Top;
+    match number {
+        0 => TitlePosition::Top,
+        _ => TitlePosition::Bottom,
     }
-    TitlePosition::Bottom
 }
 
 // Returns the shadow that a number names; numbers above 2 give the last.
+#[tactic(auto, unfolding(crate::specs::FlatExtra::shadow_named))]
 fn shadow_named(kind: u8, symbol: u32, style: u8, x: i32, y: i32) -> Shadow
     ensures { result ≡ shadow_named kind symbol style x y }
 {
-    if kind == 0 {
-        return Shadow::Absent;
-    }
-    if kind == 1 {
-        return Shadow::Present {
-            effect: Effect::Overlay,
-            style,
-            x,
-            y,
-        };
-    }
+    let effect = match kind {
+        0 => return Shadow::Absent,
+        1 => Effect::Overlay,
+        _ => Effect::Symbol(symbol),
+    };
     Shadow::Present {
-        effect: Effect::Symbol(symbol),
+        effect,
         style,
         x,
         y,
     }
 }
 
-impl FlatArea {
-    pub fn area(self) -> Rect
-        ensures { result ≡ area_from self }
-    {
+impl From<FlatArea> for Rect {
+    ghost from_gives = { λ flat area. area ≡ area_from flat };
+
+    fn from(flat: FlatArea) -> Rect {
         Rect {
-            x: self.x,
-            y: self.y,
-            width: self.width,
-            height: self.height,
+            x: flat.x,
+            y: flat.y,
+            width: flat.width,
+            height: flat.height,
         }
     }
 }
 
 impl FlatBlock {
     // Whether every number names a case.
+    #[tactic(auto, unfolding(crate::specs::FlatExtra::block_known))]
     pub fn is_known(self) -> bool
         ensures { result ≡ block_known self }
     {
-        if any_unnamed(
+        let no_flags = any_unnamed(
             2,
             &[
                 self.border_top,
@@ -192,16 +177,12 @@ impl FlatBlock {
                 self.border_left,
                 self.titles_position,
             ],
-        ) {
-            return false;
-        }
-        if any_unnamed(3, &[self.titles_alignment, self.shadow]) {
-            return false;
-        }
-        true
+        );
+        !(no_flags || any_unnamed(3, &[self.titles_alignment, self.shadow]))
     }
 
     // Returns which borders are present.
+    #[tactic(auto, unfolding(crate::specs::FlatExtra::block_from))]
     fn borders(self) -> Borders
         ensures { result ≡ (block_from self).borders }
     {
@@ -212,109 +193,102 @@ impl FlatBlock {
             left: self.border_left == 1,
         }
     }
+}
 
-    // Converts known settings to a block.
-    pub fn block(self) -> Block
-        ensures { result ≡ block_from self }
-    {
-        let borders = self.borders();
-        let titles_alignment = alignment_named(self.titles_alignment);
-        let titles_position = position_named(self.titles_position);
-        let shadow = shadow_named(
-            self.shadow,
-            self.shadow_symbol,
-            self.shadow_style,
-            self.shadow_x,
-            self.shadow_y,
-        );
+// The block that known settings name.
+impl From<FlatBlock> for Block {
+    ghost from_gives = { λ flat block. block ≡ block_from flat };
+
+    #[tactic(auto, unfolding(crate::specs::FlatExtra::block_from))]
+    fn from(flat: FlatBlock) -> Block {
         let border_set = BorderSet {
-            top_left: self.top_left,
-            top_right: self.top_right,
-            bottom_left: self.bottom_left,
-            bottom_right: self.bottom_right,
-            vertical_left: self.vertical_left,
-            vertical_right: self.vertical_right,
-            horizontal_top: self.horizontal_top,
-            horizontal_bottom: self.horizontal_bottom,
+            top_left: flat.top_left,
+            top_right: flat.top_right,
+            bottom_left: flat.bottom_left,
+            bottom_right: flat.bottom_right,
+            vertical_left: flat.vertical_left,
+            vertical_right: flat.vertical_right,
+            horizontal_top: flat.horizontal_top,
+            horizontal_bottom: flat.horizontal_bottom,
         };
         let padding = Padding {
-            left: self.padding_left,
-            right: self.padding_right,
-            top: self.padding_top,
-            bottom: self.padding_bottom,
+            left: flat.padding_left,
+            right: flat.padding_right,
+            top: flat.padding_top,
+            bottom: flat.padding_bottom,
         };
         Block {
-            borders,
+            borders: flat.borders(),
             border_set,
-            border_style: self.border_style,
-            style: self.style,
+            border_style: flat.border_style,
+            style: flat.style,
             padding,
-            titles_style: self.titles_style,
-            titles_alignment,
-            titles_position,
-            shadow,
+            titles_style: flat.titles_style,
+            titles_alignment: alignment_named(flat.titles_alignment),
+            titles_position: position_named(flat.titles_position),
+            shadow: shadow_named(
+                flat.shadow,
+                flat.shadow_symbol,
+                flat.shadow_style,
+                flat.shadow_x,
+                flat.shadow_y,
+            ),
         }
     }
 }
 
 impl FlatText {
     // Whether every number names a case.
+    #[tactic(auto, unfolding(crate::specs::FlatExtra::text_known))]
     pub fn is_known(self) -> bool
         ensures { result ≡ text_known self }
     {
-        if any_unnamed(3, &[self.alignment, self.wrap]) {
-            return false;
-        }
-        ambiguous_known(self.ambiguous)
+        !any_unnamed(3, &[self.alignment, self.wrap]) && ambiguous_known(self.ambiguous)
     }
 
     // Returns how lines are composed.
+    #[tactic(auto, unfolding(crate::specs::FlatExtra::wrap_named))]
     pub fn named_wrap(self) -> Wrap
         ensures { result ≡ wrap_named self }
     {
-        if self.wrap == 0 {
-            return Wrap::Off {
+        match self.wrap {
+            0 => Wrap::Off {
                 column: self.column,
-            };
-        }
-        Wrap::On {
-            trim: self.wrap == 2,
+            },
+            wrap => Wrap::On { trim: wrap == 2 },
         }
     }
 
-    // Converts known settings of a text.
-    pub fn text_settings(self) -> TextSettings
-        ensures { result ≡ settings_from self }
-    {
-        let alignment = alignment_named(self.alignment);
-        let wrap = self.named_wrap();
-        let ambiguous = ambiguous_named(self.ambiguous);
-        TextSettings {
-            style: self.style,
-            text_style: self.text_style,
-            alignment,
-            wrap,
-            scroll: self.scroll,
-            ambiguous,
-        }
-    }
-
-    // Converts known settings of text and block to a notice.
+    // Returns the notice that known settings of text and block name.
+    #[tactic(auto, unfolding(crate::specs::FlatExtra::notice_from))]
     pub fn notice(self, block: FlatBlock) -> Notice
         ensures { result ≡ notice_from block self }
     {
-        let alignment = alignment_named(self.alignment);
-        let wrap = self.named_wrap();
-        let ambiguous = ambiguous_named(self.ambiguous);
-        let block = block.block();
         Notice {
-            block,
+            block: Block::from(block),
             style: self.style,
             text_style: self.text_style,
-            alignment,
-            wrap,
+            alignment: alignment_named(self.alignment),
+            wrap: self.named_wrap(),
             scroll: self.scroll,
-            ambiguous,
+            ambiguous: ambiguous_named(self.ambiguous),
+        }
+    }
+}
+
+// The settings that known settings of a text name.
+impl From<FlatText> for TextSettings {
+    ghost from_gives = { λ flat settings. settings ≡ settings_from flat };
+
+    #[tactic(auto, unfolding(crate::specs::FlatExtra::settings_from))]
+    fn from(flat: FlatText) -> TextSettings {
+        TextSettings {
+            style: flat.style,
+            text_style: flat.text_style,
+            alignment: alignment_named(flat.alignment),
+            wrap: flat.named_wrap(),
+            scroll: flat.scroll,
+            ambiguous: ambiguous_named(flat.ambiguous),
         }
     }
 }
@@ -323,18 +297,12 @@ impl FlatText {
 pub fn all_known(block: FlatBlock, text: FlatText) -> bool
     ensures { result ≡ (block_known block && text_known text) }
 {
-    if block.is_known() {
-        return text.is_known();
-    }
-    false
+    block.is_known() && text.is_known()
 }
 
 // Whether every number of a block's settings names a case, and the number of a reading of ambiguous glyphs does.
 pub fn block_and_reading_known(block: FlatBlock, ambiguous: u8) -> bool
     ensures { result ≡ (block_known block && ambiguous_known ambiguous) }
 {
-    if block.is_known() {
-        return ambiguous_known(ambiguous);
-    }
-    false
+    block.is_known() && ambiguous_known(ambiguous)
 }

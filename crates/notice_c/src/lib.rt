@@ -20,11 +20,14 @@ ghost use Rattle.flat_answers.specs.AnswerExtra.{unknown_number};
 ghost use Rattle.flat_answers.specs.AnswerExtra.{list_flat, tally_flat, area_flat, draw_flat, measure_flat, pages_flat};
 ghost use Rattle.flat_answers.specs.AnswerExtra.{list_unknown, tally_unknown, area_unknown, draw_unknown, measure_unknown, pages_unknown};
 
+use block::Block;
 use flat::{FlatArea, FlatBlock, FlatText};
 use flat_answers::{
     FlatAreaAnswer, FlatDrawAnswer, FlatListAnswer, FlatMeasureAnswer, FlatPagesAnswer,
     FlatTallyAnswer,
 };
+use layout::Rect;
+use render_text::TextSettings;
 
 // The number of a call with a setting whose number names no case.
 const UNKNOWN: u32 = 255;
@@ -75,7 +78,7 @@ pub extern "C" fn notice_inner(block: FlatBlock, titles: &[u32], area: FlatArea)
     if !block.is_known() {
         return FlatAreaAnswer::refused(UNKNOWN);
     }
-    FlatAreaAnswer::from(notice::inner(block.block(), titles, area.area()))
+    FlatAreaAnswer::from(notice::inner(Block::from(block), titles, Rect::from(area)))
 }
 
 // Draws a block.
@@ -101,7 +104,7 @@ pub extern "C" fn notice_draw_block(
         return UNKNOWN;
     }
     let reading = flat::ambiguous_named(ambiguous);
-    let drawn = block.block();
+    let drawn = Block::from(block);
     let framed = notice::draw_block(
         columns,
         rows,
@@ -109,7 +112,7 @@ pub extern "C" fn notice_draw_block(
         styles,
         titles,
         reading,
-        area.area(),
+        Rect::from(area),
         drawn,
     );
     flat_answers::verdict_number(framed)
@@ -139,7 +142,7 @@ pub extern "C" fn notice_draw_frame(
         return FlatAreaAnswer::refused(UNKNOWN);
     }
     let reading = flat::ambiguous_named(ambiguous);
-    let framing = block.block();
+    let framing = Block::from(block);
     let framed = notice::draw_frame(
         columns,
         rows,
@@ -147,7 +150,7 @@ pub extern "C" fn notice_draw_frame(
         styles,
         titles,
         reading,
-        area.area(),
+        Rect::from(area),
         style,
         framing,
     );
@@ -174,8 +177,8 @@ pub extern "C" fn notice_draw_text(
     if !settings.is_known() {
         return FlatDrawAnswer::refused(UNKNOWN);
     }
-    let named = settings.text_settings();
-    let drawn = notice::draw_text(columns, rows, cells, styles, text, area.area(), named);
+    let named = TextSettings::from(settings);
+    let drawn = notice::draw_text(columns, rows, cells, styles, text, Rect::from(area), named);
     FlatDrawAnswer::from(drawn)
 }
 
@@ -209,7 +212,7 @@ pub extern "C" fn notice_pages(
         styles,
         text,
         titles,
-        area.area(),
+        Rect::from(area),
         notice,
     );
     FlatPagesAnswer::from(counted)
@@ -233,7 +236,7 @@ pub extern "C" fn notice_line_count(
     }
     let wrap = settings.named_wrap();
     let reading = flat::ambiguous_named(settings.ambiguous);
-    let counted = notice::line_count(text, reading, titles, block.block(), wrap, width);
+    let counted = notice::line_count(text, reading, titles, Block::from(block), wrap, width);
     FlatMeasureAnswer::from(counted)
 }
 
@@ -252,5 +255,5 @@ pub extern "C" fn notice_line_width(
         return FlatMeasureAnswer::refused(UNKNOWN);
     }
     let reading = flat::ambiguous_named(ambiguous);
-    FlatMeasureAnswer::from(notice::line_width(text, reading, titles, block.block()))
+    FlatMeasureAnswer::from(notice::line_width(text, reading, titles, Block::from(block)))
 }

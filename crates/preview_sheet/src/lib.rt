@@ -75,9 +75,8 @@ pub fn checked(
     ensures { let call = call_at opening opening.text.scroll styles.now titles.now text.now cells.now in
         result ≡ pagesAnswer call }
 {
-    let flat_area = opening.area;
     let settings = opening.text;
-    let area = flat_area.area();
+    let area = Rect::from(opening.area);
     let notice = notice_at(opening, settings.scroll);
     let columns = u32::from(opening.columns);
     let rows = u32::from(opening.rows);
@@ -129,8 +128,7 @@ pub fn draw(
         let call = call_at opening first styles.now titles.now text.now blanks in
         (result ≡ pair_answer call) × (cells.new ≡ pair_cells call) }
 {
-    let flat_area = opening.area;
-    let area = flat_area.area();
+    let area = Rect::from(opening.area);
     let notice = notice_at(opening, first);
     let columns = u32::from(opening.columns);
     let rows = u32::from(opening.rows);
@@ -170,7 +168,7 @@ fn no_block() -> Block
         shadow: 0,
         shadow_style: 0,
     };
-    flat.block()
+    Block::from(flat)
 }
 
 // Returns the intersection of an area and a screen.
@@ -178,7 +176,7 @@ fn met(area: FlatArea, columns: u16, rows: u16) -> Rect
     ensures { result ≡ meet (area_from area) (area_of (screen_of columns rows)) }
 {
     let screen = Screen { columns, rows };
-    area.area().intersection(screen.area())
+    Rect::from(area).intersection(screen.area())
 }
 
 // Counts the lines at an area's width.
@@ -203,10 +201,9 @@ pub fn measured(opening: Opening, titles: &[u32], text: &[u32]) -> Result<Measur
     ensures { result ≡ fitting_of opening titles.now text.now }
 {
     let area = opening.area;
-    let flat_block = opening.block;
     let settings = opening.text;
     let met = met(area, opening.columns, opening.rows);
-    let inside = notice::inner(flat_block.block(), titles, met)?;
+    let inside = notice::inner(Block::from(opening.block), titles, met)?;
     let ambiguous = flat::ambiguous_named(settings.ambiguous);
     lines_in(settings.named_wrap(), inside, text, ambiguous)
 }

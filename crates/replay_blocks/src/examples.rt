@@ -26,7 +26,8 @@ fn print_row<const COLUMNS: usize>(rt: &impl Print, text: &[u8; 9]) -> io::Resul
         width: COLUMNS as u16,
         height: 1,
     };
-    draw_block::draw_block(
+    // A refusal would leave the row blank.
+    let _ = draw_block::draw_block(
         COLUMNS as u32,
         1,
         &mut cells,

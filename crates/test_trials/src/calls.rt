@@ -3,11 +3,13 @@ ghost use Rattle.std.specs.Prelude.{◌≡◌};
 ghost use Rattle.refuse.specs.Refusal.{verdict_number};
 
 use crate::page_reading::read_back;
+use block::Block;
 use layout::Rect;
 use preview_file::Opening;
 use read_input::read_full;
 use refuse::Refusal;
 use render_lines::DrawCounts;
+use render_text::TextSettings;
 use std::io;
 use std::io::Read;
 
@@ -83,8 +85,6 @@ fn answer_number<T: Copy>(answer: Result<T, Refusal>) -> u32
 // Draws a block.
 fn draw_block(given: Given, cells: &mut [u64]) -> Result<(), Refusal> {
     let opening = given.opening;
-    let flat_area = opening.area;
-    let flat_block = opening.block;
     draw_block::draw_block(
         u32::from(opening.columns),
         u32::from(opening.rows),
@@ -92,16 +92,14 @@ fn draw_block(given: Given, cells: &mut [u64]) -> Result<(), Refusal> {
         given.styles,
         given.titles,
         flat::ambiguous_named(opening.text.ambiguous),
-        flat_area.area(),
-        flat_block.block(),
+        Rect::from(opening.area),
+        Block::from(opening.block),
     )
 }
 
 // Draws a frame.
 fn draw_frame(given: Given, cells: &mut [u64]) -> Result<Rect, Refusal> {
     let opening = given.opening;
-    let flat_area = opening.area;
-    let flat_block = opening.block;
     draw_frame::draw_frame(
         u32::from(opening.columns),
         u32::from(opening.rows),
@@ -109,16 +107,15 @@ fn draw_frame(given: Given, cells: &mut [u64]) -> Result<Rect, Refusal> {
         given.styles,
         given.titles,
         flat::ambiguous_named(opening.text.ambiguous),
-        flat_area.area(),
+        Rect::from(opening.area),
         opening.text.style,
-        flat_block.block(),
+        Block::from(opening.block),
     )
 }
 
 // Draws a text into the opening's area.
 fn draw_text(given: Given, cells: &mut [u64]) -> Result<DrawCounts, Refusal> {
     let opening = given.opening;
-    let flat_area = opening.area;
     let flat_text = opening.text;
     draw_text::draw_text(
         u32::from(opening.columns),
@@ -126,8 +123,8 @@ fn draw_text(given: Given, cells: &mut [u64]) -> Result<DrawCounts, Refusal> {
         cells,
         given.styles,
         given.text,
-        flat_area.area(),
-        flat_text.text_settings(),
+        Rect::from(opening.area),
+        TextSettings::from(flat_text),
     )
 }
 

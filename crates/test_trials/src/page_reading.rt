@@ -1,6 +1,7 @@
 // Draws a notice page by page and reads each page back.
 use crate::calls::Given;
 use crate::reading::{after_area, is_solid};
+use block::Block;
 use buffer::Screen;
 use layout::Rect;
 use line_composer::Wrap;
@@ -92,15 +93,13 @@ fn read_pages<'a>(given: Given<'a>, inside: Rect, pages: u64, cells: &mut [u64])
 // Draws and reads all pages; returns their totals and the tally, or None if a call refuses or the text isn't wrapped.
 fn read_all<'a>(given: Given<'a>, cells: &mut [u64]) -> Option<(Sums<'a>, TallyCounts)> {
     let opening = given.opening;
-    let flat_area = opening.area;
-    let flat_block = opening.block;
     let settings = opening.text;
     let screen = Screen {
         columns: opening.columns,
         rows: opening.rows,
     };
-    let met = flat_area.area().intersection(screen.area());
-    let inside = inner::inner(flat_block.block(), given.titles, met).ok()?;
+    let met = Rect::from(opening.area).intersection(screen.area());
+    let inside = inner::inner(Block::from(opening.block), given.titles, met).ok()?;
     let Wrap::On { trim } = settings.named_wrap() else {
         return None;
     };
