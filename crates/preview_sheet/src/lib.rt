@@ -17,9 +17,7 @@ ghost use Rattle.preview_sheet.specs.SheetExtra.{notice_at, call_at, pair_answer
 
 use buffer::Screen;
 use flat::{FlatArea, FlatBlock, FlatText};
-use notice::{
-    AmbiguousWidth, Block, DrawCounts, Notice, PageCounts, Rect, Wrap,
-};
+use notice::{AmbiguousWidth, Block, DrawCounts, Notice, PageCounts, Rect, Wrap};
 use preview_file::Opening;
 use refuse::Refusal;
 

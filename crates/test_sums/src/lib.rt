@@ -33,5 +33,7 @@ pub fn sum_entries(entries: &[u64]) -> u32
     ensures { result ≡ entries_sum entries.now }
 {
     let count = (entries.len() % 4294967296) as u32;
-    entries.iter().fold(count, |sum, entry| with_entry(sum, *entry))
+    entries
+        .iter()
+        .fold(count, |sum, entry| with_entry(sum, *entry))
 }

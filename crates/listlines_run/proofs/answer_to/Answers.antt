@@ -4,6 +4,7 @@ use lib.Seq.{length-take-le}
 use mathlib.Core.Path.{sym, ap, ◌∙◌}
 use Rattle.listlines_run.specs.Program.{answer_for}
 use Rattle.listlines_run.proofs.answer_to.Goals as goal
+
 pub slice_bounds-list_lines-end : goal.slice_bounds-list_lines-end
 slice_bounds-list_lines-end c = text-fits _ _ c.parse.ensures.value _ c.in_ok-limit.was _ _ c.requires.0 c.parse.auto.text
 
