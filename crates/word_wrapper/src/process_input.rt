@@ -184,15 +184,17 @@ impl WordWrapper {
         ensures { PulledRun rule records.now self.old result self.new }
     {
         if self.live {
-            // The index is the state's: each step moves it on.
-            while self.at < records.len() {
-                let (next, line) = self.step(rule, records);
-                *self = next;
+            // In a local, so that the compiler keeps its fields in registers; the index is the state's, and each step moves it on.
+            let mut wrapper = *self;
+            while wrapper.at < records.len() {
+                let (next, line) = wrapper.step(rule, records);
+                wrapper = next;
                 if let Some(line) = line {
+                    *self = wrapper;
                     return Some(line);
                 }
             }
-            let (closed, last) = self.finish(rule);
+            let (closed, last) = wrapper.finish(rule);
             *self = closed;
             return last;
         }

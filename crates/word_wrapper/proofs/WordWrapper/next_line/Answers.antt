@@ -6,11 +6,11 @@ use Rattle.word_wrapper.proofs.WordWrapper.next_line.Goals as goal
 pub returns-in-Some : goal.returns-in-Some
 returns-in-Some c = search pulling
 
-pub loop-self-smaller : goal.loop-self-smaller
-loop-self-smaller c = search pulling
+pub loop-wrapper-smaller : goal.loop-wrapper-smaller
+loop-wrapper-smaller c = search pulling
 
-pub loop-self-preserved : goal.loop-self-preserved
-loop-self-preserved c = search pulling
+pub loop-wrapper-preserved : goal.loop-wrapper-preserved
+loop-wrapper-preserved c = search pulling
 
 pub finish-last-requires : goal.finish-last-requires
 finish-last-requires c = omega (arith, sound-sum, sound-within)
