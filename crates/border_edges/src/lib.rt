@@ -1,7 +1,7 @@
 // The sides and corners of a block's area (block.rs: the tables in `Block::render_sides` and `Block::render_corners`).
 #![tactic(auto)]
 
-ghost use Rattle.std.specs.Prelude.{◌≡◌, ◌-◌};
+ghost use Rattle.std.specs.Prelude.{◌≡◌, [], ◌∷◌, ◌-◌};
 ghost use Rattle.layout.specs.Rect.{right_of, bottom_of};
 ghost use Rattle.border_edges.specs.Edges.{left_edge, top_edge, right_edge, bottom_edge, bottom_right_edge, top_right_edge, bottom_left_edge, top_left_edge};
 
@@ -11,6 +11,7 @@ use layout::Rect;
 // A side or corner: whether it is present, its cells and its symbol.
 #[derive(Clone, Copy)]
 pub struct Edge {
+    // A side that is absent is an Edge too: the definitions and two edits speak of present.
     pub present: bool,
     pub part: Rect,
     pub symbol: u32,
@@ -30,154 +31,94 @@ fn last_row(area: Rect) -> u16
     area.bottom().saturating_sub(1)
 }
 
-// Returns the left side: the first column.
-pub fn left_side(block: Block, area: Rect) -> Edge
-    ensures { result ≡ left_edge block area }
+// Returns the column of an area at x.
+fn column(area: Rect, x: u16) -> Rect
+    ensures { result ≡ record { x = x; y = area.y; width = 1; height = area.height } }
+{
+    Rect {
+        x,
+        width: 1,
+        ..area
+    }
+}
+
+// Returns the row of an area at y.
+fn row(area: Rect, y: u16) -> Rect
+    ensures { result ≡ record { x = area.x; y = y; width = area.width; height = 1 } }
+{
+    Rect {
+        y,
+        height: 1,
+        ..area
+    }
+}
+
+// Returns the cell of a corner, as a rectangle.
+fn corner(x: u16, y: u16) -> Rect
+    ensures { result ≡ record { x = x; y = y; width = 1; height = 1 } }
+{
+    Rect {
+        x,
+        y,
+        width: 1,
+        height: 1,
+    }
+}
+
+// Returns the sides: first column, first row, last column, last row.
+pub fn sides(block: Block, area: Rect) -> [Edge; 4]
+    ensures { result ≡ left_edge block area ∷ top_edge block area ∷ right_edge block area ∷ bottom_edge block area ∷ [] }
 {
     let on = block.borders;
     let set = block.border_set;
-    let part = Rect {
-        x: area.x,
-        y: area.y,
-        width: 1,
-        height: area.height,
-    };
-    Edge {
+    let left = Edge {
         present: on.left,
-        part,
+        part: column(area, area.x),
         symbol: set.vertical_left,
-    }
-}
-
-// Returns the top side: the first row.
-pub fn top_side(block: Block, area: Rect) -> Edge
-    ensures { result ≡ top_edge block area }
-{
-    let on = block.borders;
-    let set = block.border_set;
-    let part = Rect {
-        x: area.x,
-        y: area.y,
-        width: area.width,
-        height: 1,
     };
-    Edge {
+    let top = Edge {
         present: on.top,
-        part,
+        part: row(area, area.y),
         symbol: set.horizontal_top,
-    }
-}
-
-// Returns the right side: the last column.
-pub fn right_side(block: Block, area: Rect) -> Edge
-    ensures { result ≡ right_edge block area }
-{
-    let on = block.borders;
-    let set = block.border_set;
-    let part = Rect {
-        x: last_column(area),
-        y: area.y,
-        width: 1,
-        height: area.height,
     };
-    Edge {
+    let right = Edge {
         present: on.right,
-        part,
+        part: column(area, last_column(area)),
         symbol: set.vertical_right,
-    }
-}
-
-// Returns the bottom side: the last row.
-pub fn bottom_side(block: Block, area: Rect) -> Edge
-    ensures { result ≡ bottom_edge block area }
-{
-    let on = block.borders;
-    let set = block.border_set;
-    let part = Rect {
-        x: area.x,
-        y: last_row(area),
-        width: area.width,
-        height: 1,
     };
-    Edge {
+    let bottom = Edge {
         present: on.bottom,
-        part,
+        part: row(area, last_row(area)),
         symbol: set.horizontal_bottom,
-    }
+    };
+    [left, top, right, bottom]
 }
 
-// Returns the bottom right corner.
-pub fn bottom_right(block: Block, area: Rect) -> Edge
-    ensures { result ≡ bottom_right_edge block area }
+// Returns the corners: bottom right, top right, bottom left, top left.
+pub fn corners(block: Block, area: Rect) -> [Edge; 4]
+    ensures { result ≡ bottom_right_edge block area ∷ top_right_edge block area ∷ bottom_left_edge block area ∷ top_left_edge block area ∷ [] }
 {
     let on = block.borders;
     let set = block.border_set;
-    let part = Rect {
-        x: last_column(area),
-        y: last_row(area),
-        width: 1,
-        height: 1,
-    };
-    Edge {
+    let bottom_right = Edge {
         present: on.right && on.bottom,
-        part,
+        part: corner(last_column(area), last_row(area)),
         symbol: set.bottom_right,
-    }
-}
-
-// Returns the top right corner.
-pub fn top_right(block: Block, area: Rect) -> Edge
-    ensures { result ≡ top_right_edge block area }
-{
-    let on = block.borders;
-    let set = block.border_set;
-    let part = Rect {
-        x: last_column(area),
-        y: area.y,
-        width: 1,
-        height: 1,
     };
-    Edge {
+    let top_right = Edge {
         present: on.right && on.top,
-        part,
+        part: corner(last_column(area), area.y),
         symbol: set.top_right,
-    }
-}
-
-// Returns the bottom left corner.
-pub fn bottom_left(block: Block, area: Rect) -> Edge
-    ensures { result ≡ bottom_left_edge block area }
-{
-    let on = block.borders;
-    let set = block.border_set;
-    let part = Rect {
-        x: area.x,
-        y: last_row(area),
-        width: 1,
-        height: 1,
     };
-    Edge {
+    let bottom_left = Edge {
         present: on.left && on.bottom,
-        part,
+        part: corner(area.x, last_row(area)),
         symbol: set.bottom_left,
-    }
-}
-
-// Returns the top left corner.
-pub fn top_left(block: Block, area: Rect) -> Edge
-    ensures { result ≡ top_left_edge block area }
-{
-    let on = block.borders;
-    let set = block.border_set;
-    let part = Rect {
-        x: area.x,
-        y: area.y,
-        width: 1,
-        height: 1,
     };
-    Edge {
+    let top_left = Edge {
         present: on.left && on.top,
-        part,
+        part: corner(area.x, area.y),
         symbol: set.top_left,
-    }
+    };
+    [bottom_right, top_right, bottom_left, top_left]
 }

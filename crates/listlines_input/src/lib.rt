@@ -75,7 +75,8 @@ fn trim_wrong(input: &[u8]) -> bool
     1 < input[2]
 }
 
-// Stores an input's records at the start of `text`.
+// Stores an input's records at the start of `text`. By index: a loop over `iter_mut().zip(..)` has no name for the whole slice that
+// it changes.
 fn store_records(input: &[u8], count: usize, text: &mut [u32])
     requires count_value { count ≡ length (records_of input.now) }
     requires count_in_bounds { count ≤ length text.old }

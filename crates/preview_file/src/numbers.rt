@@ -18,12 +18,21 @@ pub fn number_4(input: &[u8], at: usize) -> u32
     u32::from_be_bytes([input[at], input[at + 1], input[at + 2], input[at + 3]])
 }
 
-#[tactic(auto, unfolding(crate::specs::NumbersExtra::number8))]
+#[tactic(auto, unfolding(crate::specs::NumbersExtra::number8, crate::specs::NumbersExtra::number4, crate::specs::NumbersExtra::number2))]
 pub fn number_8(input: &[u8], at: usize) -> u64
     requires { at + 7 < length input.now }
     ensures { result ≡ number8 input.now at }
 {
-    u64::from(number_4(input, at)) * 4294967296 + u64::from(number_4(input, at + 4))
+    u64::from_be_bytes([
+        input[at],
+        input[at + 1],
+        input[at + 2],
+        input[at + 3],
+        input[at + 4],
+        input[at + 5],
+        input[at + 6],
+        input[at + 7],
+    ])
 }
 
 // Returns a 16-bit number as a count.

@@ -1,4 +1,5 @@
-// Stores numbers of an input at the start of a slice.
+// Stores numbers of an input at the start of a slice. By index: a loop over `iter_mut().zip(..)` has no name for the whole slice that
+// it changes. Two functions: of a generic one each caller would have to show that its closure's results are `numbers_from`.
 ghost use Rattle.std.specs.Prelude.{◌≡◌, ◌+◌, ◌*◌, ◌≤◌, ◌++◌, length, drop};
 ghost use Rattle.preview_file.specs.NumbersExtra.{number4, number8, numbers_from};
 

@@ -20,10 +20,10 @@ impl From<Refusal> for Cause {
     }
 }
 
-impl Cause {
-    // The number printed: 255 is none of the table's.
-    fn number(self) -> u32 {
-        match self {
+// The number printed: 255 is none of the table's.
+impl From<Cause> for u32 {
+    fn from(cause: Cause) -> u32 {
+        match cause {
             Cause::Listed(why) => u32::from(why),
             Cause::Setting => 255,
         }
@@ -69,7 +69,7 @@ pub fn bad_input(rt: &impl Print, flaw: Flaw) -> io::Result<()> {
 
 // Prints a refusal's number and its cause in words.
 pub fn refused(rt: &impl Print, cause: Cause) -> io::Result<()> {
-    println!(rt; "refused {}: {cause}", cause.number())
+    println!(rt; "refused {}: {cause}", u32::from(cause))
 }
 
 pub fn past_the_last(rt: &impl Print, pages: u64) -> io::Result<()> {

@@ -40,7 +40,8 @@ fn notice_at(opening: Opening, first: u16) -> Notice
     settings.notice(opening.block)
 }
 
-// Returns the opening with its ambiguous glyphs read wide, if so asked.
+// Returns the opening with its ambiguous glyphs read wide, if so asked. `wide` is no AmbiguousWidth: without it the opening keeps
+// its own reading.
 pub fn read_as(opening: Opening, wide: bool) -> Opening
     ensures { result ≡ opening_read wide opening }
 {

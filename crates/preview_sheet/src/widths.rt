@@ -17,7 +17,8 @@ fn widened_record(word: u32, ambiguous: AmbiguousWidth) -> u32
     glyph::pack(width, width, glyph::is_whitespace(word), glyph::style(word))
 }
 
-// Copies records to the start of `wide`, as many as fit, with widths as symbols.
+// Copies records to the start of `wide`, as many as fit, with widths as symbols. By index, as is `mark`: a loop over
+// `iter_mut().zip(..)` has no name for the whole slice that it changes, and its proof didn't close.
 pub fn widen(records: &[u32], ambiguous: AmbiguousWidth, wide: &mut [u32])
     ensures { wide.new ≡ changed_by (λ old word. widened ambiguous word) wide.old records.now }
 {

@@ -1,3 +1,3 @@
-pub mod Parts
 pub mod Symbols
+pub mod Parts
 pub mod Borders

@@ -9,7 +9,6 @@ use lib.ListN.{length, get_or}
 use Rattle.text.specs.Lists.{some}
 use Rattle.refuse.specs.Causes.{too_large, symbols_wrong}
 use Rattle.text.proofs.Bools.{neither}
-use Rattle.layout.specs.declared.Rect.{Rect}
 use Rattle.block.specs.declared.Block.{Block}
 use Rattle.block.specs.declared.Effect.{Effect}
 use Rattle.block.specs.declared.Effect.TheVariants.{Overlay, Symbol}
@@ -18,8 +17,6 @@ use Rattle.block.specs.declared.Shadow.TheVariants.{Absent, Present}
 use Rattle.block.specs.Causes.{effect_symbols, shadow_symbols, border_symbols, block_symbols, SymbolsFit}
 use Rattle.text.proofs.Either.{some-append}
 use Rattle.shadow.specs.FittingExtra.{EffectFits, ShadowFits}
-use Rattle.border_edges.specs.declared.Edge.{Edge}
-use Rattle.border_edges.specs.Edges.{left_edge, top_edge, right_edge, bottom_edge, bottom_right_edge, top_right_edge, bottom_left_edge, top_left_edge}
 
 -- a test that no element of a list passes fails for the element at each index
 none-at : (test : ℕ → Bool) (l : List ℕ) (i : ℕ) → some test l ≡ false → i < length l → test (get_or l i 0) ≡ false
@@ -47,52 +44,6 @@ module _ (b : Block) (fit : SymbolsFit b) where
   shadow_symbol-fits = shadow_fits b.shadow parts_fit.1
 
   -- each border symbol fits a cell
-  border-fits : (i : ℕ) → i < 8 → get_or (border_symbols b.border_set) i 0 < 2 ^ 21
+  pub border-fits : (i : ℕ) → i < 8 → get_or (border_symbols b.border_set) i 0 < 2 ^ 21
   unfolding border_symbols
   border-fits i h = leb-false 2097152 _ (none-at too_large (border_symbols b.border_set) i parts_fit.0 h)
-
-  -- so the symbol of each side and corner does
-  module _ (r : Rect) (edge : Edge) where
-    pub top-left-fits : edge ≡ top_left_edge b r → edge.symbol < 2 ^ 21
-    unfolding border_symbols
-    top-left-fits e = rw e (border-fits 0 (omega arith))
-
-    pub top-right-fits : edge ≡ top_right_edge b r → edge.symbol < 2 ^ 21
-    unfolding border_symbols
-    top-right-fits e = rw e (border-fits 1 (omega arith))
-
-    pub bottom-left-fits : edge ≡ bottom_left_edge b r → edge.symbol < 2 ^ 21
-    unfolding border_symbols
-    bottom-left-fits e = rw e (border-fits 2 (omega arith))
-
-    pub bottom-right-fits : edge ≡ bottom_right_edge b r → edge.symbol < 2 ^ 21
-    unfolding border_symbols
-    bottom-right-fits e = rw e (border-fits 3 (omega arith))
-
-    pub left-fits : edge ≡ left_edge b r → edge.symbol < 2 ^ 21
-    unfolding border_symbols
-    left-fits e = rw e (border-fits 4 (omega arith))
-
-    pub right-fits : edge ≡ right_edge b r → edge.symbol < 2 ^ 21
-    unfolding border_symbols
-    right-fits e = rw e (border-fits 5 (omega arith))
-
-    pub top-fits : edge ≡ top_edge b r → edge.symbol < 2 ^ 21
-    unfolding border_symbols
-    top-fits e = rw e (border-fits 6 (omega arith))
-
-    pub bottom-fits : edge ≡ bottom_edge b r → edge.symbol < 2 ^ 21
-    unfolding border_symbols
-    bottom-fits e = rw e (border-fits 7 (omega arith))
-
-pub ruleset fitting = (
-  shadow_symbol-fits,
-  top-left-fits,
-  top-right-fits,
-  bottom-left-fits,
-  bottom-right-fits,
-  left-fits,
-  right-fits,
-  top-fits,
-  bottom-fits,
-)

@@ -1,11 +1,12 @@
 // Drawing of a block's sides and corners.
 #![tactic(auto)]
 
-ghost use Rattle.std.specs.Prelude.{◌≡◌, false, [], ◌∷◌, ◌<◌, ◌^◌, length};
+ghost use Rattle.std.specs.Prelude.{◌≡◌, false, [], ◌∷◌, ◌<◌, ◌^◌, length, map};
 ghost use Rattle.layout.specs.Rect.{is_empty};
 ghost use Rattle.buffer.specs.Drawing.{drawn, in_order};
 ghost use Rattle.buffer.specs.PartsExtra.{OnScreen};
 ghost use Rattle.render_borders.specs.Borders.{border, sides, corners};
+ghost use Rattle.render_borders.specs.BordersExtra.{EdgesFit};
 ghost use Rattle.block.specs.Causes.{SymbolsFit};
 
 use block::Block;
@@ -26,46 +27,26 @@ fn render_edge(screen: Screen, cells: &mut [u64], styles: &[u64], block: Block, 
     }
 }
 
-// Draws the left, top, right and bottom side of a non-empty rectangle (block.rs: `Block::render_sides`).
-fn render_sides(screen: Screen, cells: &mut [u64], styles: &[u64], block: Block, area: Rect)
-    requires symbols_fit { SymbolsFit block × (is_empty area ≡ false) }
-    requires on_screen { OnScreen screen (length cells.old) area }
-    ensures { cells.new ≡ drawn screen.columns (sides styles.now block area) cells.old }
+// Draws sides or corners in order.
+fn render_edges(screen: Screen, cells: &mut [u64], styles: &[u64], block: Block, edges: &[Edge])
+    requires edges_fit { EdgesFit screen (length cells.old) edges.now }
+    ensures { cells.new ≡ drawn screen.columns (in_order (map (border styles.now block) edges.now)) cells.old }
 {
-    let left = border_edges::left_side(block, area);
-    let top = border_edges::top_side(block, area);
-    let right = border_edges::right_side(block, area);
-    let bottom = border_edges::bottom_side(block, area);
-    render_edge(screen, cells, styles, block, left);
-    render_edge(screen, cells, styles, block, top);
-    render_edge(screen, cells, styles, block, right);
-    render_edge(screen, cells, styles, block, bottom);
+    for edge in edges {
+        render_edge(screen, cells, styles, block, *edge);
+    }
 }
 
-// Draws the bottom right, top right, bottom left and top left corner, each if both borders are present
-// (block.rs: `Block::render_corners`).
-fn render_corners(screen: Screen, cells: &mut [u64], styles: &[u64], block: Block, area: Rect)
-    requires symbols_fit { SymbolsFit block × (is_empty area ≡ false) }
-    requires on_screen { OnScreen screen (length cells.old) area }
-    ensures { cells.new ≡ drawn screen.columns (corners styles.now block area) cells.old }
-{
-    let bottom_right = border_edges::bottom_right(block, area);
-    let top_right = border_edges::top_right(block, area);
-    let bottom_left = border_edges::bottom_left(block, area);
-    let top_left = border_edges::top_left(block, area);
-    render_edge(screen, cells, styles, block, bottom_right);
-    render_edge(screen, cells, styles, block, top_right);
-    render_edge(screen, cells, styles, block, bottom_left);
-    render_edge(screen, cells, styles, block, top_left);
-}
-
-// Draws the sides, then the corners, of a non-empty rectangle (block.rs: `Block::render_borders`).
+// Draws the sides, then the corners, of a non-empty rectangle (block.rs: `Block::render_borders`, with `render_sides` and
+// `render_corners`).
 pub fn render_borders(screen: Screen, cells: &mut [u64], styles: &[u64], block: Block, area: Rect)
     requires symbols_fit { SymbolsFit block × (is_empty area ≡ false) }
     requires on_screen { OnScreen screen (length cells.old) area }
     ensures { let drawing = in_order (sides styles.now block area ∷ corners styles.now block area ∷ []) in
         cells.new ≡ drawn screen.columns drawing cells.old }
 {
-    render_sides(screen, cells, styles, block, area);
-    render_corners(screen, cells, styles, block, area);
+    let sides = border_edges::sides(block, area);
+    let corners = border_edges::corners(block, area);
+    render_edges(screen, cells, styles, block, &sides);
+    render_edges(screen, cells, styles, block, &corners);
 }

@@ -113,7 +113,7 @@ fn render_titles_backward(
     let first = line::line_length(titles);
     let mut left = area;
     let mut end = titles.len();
-    // From the last title on: `Lines` gives them from the first on only.
+    // Lines from the end would need a second walk (next_back) with its own laws.
     while first < end {
         let at = heads::last_head(titles, end);
         let from = at + 1;

@@ -6,8 +6,8 @@ use std::io;
 // Returns the byte of a cell's symbol, `_` for a blank.
 fn byte_of(cell: u64) -> u8 {
     let symbol = cell::symbol(cell);
-    if symbol == 32 {
-        return 95;
+    if symbol == u64::from(b' ') {
+        return b'_';
     }
     (symbol % 256) as u8
 }

@@ -79,14 +79,7 @@ pub fn write_case(text: &mut [u32], number: u32) -> Case
         spaces: 1 + below(c, 12),
     };
     let length = length_of(number, d);
-    texts::write_random(&mut text[..length], manner, f);
-    Case {
-        number: number,
-        length: length,
-        default_alignment: texts::alignment_of(number),
-        limit: limit(below(e, 26)),
-        trim: number % 2 == 0,
-        column: column_of(number, columns(kind), f),
-        ambiguous: texts::ambiguous_of(number / 6),
-    }
+    let limit = limit(below(e, 26));
+    let column = column_of(number, columns(kind), f);
+    texts::write_random_case(&mut text[..length], manner, f, number, limit, column)
 }

@@ -22,14 +22,6 @@ pub fn write_case(text: &mut [u32], number: u32) -> Case
         spaces: 1 + below(c, 5),
     };
     let length = below(d, 25) as usize;
-    texts::write_random(&mut text[..length], manner, f);
-    Case {
-        number: number,
-        length: length,
-        default_alignment: texts::alignment_of(number),
-        limit: below(e, 9) as u16,
-        trim: number % 2 == 0,
-        column: below(f, 10),
-        ambiguous: texts::ambiguous_of(number / 6),
-    }
+    let limit = below(e, 9) as u16;
+    texts::write_random_case(&mut text[..length], manner, f, number, limit, below(f, 10))
 }

@@ -1,8 +1,8 @@
 // Random texts.
-ghost use Rattle.std.specs.Prelude.{◌<◌, ◌≤◌};
+ghost use Rattle.std.specs.Prelude.{◌≡◌, ◌<◌, ◌≤◌, length};
 
 use crate::random::{below, next};
-use crate::records;
+use crate::{Case, records};
 use text::{Alignment, AmbiguousWidth};
 
 // Distribution of a random text: one record in `heads` is a head, width codes are below `widths` or, as often as each of these,
@@ -73,5 +73,28 @@ pub fn write_random(text: &mut [u32], manner: Manner, seed: u32) {
     for (place, record) in text.iter_mut().enumerate() {
         *record = any_record(place, x, manner);
         x = next(next(next(x)));
+    }
+}
+
+// Writes a text of random records and returns case `number`, of this text.
+pub fn write_random_case(
+    text: &mut [u32],
+    manner: Manner,
+    seed: u32,
+    number: u32,
+    limit: u16,
+    column: u32,
+) -> Case
+    ensures { result.length ≡ length text.old }
+{
+    write_random(text, manner, seed);
+    Case {
+        number,
+        length: text.len(),
+        default_alignment: alignment_of(number),
+        limit,
+        trim: number % 2 == 0,
+        column,
+        ambiguous: ambiguous_of(number / 6),
     }
 }

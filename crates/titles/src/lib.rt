@@ -10,6 +10,7 @@ pub mod heads;
 pub mod places;
 
 // A block with its titles, as records, how their ambiguous glyphs are read, and the styles that its numbers name.
+// No ghost fields: render_right_titles and render_titles don't ask both of Opens and SymbolsFit.
 #[derive(Clone, Copy)]
 pub struct TitledBlock<'a> {
     pub styles: &'a [u64],
