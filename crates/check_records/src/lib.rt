@@ -96,7 +96,7 @@ fn count_titles(titles: &[u32]) -> usize
 fn any_title_wrong(most: Ceilings, titles: &[u32]) -> bool
     ensures { result ≡ list_any (cut_title_wrong most) (cut_lines titles.now) }
 {
-    Lines::new(titles).any(|title| title_wrong(most, title.0, title.1.len()))
+    Lines::new(titles).any(|(head, glyphs)| title_wrong(most, head, glyphs.len()))
 }
 
 // Cause 5: whether non-empty titles don't open with a head, there are too many, or one is wrong.

@@ -12,7 +12,7 @@ use refuse::{Ceilings, Refusal, refuse_if};
 fn is_one_to(most: u32, n: u32) -> bool
     ensures { result ≡ one_to most n }
 {
-    1 <= n && n <= most
+    (1..=most).contains(&n)
 }
 
 // Cause 1: whether columns or rows are out of range, or the number of cells isn't columns × rows.

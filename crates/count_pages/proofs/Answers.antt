@@ -18,7 +18,7 @@ use Rattle.layout.specs.Rect.{is_empty}
 use Rattle.layout.proofs.NotEmpty.{not-empty}
 use Rattle.refuse.specs.declared.Ceilings.{Ceilings}
 use Rattle.refuse.specs.Refusal.{verdict_number, Verdict}
-use Rattle.refuse.proofs.Calls.{answered-number, answered_value}
+use Rattle.refuse.proofs.Calls.{result_number, result_value}
 use Rattle.refuse.proofs.Lowest.{InOrder}
 use Rattle.paragraph.specs.Notice.{settings_of, notice_lines, inner_area_of}
 use Rattle.inner.specs.Call.{inner_answer_rect}
@@ -43,11 +43,11 @@ lowest-first most call = draw-laws.lowest-first most call
 module _ (call : Call) where
   pub answer_number : verdict_number (answer_of call) ≡ verdict_number (verdict_of call)
   unfolding answer_of
-  answer_number = answered-number (verdict_of call) (pages_in call)
+  answer_number = result_number (verdict_of call) (pages_in call)
 
   pub answer_counts : pages_answer_counts (answer_of call) ≡ counts_of call
   unfolding answer_of counts_of
-  answer_counts = answered_value pages_answer_counts (λ counts. counts) no_page_counts (λ counts. refl) (λ why. refl) (verdict_of call) (pages_in call)
+  answer_counts = result_value pages_answer_counts (λ counts. counts) no_page_counts (λ counts. refl) (λ why. refl) (verdict_of call) (pages_in call)
 
   -- the call is accepted exactly where the notice's two calls are, and refused where one of them is
   pub pages_split : Split (verdict_number (answer_of call)) (frame_number call) (text_number call)

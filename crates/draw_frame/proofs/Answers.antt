@@ -11,7 +11,7 @@ use Rattle.refuse.specs.declared.Refusal.{Refusal}
 use Rattle.refuse.specs.declared.Refusal.TheVariants.{Screen, Titles, Symbol}
 use Rattle.refuse.specs.Refusal.{verdict_number, Verdict}
 use Rattle.refuse.specs.Causes.{most_accepted, screen_causes, screen_wrong}
-use Rattle.refuse.proofs.Calls.{no_cause, answered-number, answered_value}
+use Rattle.refuse.proofs.Calls.{no_cause, result_number, result_value}
 use Rattle.refuse.proofs.Accepted.{titles_open}
 use Rattle.refuse.proofs.Lowest.{InOrder, in_order}
 use Rattle.check_settings.proofs.Cells.{columns_fit, rows_fit, has_cells}
@@ -28,11 +28,11 @@ lowest-first most call = in_order (causes_of most call) refl
 module _ (call : Call) where
   pub answer_number : verdict_number (answer_of call) ≡ verdict_number (verdict_of call)
   unfolding answer_of
-  answer_number = answered-number (verdict_of call) (inner_in call)
+  answer_number = result_number (verdict_of call) (inner_in call)
 
   pub answer_area : inner_answer_rect (answer_of call) ≡ area_of call
   unfolding answer_of area_of
-  answer_area = answered_value inner_answer_rect (λ area. area) no_rect (λ area. refl) (λ why. refl) (verdict_of call) (inner_in call)
+  answer_area = result_value inner_answer_rect (λ area. area) no_rect (λ area. refl) (λ why. refl) (verdict_of call) (inner_in call)
 
   -- a refused call leaves all cells unchanged
   pub refused_cells : (why : Refusal) → verdict_of call ≡ Err why → cells_after call ≡ call.cells

@@ -10,7 +10,7 @@ use Rattle.refuse.specs.declared.Refusal.{Refusal}
 use Rattle.refuse.specs.declared.Refusal.TheVariants.{Screen, TextLength, TextHeads}
 use Rattle.refuse.specs.Refusal.{verdict_number, Verdict}
 use Rattle.refuse.specs.Causes.{most_accepted, screen_causes, text_causes, screen_wrong}
-use Rattle.refuse.proofs.Calls.{no_cause, answered-number, answered_value}
+use Rattle.refuse.proofs.Calls.{no_cause, result_number, result_value}
 use Rattle.refuse.proofs.Accepted.{sound}
 use Rattle.refuse.proofs.Lowest.{InOrder, in_order}
 use Rattle.check_settings.proofs.Cells.{columns_fit, rows_fit, has_cells}
@@ -27,11 +27,11 @@ lowest-first most call = in_order (causes_of most call) refl
 module _ (call : Call) where
   pub answer_number : verdict_number (answer_of call) ≡ verdict_number (verdict_of call)
   unfolding answer_of
-  answer_number = answered-number (verdict_of call) (rows_of call)
+  answer_number = result_number (verdict_of call) (rows_of call)
 
   pub answer_counts : draw_answer_counts (answer_of call) ≡ counts_of call
   unfolding answer_of counts_of
-  answer_counts = answered_value draw_answer_counts (λ counts. counts) no_draw_counts (λ counts. refl) (λ why. refl) (verdict_of call) (rows_of call)
+  answer_counts = result_value draw_answer_counts (λ counts. counts) no_draw_counts (λ counts. refl) (λ why. refl) (verdict_of call) (rows_of call)
 
   -- a refused call leaves all cells unchanged
   pub refused_cells : (why : Refusal) → verdict_of call ≡ Err why → cells_after call ≡ call.cells

@@ -5,7 +5,7 @@ use Rattle.layout.specs.declared.Rect.{Rect}
 use Rattle.refuse.specs.declared.Ceilings.{Ceilings}
 use Rattle.refuse.specs.declared.Refusal.{Refusal}
 use Rattle.refuse.specs.Refusal.{verdict_number}
-use Rattle.refuse.proofs.Calls.{answered-number, answered_value}
+use Rattle.refuse.proofs.Calls.{result_number, result_value}
 use Rattle.refuse.proofs.Lowest.{InOrder, in_order}
 use Rattle.block.specs.Inner.{inner_of}
 use Rattle.check_block.specs.Causes.{frame_causes}
@@ -23,11 +23,11 @@ module _ (call : Call) where
 
   pub answer_number : verdict_number (answer_of call) ≡ verdict_number (verdict_of call)
   unfolding answer_of
-  answer_number = answered-number (verdict_of call) inside
+  answer_number = result_number (verdict_of call) inside
 
   pub answer_rect : inner_answer_rect (answer_of call) ≡ area_of call
   unfolding answer_of area_of
-  answer_rect = answered_value inner_answer_rect (λ area. area) no_rect (λ area. refl) (λ why. refl) (verdict_of call) inside
+  answer_rect = result_value inner_answer_rect (λ area. area) no_rect (λ area. refl) (λ why. refl) (verdict_of call) inside
 
   pub refused_rect : (why : Refusal) → verdict_of call ≡ Err why → inner_answer_rect (answer_of call) ≡ record { x = 0; y = 0; width = 0; height = 0 }
   unfolding answer_of

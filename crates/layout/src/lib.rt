@@ -3,7 +3,6 @@
 
 ghost use Rattle.std.specs.Prelude.{◌≡◌, ◌<◌, ◌^◌};
 ghost use Rattle.layout.specs.Rect.{right_of, bottom_of, meet, is_empty, within, contains, moved, offset_by};
-ghost use Rattle.layout.specs.BiasedExtra.{biased};
 
 #[derive(Clone, Copy)]
 pub struct Rect {
@@ -77,27 +76,14 @@ impl Rect {
 fn is_within(first: u16, end: u16, n: u16) -> bool
     ensures { result ≡ within first end n }
 {
-    first <= n && n < end
-}
-
-// Returns a signed number plus 2^31, so that the rest is unsigned arithmetic.
-fn bias(by: i32) -> u64
-    ensures { (result ≡ biased by) × (result < 2 ^ 32) }
-{
-    ((by as i64) + 2147483648) as u64
+    (first..end).contains(&n)
 }
 
 // Moves a coordinate by a signed offset, clamping it from 0 to `most`.
 fn move_by(place: u16, by: i32, most: u16) -> u16
     ensures { result ≡ moved place by most }
 {
-    let sum = (place as u64) + bias(by);
-    if sum < 2147483648 {
-        return 0;
-    }
-    let there = sum - 2147483648;
-    if there < most as u64 {
-        return (there % 65536) as u16;
-    }
-    most
+    u32::from(place)
+        .saturating_add_signed(by)
+        .min(u32::from(most)) as u16
 }

@@ -9,7 +9,7 @@ use Rattle.std.specs.Prelude.{Ok}
 use Rattle.refuse.specs.declared.Ceilings.{Ceilings}
 use Rattle.refuse.specs.Refusal.{verdict_number, unless_refused}
 use Rattle.refuse.specs.Causes.{text_causes, line_causes, list_too_short}
-use Rattle.refuse.proofs.Calls.{answered-number, answered_value}
+use Rattle.refuse.proofs.Calls.{result_number, result_value}
 use Rattle.refuse.proofs.Lowest.{InOrder, in_order}
 use Rattle.entry.specs.Entry.{listed}
 use Rattle.list_lines.specs.Call.{Call, lines_of, marked_lines_of, causes_of, verdict_of, answer_of, list_after, list_answer_count}
@@ -22,11 +22,11 @@ lowest-first most call = in_order (causes_of most call) refl
 -- the number of the answer is the verdict's; its count is 0 if the call is refused
 pub answer_number : (call : Call) → verdict_number (answer_of call) ≡ verdict_number (verdict_of call)
 unfolding answer_of
-answer_number call = answered-number (verdict_of call) (length (lines_of call))
+answer_number call = result_number (verdict_of call) (length (lines_of call))
 
 pub answer_count : (call : Call) → list_answer_count (answer_of call) ≡ unless_refused (verdict_of call) (length (lines_of call)) 0
 unfolding answer_of
-answer_count call = answered_value list_answer_count (λ count. count) 0 (λ count. refl) (λ why. refl) (verdict_of call) (length (lines_of call))
+answer_count call = result_value list_answer_count (λ count. count) 0 (λ count. refl) (λ why. refl) (verdict_of call) (length (lines_of call))
 
 -- the list after an accepted call
 pub list-accepted : (call : Call) → verdict_of call ≡ Ok tt → list_after call ≡ map listed (marked_lines_of call) ++ drop (length (lines_of call)) call.list

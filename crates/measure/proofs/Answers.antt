@@ -5,7 +5,7 @@ use Rattle.refuse.specs.declared.Ceilings.{Ceilings}
 use Rattle.refuse.specs.declared.Refusal.TheVariants.{TextLength, TextHeads}
 use Rattle.refuse.specs.Refusal.{verdict_number, Verdict}
 use Rattle.refuse.specs.Causes.{most_accepted, text_causes}
-use Rattle.refuse.proofs.Calls.{no_cause, answered-number, answered_value}
+use Rattle.refuse.proofs.Calls.{no_cause, result_number, result_value}
 use Rattle.refuse.proofs.Accepted.{TextAccepted, sound}
 use Rattle.refuse.proofs.Lowest.{InOrder, in_order}
 use Rattle.measure_text.specs.Measures.{line_width}
@@ -26,11 +26,11 @@ count-lowest-first most call = in_order (count.causes_of most call) refl
 module _ (call : width.Call) where
   pub width-number : verdict_number (width.answer_of call) ≡ verdict_number (width.verdict_of call)
   unfolding width.answer_of
-  width-number = answered-number (width.verdict_of call) (line_width call.ambiguous call.block call.text)
+  width-number = result_number (width.verdict_of call) (line_width call.ambiguous call.block call.text)
 
   pub width_value : measure_answer_value (width.answer_of call) ≡ width.value_of call
   unfolding width.answer_of width.value_of
-  width_value = answered_value measure_answer_value (λ value. value) 0 (λ value. refl) (λ why. refl) (width.verdict_of call) (line_width call.ambiguous call.block call.text)
+  width_value = result_value measure_answer_value (λ value. value) 0 (λ value. refl) (λ why. refl) (width.verdict_of call) (line_width call.ambiguous call.block call.text)
 
   -- v is the verdict of the checks
   module _ (v : Verdict) (e : v ≡ width.verdict_of call) (a : v ≡ Ok tt) where
@@ -43,11 +43,11 @@ module _ (call : width.Call) where
 module _ (call : count.Call) where
   pub count-number : verdict_number (count.answer_of call) ≡ verdict_number (count.verdict_of call)
   unfolding count.answer_of
-  count-number = answered-number (count.verdict_of call) (count.count_of call)
+  count-number = result_number (count.verdict_of call) (count.count_of call)
 
   pub count_value : measure_answer_value (count.answer_of call) ≡ count.value_of call
   unfolding count.answer_of count.value_of
-  count_value = answered_value measure_answer_value (λ value. value) 0 (λ value. refl) (λ why. refl) (count.verdict_of call) (count.count_of call)
+  count_value = result_value measure_answer_value (λ value. value) 0 (λ value. refl) (λ why. refl) (count.verdict_of call) (count.count_of call)
 
   module _ (v : Verdict) (e : v ≡ count.verdict_of call) (a : v ≡ Ok tt) where
     pub count-sound : TextAccepted call.text

@@ -39,10 +39,7 @@ impl Pending {
     fn ends_word(self, space: bool) -> bool
         ensures { result ≡ (space && self.solid) }
     {
-        if space {
-            return self.solid;
-        }
-        false
+        space && self.solid
     }
 
     // Whether spaces and word, with a glyph of width w, would overflow an empty row.
@@ -63,13 +60,7 @@ impl Pending {
         requires { self.row.width + self.spaces.width + self.word.width + w < 2 ^ 32 }
         ensures { result ≡ joins rule self w space }
     {
-        if self.ends_word(space) {
-            return true;
-        }
-        if self.row.end == 0 {
-            return self.overflows(rule, w);
-        }
-        false
+        self.ends_word(space) || (self.row.end == 0 && self.overflows(rule, w))
     }
 
     // Step 3: whether row must be emitted.
@@ -89,17 +80,12 @@ impl Pending {
         ensures { result ≡ last_run trim emitted self }
     {
         let last = self.gather(trim);
-        let none = Run::empty();
-        let spaces = self.spaces;
-        if last.end == 0 {
-            if spaces.end == 0 {
-                if emitted {
-                    return None;
-                }
-                return Some(none);
-            }
-            return Some(none);
+        if last.end != 0 {
+            return Some(last);
         }
-        Some(last)
+        if self.spaces.end == 0 && emitted {
+            return None;
+        }
+        Some(Run::empty())
     }
 }

@@ -51,10 +51,14 @@ abbrev pub first_cause : List Cause → Verdict
 first_cause [] = Ok tt
 first_cause (cause ∷ causes) = cond cause.holds (Err cause.why) (first_cause causes)
 
--- the table's column 'Returned': the answer of an accepted call, or the cause of the refusal
+-- the table's column 'Returned', for answers of any form: the answer of an accepted call, or the cause of the refusal
+abbrev pub answering_by : {A B : Type 0} → (A → B) → (Refusal → B) → Verdict → A → B
+answering_by accepted refused (Ok _) answer = accepted answer
+answering_by accepted refused (Err why) answer = refused why
+
+-- the column as calls return it: `Ok` with the answer, or `Err` with the cause
 abbrev pub answering : {A : Type 0} → Verdict → A → Result A Refusal
-answering (Ok _) answer = Ok answer
-answering (Err why) answer = Err why
+answering verdict answer = answering_by Ok Err verdict answer
 
 -- the table's last column, 'Left': the new value if the call is accepted, the old one if it is refused. Also used for counts,
 -- with 0 as the old value ("counts 0").

@@ -95,8 +95,8 @@ fn render_titles_forward(
         cells.new ≡ drawn screen.columns drawing cells.old }
 {
     let mut place = place;
-    for line in Lines::new(titled.titles) {
-        place = render_next_title(screen, cells, titled, group, place, line.0, line.1);
+    for (head, glyphs) in Lines::new(titled.titles) {
+        place = render_next_title(screen, cells, titled, group, place, head, glyphs);
     }
 }
 
@@ -118,8 +118,8 @@ fn spaced_width(titled: &TitledBlock, group: Group) -> u16
         result ≡ spaced_from 0 (titles_of titled.now.block group read) }
 {
     let mut sum: u16 = 0;
-    for line in Lines::new(titled.titles) {
-        sum = add_spaced(sum, titled, group, line.0, line.1);
+    for (head, glyphs) in Lines::new(titled.titles) {
+        sum = add_spaced(sum, titled, group, head, glyphs);
     }
     sum
 }

@@ -3,7 +3,7 @@ use mathlib.Core.Path.{◌≡◌, refl, ◌∙◌}
 use Rattle.refuse.specs.declared.Ceilings.{Ceilings}
 use Rattle.refuse.specs.Refusal.{verdict_number}
 use Rattle.refuse.specs.Causes.{text_causes, line_causes}
-use Rattle.refuse.proofs.Calls.{answered-number, answered_value}
+use Rattle.refuse.proofs.Calls.{result_number, result_value}
 use Rattle.refuse.proofs.Lowest.{InOrder, in_order}
 use Rattle.tally.specs.Tally.{no_counts, tally_of}
 use Rattle.tally.specs.Call.{Call, rule_in, causes_of, verdict_of, answer_of, counts_of, tally_answer_counts}
@@ -15,8 +15,8 @@ lowest-first most call = in_order (causes_of most call) refl
 
 pub answer_number : (call : Call) → verdict_number (answer_of call) ≡ verdict_number (verdict_of call)
 unfolding answer_of
-answer_number call = answered-number (verdict_of call) (tally_of (rule_in call) call.text)
+answer_number call = result_number (verdict_of call) (tally_of (rule_in call) call.text)
 
 pub answer_counts : (call : Call) → tally_answer_counts (answer_of call) ≡ counts_of call
 unfolding answer_of counts_of
-answer_counts call = answered_value tally_answer_counts (λ counts. counts) no_counts (λ counts. refl) (λ why. refl) (verdict_of call) (tally_of (rule_in call) call.text)
+answer_counts call = result_value tally_answer_counts (λ counts. counts) no_counts (λ counts. refl) (λ why. refl) (verdict_of call) (tally_of (rule_in call) call.text)
