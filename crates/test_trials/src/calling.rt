@@ -1,19 +1,20 @@
 // Runs one call on its input and compares the answer.
 use crate::calls::{Call, Given, Kind, next_call, run};
+use crate::outcome::Outcome;
 use crate::report;
 use read_input::read_full;
 use std::io;
 use std::io::Read;
 use test_blocks::words::write_words;
 
-// Returns the call's number on a packed notice, or 99 if the notice can't be parsed. Records that the notice doesn't set are the
-// glyph A. A call on a shorter slice than intended returns another number.
-fn answer(rt: &impl Print, call: Call, input: &[u8], cells: &mut [u64]) -> io::Result<u32> {
+// Returns the call's outcome on a packed notice. Records that the notice doesn't set are the
+// glyph A. A call on a shorter slice than intended has another outcome.
+fn answer(rt: &impl Print, call: Call, input: &[u8], cells: &mut [u64]) -> io::Result<Outcome> {
     let mut styles = [0u64; 256];
     let mut titles = [0u32; 8192];
     let mut text = [66689u32; 24576];
     let Ok(opening) = preview_file::read(input, &mut styles, &mut titles, &mut text) else {
-        return Ok(99);
+        return Ok(Outcome::Unparsed);
     };
     let given = Given {
         opening,
@@ -25,13 +26,13 @@ fn answer(rt: &impl Print, call: Call, input: &[u8], cells: &mut [u64]) -> io::R
     run(rt, call.kind, given, &mut cells[..count])
 }
 
-// Returns the call's number on the next `call.bytes` bytes of a file.
+// Returns the call's outcome on the next `call.bytes` bytes of a file.
 fn answer_to_next(
     rt: &impl Print,
     file: &mut impl Read,
     call: Call,
     cells: &mut [u64],
-) -> io::Result<u32> {
+) -> io::Result<Outcome> {
     let mut input = [0u8; 2048];
     let n = call.bytes.min(2048);
     read_full(file, &mut input[..n])?;
@@ -39,11 +40,11 @@ fn answer_to_next(
 }
 
 // Whether cells are kept: by a refused call, and by one that draws nothing.
-fn must_keep(call: Call, found: u32) -> bool {
-    call.kind == Kind::PageCount || found != 0
+fn must_keep(call: Call, found: Outcome) -> bool {
+    call.kind == Kind::PageCount || found != Outcome::Accepted
 }
 
-// Whether the next call of a file is wrong: it returns another number than expected, changes a cell though it must keep all, or draws
+// Whether the next call of a file is wrong: its outcome has another number than expected, changes a cell though it must keep all, or draws
 // but changes none. There are enough cells for the largest screen.
 pub fn differs(rt: &impl Print, file: &mut impl Read) -> io::Result<bool> {
     let mut cells = [0u64; 1539];
@@ -54,5 +55,5 @@ pub fn differs(rt: &impl Print, file: &mut impl Read) -> io::Result<bool> {
     let found = answer_to_next(rt, file, call, &mut cells)?;
     let kept = cells == before;
     report::print_answer(rt, found, kept)?;
-    Ok(found != call.answer || kept != must_keep(call, found))
+    Ok(u32::from(found) != call.answer || kept != must_keep(call, found))
 }

@@ -1,7 +1,5 @@
 // The calls under test.
-ghost use Rattle.std.specs.Prelude.{◌≡◌};
-ghost use Rattle.refuse.specs.Refusal.{verdict_number};
-
+use crate::outcome::{Outcome, outcome_of};
 use crate::page_reading::read_back;
 use block::Block;
 use layout::Rect;
@@ -72,16 +70,6 @@ pub fn next_call(file: &mut impl Read) -> io::Result<Call> {
     })
 }
 
-// Returns the number of the refusal cause, or 0 for an accepted call.
-fn answer_number<T: Copy>(answer: Result<T, Refusal>) -> u32
-    ensures { result ≡ verdict_number answer }
-{
-    match answer {
-        Ok(_) => 0,
-        Err(why) => u32::from(why),
-    }
-}
-
 // Draws a block.
 fn draw_block(given: Given, cells: &mut [u64]) -> Result<(), Refusal> {
     let opening = given.opening;
@@ -128,14 +116,14 @@ fn draw_text(given: Given, cells: &mut [u64]) -> Result<DrawCounts, Refusal> {
     )
 }
 
-// Runs a call of a kind and returns its number.
-pub fn run(rt: &impl Print, kind: Kind, given: Given, cells: &mut [u64]) -> io::Result<u32> {
+// Runs a call of a kind and returns its outcome.
+pub fn run(rt: &impl Print, kind: Kind, given: Given, cells: &mut [u64]) -> io::Result<Outcome> {
     match kind {
-        Kind::Block => Ok(answer_number(draw_block(given, cells))),
-        Kind::Frame => Ok(answer_number(draw_frame(given, cells))),
+        Kind::Block => Ok(outcome_of(draw_block(given, cells))),
+        Kind::Frame => Ok(outcome_of(draw_frame(given, cells))),
         Kind::Pages => read_back(rt, given, cells),
-        Kind::Text => Ok(answer_number(draw_text(given, cells))),
-        Kind::PageCount => Ok(answer_number(preview_sheet::checked(
+        Kind::Text => Ok(outcome_of(draw_text(given, cells))),
+        Kind::PageCount => Ok(outcome_of(preview_sheet::checked(
             given.opening,
             given.styles,
             given.titles,

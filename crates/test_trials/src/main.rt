@@ -11,6 +11,7 @@
 mod calling;
 mod calls;
 mod listed;
+mod outcome;
 mod page_reading;
 mod previewed;
 mod reading;

@@ -1,5 +1,6 @@
 // Draws a notice page by page and reads each page back.
 use crate::calls::Given;
+use crate::outcome::Outcome;
 use crate::reading::{after_area, is_solid};
 use block::Block;
 use buffer::Screen;
@@ -83,7 +84,7 @@ fn read_page<'a>(
 fn read_pages<'a>(given: Given<'a>, inside: Rect, pages: u64, cells: &mut [u64]) -> Sums<'a> {
     let mut sums = Sums::new(given.text);
     let mut first = 0;
-    for _number in 0..pages {
+    for _ in 0..pages {
         sums = read_page(given, inside, sums, first, cells);
         first = paging::next_first(first, inside.height);
     }
@@ -109,11 +110,15 @@ fn read_all<'a>(given: Given<'a>, cells: &mut [u64]) -> Option<(Sums<'a>, TallyC
     Some((read_pages(given, inside, pages, cells), counts))
 }
 
-// Returns 0 if the pages of a notice show its solid glyphs in order, else 98. Prints the numbers of pages and of glyphs placed.
-pub fn read_back(rt: &impl Print, given: Given, cells: &mut [u64]) -> io::Result<u32> {
+// Returns whether the pages of a notice show its solid glyphs in order. Prints the numbers of pages and of glyphs placed.
+pub fn read_back(rt: &impl Print, given: Given, cells: &mut [u64]) -> io::Result<Outcome> {
     let Some((sums, counts)) = read_all(given, cells) else {
-        return Ok(98);
+        return Ok(Outcome::Misread);
     };
     print!(rt; "{} pages, {} glyphs placed, ", sums.pages, sums.placed)?;
-    if sums.agrees(counts) { Ok(0) } else { Ok(98) }
+    Ok(if sums.agrees(counts) {
+        Outcome::Accepted
+    } else {
+        Outcome::Misread
+    })
 }

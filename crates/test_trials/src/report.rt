@@ -1,4 +1,5 @@
 // Output of the program.
+use crate::outcome::Outcome;
 use read_input::read_full;
 use std::io;
 use std::io::Read;
@@ -10,8 +11,8 @@ pub fn print_name(rt: &impl Print, file: &mut impl Read) -> io::Result<()> {
     rt.write_all(&name)
 }
 
-// Prints a call's number and whether the cells are unchanged.
-pub fn print_answer(rt: &impl Print, answer: u32, kept: bool) -> io::Result<()> {
+// Prints the number of a call's outcome and whether the cells are unchanged.
+pub fn print_answer(rt: &impl Print, outcome: Outcome, kept: bool) -> io::Result<()> {
     let cells = if kept { "kept" } else { "changed" };
-    println!(rt; "answers {answer}, cells {cells}")
+    println!(rt; "answers {outcome}, cells {cells}")
 }
