@@ -66,7 +66,7 @@
    calls on different cells and lists may run at the same time.
 
    Stack use is bounded, as no function calls itself. In the archive that rattle-kit-13f builds
-   notice_draw_frame takes the most, at most 1,456 bytes whatever it is given. Arguments and answer are in
+   notice_draw_frame takes the most, at most 1,248 bytes whatever it is given. Arguments and answer are in
    the caller's frame besides, under 200 bytes. This is read from the machine code, not proved:
    `tools/stack` prints the bytes of each call of any archive. */
 #ifndef NOTICE_H
