@@ -1,14 +1,12 @@
 // Checks of the records of a text and of titles: causes 3, 4, 5, cause 6 for glyphs, and the verdicts of calls with a text.
 #![tactic(auto)]
 
-ghost use Rattle.std.specs.Prelude.{◌≡◌, count_by, length};
-ghost use Rattle.std.specs.List.{list_any};
+ghost use Rattle.std.specs.Prelude.{◌≡◌, count_by};
 ghost use Rattle.text.specs.Line.{not_opening};
-ghost use Rattle.text.specs.LinesExtra.{cut_lines};
 ghost use Rattle.refuse.specs.Refusal.{first_cause};
 ghost use Rattle.refuse.specs.Causes.{text_too_long, text_head_wrong, text_heads_wrong, titles_wrong, style_numbers_wrong, glyph_styles};
 ghost use Rattle.refuse.specs.Causes.{text_causes, line_causes};
-ghost use Rattle.refuse.specs.ScanExtra.{title_wrong, cut_title_wrong, glyph_no_style};
+ghost use Rattle.refuse.specs.ScanExtra.{title_wrong, scan_wrong, glyph_no_style};
 
 use check_settings::limits;
 use refuse::{Ceilings, Refusal, refuse_if};
@@ -84,29 +82,30 @@ fn title_wrong(most: Ceilings, head: u32, glyphs: usize) -> bool
     most.title_glyphs < glyphs || head::position(head) == 3 || head::zeros(head) != 0
 }
 
-// Counts the titles of records that open with a head.
-#[tactic(auto, using(text::proofs::CutLines::cut_few))]
-fn count_titles(titles: &[u32]) -> usize
-    ensures { result ≡ length (cut_lines titles.now) }
-{
-    Lines::new(titles).count()
-}
-
-// Cause 5 for the titles one by one: whether one is wrong.
+// Cause 5 for the titles one by one: whether there are too many, or one is wrong. It stops at the first that is wrong, and reads none
+// past the most that are accepted.
+#[tactic(auto, unfolding(refuse::specs::ScanExtra::scan_wrong))]
 fn any_title_wrong(most: Ceilings, titles: &[u32]) -> bool
-    ensures { result ≡ list_any (cut_title_wrong most) (cut_lines titles.now) }
+    ensures { result ≡ scan_wrong most titles.now }
 {
-    Lines::new(titles).any(|(head, glyphs)| title_wrong(most, head, glyphs.len()))
+    let mut lines = Lines::new(titles);
+    for _ in 0..most.titles {
+        let Some((head, glyphs)) = lines.next() else {
+            return false;
+        };
+        if title_wrong(most, head, glyphs.len()) {
+            return true;
+        }
+    }
+    !lines.is_empty()
 }
 
 // Cause 5: whether non-empty titles don't open with a head, there are too many, or one is wrong.
-#[tactic(auto, using(refuse::proofs::TitleScan::titles_by_lines))]
+#[tactic(auto, using(refuse::proofs::TitleScan::titles_by_lines), unfolding(refuse::specs::ScanExtra::scan_wrong))]
 pub fn titles_wrong(most: Ceilings, titles: &[u32]) -> bool
     ensures { result ≡ titles_wrong most titles.now }
 {
-    opens_without_head(titles)
-        || most.titles < count_titles(titles)
-        || any_title_wrong(most, titles)
+    opens_without_head(titles) || any_title_wrong(most, titles)
 }
 
 // Cause 6 for one record: whether it is a glyph whose style number isn't below the count of styles.

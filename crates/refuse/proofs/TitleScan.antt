@@ -1,9 +1,11 @@
--- Cause 5: one test per title is equivalent to the table's five tests.
-use Prim.Native.Nat.{ℕ}
+-- Cause 5: the loop over titles, and that its one test per title is equivalent to the table's five tests.
+use Prim.Native.Nat.{ℕ, suc, ◌+◌, ◌<◌, ◌≤◌}
 use mathlib.Core.Path.{◌≡◌, refl, sym, ap, ◌∙◌}
-use mathlib.Core.Bool.{Bool, true, false, ◌||◌, or-true}
+use mathlib.Core.Bool.{Bool, true, false, not, ◌||◌, or-true}
 use mathlib.Core.List.{List, [], ◌∷◌, map}
-use lib.Dec.{ltb}
+use native.Mathlib.Omega.{arith}
+use borrow.Author.Tests.{lt-ltb, le-ltb}
+use lib.Dec.{eqb, ltb, eqb-suc-zero}
 use lib.ListN.{length, length-map}
 use Rattle.text.specs.Line.{TextLine, lines_from, not_opening}
 use Rattle.text.specs.LinesExtra.{parts, cut_lines}
@@ -52,3 +54,49 @@ titles_by_lines most rs =
         let n : length (cut_lines rs) ≡ length (lines_from 0 rs) = ap length (cut_opening 0 rs e) ∙ length-map (lines_from 0 rs) parts in
         let t = ap (some (cut_title_wrong most)) (cut_opening 0 rs e) ∙ title_tests most (lines_from 0 rs) in
         rw n (ap (λ (b : Bool). ltb most.titles (length (lines_from 0 rs)) || b) (sym t))
+
+-- Before each turn: the first `seen` titles pass the test, so that those left decide the result.
+pub record Scanning (most : Ceilings) (all left : List (ℕ × List ℕ)) (seen : ℕ) : Type 0 where
+  pub few : seen ≤ most.titles
+  pub counted : seen + length left ≡ length all
+  pub same : some (cut_title_wrong most) left ≡ some (cut_title_wrong most) all
+
+module _ (most : Ceilings) (all : List (ℕ × List ℕ)) where
+  pub scan_starts : Scanning most all all 0
+  scan_starts = record { few = omega arith; counted = omega arith; same = refl }
+
+  module _ (left : List (ℕ × List ℕ)) (seen : ℕ) (s : Scanning most all left seen) where
+    pub scan_none : left ≡ [] → false ≡ (ltb most.titles (length all) || some (cut_title_wrong most) all)
+    scan_none e =
+        let none : length left ≡ 0 = ap length e in
+        let c : length all ≤ most.titles = omega (arith, s.few, s.counted, none) in
+        simp (le-ltb most.titles (length all) c) (sym (ap (some (cut_title_wrong most)) e) ∙ s.same)
+
+    pub scan_hits : (title : ℕ × List ℕ) (rest : List (ℕ × List ℕ)) → left ≡ title ∷ rest → cut_title_wrong most title ≡ true
+        → true ≡ (ltb most.titles (length all) || some (cut_title_wrong most) all)
+    scan_hits title rest e t =
+        let found : some (cut_title_wrong most) all ≡ true = sym s.same ∙ ap (some (cut_title_wrong most)) e ∙ rw t refl in
+        rw found (sym (or-true (ltb most.titles (length all))))
+
+    pub scan_goes : (title : ℕ × List ℕ) (rest : List (ℕ × List ℕ)) → left ≡ title ∷ rest → cut_title_wrong most title ≡ false → seen < most.titles
+        → Scanning most all rest (seen + 1)
+    scan_goes title rest e f h =
+        let one : length left ≡ suc (length rest) = ap length e in
+        record {
+          few = omega arith;
+          counted = omega (arith, s.counted, one);
+          same = sym (ap (some (cut_title_wrong most)) e ∙ rw f refl) ∙ s.same;
+        }
+
+    pub scan_ends : most.titles ≤ seen → not (eqb (length left) 0) ≡ (ltb most.titles (length all) || some (cut_title_wrong most) all)
+    scan_ends h = go left s
+      where
+        go : (l : List (ℕ × List ℕ)) → Scanning most all l seen → not (eqb (length l) 0) ≡ (ltb most.titles (length all) || some (cut_title_wrong most) all)
+        go [] t =
+            let c : length all ≤ most.titles = omega (arith, t.few, t.counted) in
+            simp (le-ltb most.titles (length all) c) t.same
+        go (x ∷ l) t =
+            let c : most.titles < length all = omega (arith, t.counted) in
+            rw (eqb-suc-zero (length l), lt-ltb most.titles (length all) c) refl
+
+pub ruleset scanning = (scan_starts, scan_none, scan_hits, scan_goes, scan_ends)

@@ -5,6 +5,7 @@ use mathlib.Core.Bool.{Bool, true, false, cond}
 use mathlib.Core.List.{List, [], ◌∷◌, map}
 use native.Mathlib.Omega.{arith}
 use borrow.Author.Tests.{not-false}
+use lib.Dec.{eqb, eqb-suc-zero}
 use lib.ListN.{length, take, drop, length-map}
 use Rattle.text.specs.Record.{is_head}
 use Rattle.text.specs.Line.{until_head, lines_from, Opens}
@@ -60,3 +61,7 @@ lines-few i (r ∷ rs) = go (is_head r) (lines-few (suc i) rs)
 pub cut_few : (rs : List ℕ) → length (cut_lines rs) ≤ length rs
 cut_few [] = omega arith
 cut_few (r ∷ rs) = omega (arith, lines-few 0 rs, length-map (lines_from 0 rs) parts)
+
+pub none_left : (rs : List ℕ) → eqb (length rs) 0 ≡ eqb (length (cut_lines rs)) 0
+none_left [] = refl
+none_left (r ∷ rs) = rw (eqb-suc-zero (length rs), eqb-suc-zero (length (map parts (lines_from 0 rs)))) refl

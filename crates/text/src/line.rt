@@ -1,5 +1,5 @@
 // The lines that heads open, as slices of the records.
-ghost use Rattle.std.specs.Prelude.{◌≡◌, count_by, length, position};
+ghost use Rattle.std.specs.Prelude.{◌≡◌, count_by, eqb, length, position};
 ghost use Rattle.std.specs.Iterator.{YieldsFirstBy, item_count};
 ghost use Rattle.text.specs.LinesExtra.{cut_lines, head_and_records, lines_left};
 ghost use Rattle.text.specs.Record.{is_head};
@@ -18,6 +18,14 @@ impl<'a> Lines<'a> {
         ensures { lines_left result ≡ cut_lines records.now }
     {
         Lines { rest: records }
+    }
+
+    // Whether no line is left.
+    #[tactic(auto, using(crate::proofs::CutLines::none_left))]
+    pub fn is_empty(&self) -> bool
+        ensures { result ≡ eqb (length (lines_left self.now)) 0 }
+    {
+        self.rest.is_empty()
     }
 }
 
