@@ -4,6 +4,7 @@ use Rattle.std.specs.Prelude.{None, Some, Ok, Err}
 use Rattle.std.specs.Io.KnownBytes.{Appends}
 use Rattle.std.specs.declared.option.Option.{Option}
 use Rattle.std.specs.declared.result.Result.{Result}
+use lib.Seq.{take-length}
 use Rattle.listlines_run.specs.Printed.{printed_of}
 use Rattle.listlines_run.specs.CutExtra.{buffered, Kept}
 use Rattle.listlines_run.proofs.Cutting.{kept-printed-same}
@@ -19,3 +20,7 @@ module _ {A E : Type 0} (old new : Option (List ℕ)) (at : ℕ) (buffer printed
       let kept : Kept buffered bytes at buffer = subst (λ m. Kept m bytes at buffer) n (k few) in
       let from_start : whole ≡ printed_of (take at buffer) = rw none at p in
       subst (Appends old new) (same ∙ from_start ∙ kept-printed-same bytes at buffer kept) w
+
+-- a text cut at its length
+pub cut_whole : (n : ℕ) (xs ys : List ℕ) → n ≡ length xs → xs ≡ ys → take n xs ≡ ys
+cut_whole n xs ys e same = rw (e, take-length xs) same

@@ -50,8 +50,8 @@ fn output_for<const N: usize>(
     ensures { output.new.items ≡ output.old.items ++ printed_of input.now }
 {
     match answer_to(input, text, list) {
-        Ok(count) => listlines_output::put_lines(output, &list[..count]),
-        Err(flaw) => listlines_output::put_refused(output, u32::from(flaw)),
+        Ok(count) => listlines_output::push_lines(output, &list[..count]),
+        Err(flaw) => listlines_output::push_refused(output, u32::from(flaw)),
     }
 }
 

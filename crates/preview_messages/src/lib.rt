@@ -30,6 +30,24 @@ impl From<Cause> for u32 {
     }
 }
 
+// The cause with a number: any number has one, 0 that of 5, and one above 9 that of a setting.
+impl From<u32> for Cause {
+    fn from(number: u32) -> Cause {
+        match number {
+            1 => Cause::Listed(Refusal::Screen),
+            2 => Cause::Listed(Refusal::Styles),
+            3 => Cause::Listed(Refusal::TextLength),
+            4 => Cause::Listed(Refusal::TextHeads),
+            0 | 5 => Cause::Listed(Refusal::Titles),
+            6 => Cause::Listed(Refusal::StyleNumber),
+            7 => Cause::Listed(Refusal::Symbol),
+            8 => Cause::Listed(Refusal::Limit),
+            9 => Cause::Listed(Refusal::ListLength),
+            _ => Cause::Setting,
+        }
+    }
+}
+
 // The cause in words.
 impl fmt::Display for Cause {
     fn fmt<W: fmt::Write>(&self, f: &mut fmt::Formatter<W>) -> fmt::Result {
@@ -68,8 +86,9 @@ pub fn bad_input(rt: &impl Print, flaw: Flaw) -> io::Result<()> {
 }
 
 // Prints a refusal's number and its cause in words.
-pub fn refused(rt: &impl Print, cause: Cause) -> io::Result<()> {
-    println!(rt; "refused {}: {cause}", u32::from(cause))
+pub fn refused(rt: &impl Print, number: u32) -> io::Result<()> {
+    let cause = Cause::from(number);
+    println!(rt; "refused {number}: {cause}")
 }
 
 pub fn past_the_last(rt: &impl Print, pages: u64) -> io::Result<()> {
@@ -112,7 +131,7 @@ pub fn rows(rt: &impl Print, cells: &[u64], columns: usize, ansi: bool) -> io::R
     let mut line = ArrayVec::<u8, 24576>::new();
     for row in cells.chunks_exact(columns) {
         line.clear();
-        preview_row::put_row(&mut line, ansi, row);
+        preview_row::push_row(&mut line, ansi, row);
         rt.write_all(line.as_slice())?;
     }
     Ok(())

@@ -46,18 +46,15 @@ impl Sheet<'_> {
     }
 
     // Measures the notice, if it isn't refused. Its pages are asked for first, as that checks all that drawing and measuring do.
-    fn measured(self, cells: &[u64]) -> Result<Measure, Cause> {
+    fn measured(self, cells: &[u64]) -> Result<Measure, Refusal> {
         let opening = self.opening;
         let Records {
             styles,
             titles,
             text,
         } = self.records;
-        if !flat::all_known(opening.block, opening.text) {
-            return Err(Cause::Setting);
-        }
         preview_sheet::checked(opening, styles, titles, text, cells)?;
-        Ok(preview_sheet::measured(opening, titles, text)?)
+        preview_sheet::measured(opening, titles, text)
     }
 }
 
@@ -102,7 +99,7 @@ fn show_page(
 ) -> io::Result<()> {
     let _ = wide.draw(page.first, blank_width(), wide_cells);
     match sheet.draw(page.first, cell::blank(), cells) {
-        Err(why) => preview_messages::refused(rt, Cause::from(why)),
+        Err(why) => preview_messages::refused(rt, u32::from(why)),
         Ok(rows) => {
             let columns = sheet.opening.columns;
             print_page(rt, page, columns, ansi, rows, cells, wide_cells)
@@ -145,7 +142,7 @@ fn show_tally(rt: &impl Print, sheet: Sheet, width: u16) -> io::Result<()> {
     let ambiguous = flat::ambiguous_named(settings.ambiguous);
     match notice::tally(sheet.records.text, ambiguous, width, trim) {
         Ok(counts) => preview_messages::tally(rt, counts),
-        Err(why) => preview_messages::refused(rt, Cause::from(why)),
+        Err(why) => preview_messages::refused(rt, u32::from(why)),
     }
 }
 
@@ -206,7 +203,7 @@ fn show_notice(
             let wide_cells = &mut wide_cells[..told];
             show_measured(rt, asked, sheet, measure, cells, wide_cells)
         }
-        Err(cause) => preview_messages::refused(rt, cause),
+        Err(cause) => preview_messages::refused(rt, u32::from(cause)),
     }
 }
 
@@ -217,7 +214,7 @@ fn show_on_screen(rt: &impl Print, asked: Asked, sheet: Sheet) -> io::Result<()>
     show_notice(rt, asked, sheet, &mut cells, &mut wide_cells)
 }
 
-// Shows the notice in an input, read as asked, or prints why the input is bad.
+// Shows the notice in an input, read as asked, if every number of its settings names a case, or prints why the input is bad.
 pub fn show_input(
     rt: &impl Print,
     input: &[u8],
@@ -238,5 +235,9 @@ pub fn show_input(
         text: &text[..opening.records.min(text.len())],
     };
     let opening = preview_sheet::read_as(opening, asked.wide);
+    // Before the cells are allocated.
+    if !flat::all_known(opening.block, opening.text) {
+        return preview_messages::refused(rt, u32::from(Cause::Setting));
+    }
     show_on_screen(rt, asked, Sheet { opening, records })
 }

@@ -1,10 +1,12 @@
 // Writes a symbol as UTF-8. One that can't be shown is replaced, so that no control character reaches the terminal.
 #![tactic(auto)]
 
-ghost use Rattle.std.specs.Prelude.{◌≡◌, ◌+◌, ◌<◌, ◌≤◌, ◌++◌};
+ghost use Rattle.std.specs.Prelude.{◌≡◌, ◌+◌, ◌<◌, ◌≤◌, ◌++◌, length};
+ghost use Rattle.append_bytes.specs.WrittenExtra.{Written};
 ghost use Rattle.arrayvec.specs.ArrayVec.{array_vec_len};
 ghost use Rattle.preview_utf8.specs.Utf8Extra.{hidden, shown, following, encoded, utf8};
 
+use append_bytes::put_all;
 use arrayvec::ArrayVec;
 
 // Whether a symbol is a control character, a surrogate or beyond the last code point.
@@ -35,7 +37,7 @@ fn following(number: u64) -> u8
 
 // Appends a code point. By hand: the definition `encoded` and the edit `five_bits` speak of its bytes.
 #[tactic(auto, unfolding(crate::specs::Utf8Extra::encoded))]
-fn put_code_point<const N: usize>(text: &mut ArrayVec<u8, N>, symbol: u64)
+fn push_code_point<const N: usize>(text: &mut ArrayVec<u8, N>, symbol: u64)
     requires room { array_vec_len text.old + 4 ≤ N }
     requires symbol_bound { symbol < 1114112 }
     ensures written { text.new.items ≡ text.old.items ++ encoded symbol }
@@ -64,10 +66,21 @@ fn put_code_point<const N: usize>(text: &mut ArrayVec<u8, N>, symbol: u64)
 
 // Appends a symbol's bytes, at most four.
 #[tactic(auto, unfolding(crate::specs::Utf8Extra::utf8))]
-pub fn put_symbol<const N: usize>(text: &mut ArrayVec<u8, N>, symbol: u64)
+pub fn push_symbol<const N: usize>(text: &mut ArrayVec<u8, N>, symbol: u64)
     requires { array_vec_len text.old + 4 ≤ N }
     ensures written { text.new.items ≡ text.old.items ++ utf8 symbol }
     ensures upper_bound { array_vec_len text.new ≤ array_vec_len text.old + 4 }
 {
-    put_code_point(text, shown_symbol(symbol));
+    push_code_point(text, shown_symbol(symbol));
+}
+
+// Writes a symbol's bytes into a buffer at offset `at` and returns the offset of the next byte.
+pub fn put_symbol(buffer: &mut [u8], at: usize, symbol: u64) -> usize
+    requires { at + 4 ≤ length buffer.old }
+    ensures written { Written buffer.old at buffer.new result (utf8 symbol) }
+    ensures upper_bound { result ≤ at + 4 }
+{
+    let mut text = ArrayVec::<u8, 4>::new();
+    push_symbol(&mut text, symbol);
+    put_all(buffer, at, text.as_slice())
 }

@@ -1,6 +1,6 @@
 use Rattle.std.proofs.Common.{ℕ, suc, ◌+◌, ◌-◌, ◌/◌, ◌%◌, ◌<◌, ◌≡◌, List, ◌++◌, sym, ap, ◌∙◌, arith, append_assoc}
 use Rattle.preview_sgr.specs.SgrExtra.{code, codes}
-use Rattle.preview_sgr.proofs.put_codes.Goals as goal
+use Rattle.preview_sgr.proofs.push_codes.Goals as goal
 
 -- one more code is written
 one_more : (all middle new : List ℕ) (bits number : ℕ) → number < 10 → middle ++ codes bits number (10 - number) ≡ all
@@ -14,6 +14,6 @@ one_more all middle new bits number h before w =
 
 pub loop-number-preserved : goal.loop-number-preserved
 loop-number-preserved g c = record {
-  written = one_more _ _ _ _ _ c.loop-number-test.true c.loop-number.invariant.written c.put_code.ensures.written;
+  written = one_more _ _ _ _ _ c.loop-number-test.true c.loop-number.invariant.written c.push_code.ensures.written;
   upper_bound = omega arith;
 }
