@@ -75,6 +75,13 @@ row-borrowed columns left right y f cells part some p q k e =
     part-borrowed f (y * columns + left) (y * columns + right) cells part (omega arith) k e
     ∙ changed-same _ _ cells (λ i cell _. row_numbers row f i cell some)
 
+-- as above, with its two ends given by equal numbers
+pub row-borrowed-at : (columns left right y from to : ℕ) (f : ℕ → ℕ → ℕ) (cells part : List ℕ) → 0 < columns → left ≤ right → right ≤ columns
+    → y * columns + right ≤ length cells → from ≡ y * columns + left → to ≡ y * columns + right
+    → part ≡ changed f (take (to - from) (drop from cells))
+    → take from cells ++ (part ++ drop (to - from) (drop from cells)) ≡ drawn columns (in_row left right y f) cells
+row-borrowed-at columns left right y from to f cells part some p q k a b e = rw (a, b) (row-borrowed columns left right y f cells part some p q k (rw (a, b) at e))
+
 -- a row above the bottom is within the n cells
 pub row_fits : (columns right y bottom n : ℕ) → right ≤ columns → y < bottom → bottom * columns ≤ n → y * columns + right ≤ n
 row_fits columns right y bottom n p q h = omega (arith, mul-le-mul_right columns (add-one-le q))

@@ -1,7 +1,7 @@
 -- Laws of the loop of `write_lines`: each line that the composer returns is packed and written.
 use Prim.Native.Nat.{ℕ, ◌+◌, ◌*◌, ◌^◌, ◌<◌, ◌≤◌}
 use mathlib.Core.Path.{◌≡◌, refl, sym, ap, ◌∙◌}
-use mathlib.Core.Bool.{Bool, true, false, not, true≢false}
+use mathlib.Core.Bool.{Bool, true, false, not, ◌&&◌, true≢false}
 use mathlib.Core.List.{List, [], ◌∷◌, ◌++◌, map, append-nil, append_assoc}
 use native.Mathlib.Numerals.{add-one}
 use native.Mathlib.Omega.{arith}
@@ -147,18 +147,23 @@ module _ (input : WriteInput) (list : List ℕ) (line : WrappedLine) (c : LineCo
         let rest = kept v in
         sym (take-append-drop (n + 1) (set list n v)) ∙ cc
 
-    module _ (none last : Bool) (f : v ≡ entry_marked line last) where
+    module _ (none mark : Bool) (f : v ≡ entry_marked line mark) where
       -- there is no next line
       pub writing_ends : (o : Option WrappedLine) → PulledLine input.rule input.default input.text c o d → is_some o ≡ not none
-          → none ≡ true → last ≡ none → WritingNext input (set list n v) o d (n + 1)
+          → none ≡ true → mark ≡ true → WritingNext input (set list n v) o d (n + 1)
       writing_ends (Some next) p e t l = absurd (true≢false (rw t at e))
-      writing_ends None p e t l = writing_done p (rw (l, t) at f)
+      writing_ends None p e t l = writing_done p (rw l at f)
 
       -- there is one
       pub writing_on : (o : Option WrappedLine) → PulledLine input.rule input.default input.text c o d → is_some o ≡ not none
-          → none ≡ false → last ≡ not (eqb d.from c.from) → WritingNext input (set list n v) o d (n + 1)
+          → none ≡ false → mark ≡ not (eqb d.from c.from) → WritingNext input (set list n v) o d (n + 1)
       writing_on (Some next) p e t l = writing_goes next p (rw l at f)
       writing_on None p e t l = absurd (true≢false (sym (rw t at e)))
+
+-- a mark that is made of two equal tests
+pub same-twice : (b : Bool) → (b && b) ≡ b
+same-twice true = refl
+same-twice false = refl
 
 pub next-writing : (input : WriteInput) (list : List ℕ) (o : Option WrappedLine) (line : WrappedLine) (c : LineComposer) (n : ℕ)
     → WritingNext input list o c n → o ≡ Some line → Writing input list line c n

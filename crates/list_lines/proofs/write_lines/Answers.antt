@@ -1,5 +1,6 @@
 -- `list_lines::write_lines` meets its contract.
-use Rattle.list_lines.proofs.Writing.{writing_starts, fields_fit, writing_ends, writing_on, next-writing}
+use Rattle.std.proofs.Common.{rules, tests}
+use Rattle.list_lines.proofs.Writing.{writing_starts, fields_fit, writing_ends, writing_on, next-writing, same-twice}
 use Rattle.list_lines.proofs.write_lines.Goals as goal
 use Rattle.list_lines.proofs.write_lines.Goals.{then-is_none, else-is_none}
 
@@ -13,6 +14,6 @@ pub loop-item-preserved : goal.loop-item-preserved
 loop-item-preserved c =
     let line = next-writing _ _ _ _ _ _ c.loop-item.invariant c.in-Some.is in
     elim c.if-is_none.branch [
-      | then-is_none w ↦ writing_ends _ _ _ _ _ line _ _ _ _ c.pack.ensures _ c.next-next-in-loop-item.ensures c.is_none.ensures w.if-is_none.true w.last-is
-      | else-is_none w ↦ writing_on _ _ _ _ _ line _ _ _ _ c.pack.ensures _ c.next-next-in-loop-item.ensures c.is_none.ensures w.if-is_none.false w.last-is
+      | then-is_none w ↦ writing_ends _ _ _ _ _ line _ _ _ _ c.pack.ensures _ c.next-next-in-loop-item.ensures c.is_none.ensures w.if-is_none.true (search (rules, tests))
+      | else-is_none w ↦ writing_on _ _ _ _ _ line _ _ _ _ c.pack.ensures _ c.next-next-in-loop-item.ensures c.is_none.ensures w.if-is_none.false (search (rules, tests, same-twice))
     ]
